@@ -1,0 +1,25 @@
+-- What follows: that the combinators are lawful, the promise for every lawful kind, and facts that proofs cite.
+pub mod Lists
+pub mod Marks
+pub mod Digits
+pub mod Block
+pub mod Chain
+pub mod View
+pub mod Item
+pub mod Promise
+pub mod Exact
+pub mod Made
+pub mod Items
+pub mod Held
+pub mod Reading
+pub mod Pieces
+pub mod Words
+pub mod Public
+pub mod Write
+pub mod Swap
+pub mod Padding
+pub mod Ranges
+pub mod Lay
+pub mod LayPieces
+pub mod Signed
+pub mod Answers

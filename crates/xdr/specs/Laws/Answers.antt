@@ -1,0 +1,161 @@
+-- What the readers' proofs cite: an answer that was taken apart, and an item by its room.
+-- Assumes nothing.
+use mathlib.Core.Path.{_≡_, refl, sym, ap, _∙_}
+use mathlib.Core.Bool.{Bool, true, false, cond, not, _&&_}
+use mathlib.Core.List.{List, [], _∷_}
+use Prim.Native.Nat.{ℕ, zero, suc, _+_, _*_, _-_, _^_, _≤_, _<_}
+use native.Mathlib.Omega.{arith}
+use lib.Dec.{leb, ltb, eqb}
+use lib.IntN.{ℤ}
+use lib.ListN.{length}
+use borrow.Author.Tests.{leb-true, leb-false, le-leb, lt-leb, le-ltb, ne-eqb}
+use Rattle.xdr.specs.Meaning.Bytes.{numberAt, signed}
+use Rattle.xdr.specs.Meaning.Answer.{Answer, took, refused}
+use Rattle.xdr.specs.Meaning.Items.{number, word, hyper, flag, seeFlag, int, long}
+use Rattle.xdr.specs.Meaning.Formats.{eightHeld, pieceHeld, wordsHeld}
+use Rattle.xdr.specs.Meaning.Pieces.{pieceAnswer}
+use Rattle.xdr.specs.Meaning.Views.{refusal}
+use Rattle.xdr.specs.Laws.Reading.{number-read}
+use Rattle.xdr.specs.declared.refusal.Refusal.{Refusal}
+
+-- of any answer of the code: what it says where it was taken apart
+module _ {R A : Type 0} (view : R → Answer A) {x : Answer A} {r t : R} where
+  -- it took
+  pub on : view r ≡ x → r ≡ t → x ≡ view t
+  on e f = sym e ∙ ap view f
+
+  -- it refused
+  pub off : (lost : R → Refusal) {q : Refusal} → view r ≡ x → r ≡ t → q ≡ lost r → view t ≡ refusal (lost t) → x ≡ refusal q
+  off lost e f g h = sym e ∙ ap view f ∙ h ∙ ap refusal (sym (g ∙ ap lost f))
+
+-- a number of k bytes, by the room for it
+module _ (k : ℕ) (s : List ℕ) (p : ℕ) where
+  pub number-short : length s - p < k → refused 1 p ≡ number k .kind .read s p
+  number-short h = rw (number-read k s p, lt-leb k (length s - p) h)
+
+  pub number-took : {v : ℕ} → k ≤ length s - p → v ≡ numberAt k s p → took v (p + k) true ≡ number k .kind .read s p
+  number-took h e = rw (e, number-read k s p, le-leb k (length s - p) h)
+
+  by-room : {v n : ℕ} {b : Bool} (t : Bool) → leb k (length s - p) ≡ t → number k .kind .read s p ≡ took v n b
+      → (k ≤ length s - p) × (v ≡ numberAt k s p) × (n ≡ p + k)
+  by-room {v} {n} {b} true e f =
+      let g : took (numberAt k s p) (p + k) true ≡ took v n b = simp e at (sym (number-read k s p) ∙ f) in
+      (leb-true k (length s - p) e, cc, cc)
+  by-room {v} {n} {b} false e f =
+      let g : _≡_ {A = Answer ℕ} (refused 1 p) (took v n b) = simp e at (sym (number-read k s p) ∙ f) in
+      let z : _≡_ {A = ℕ} 0 1 = cc in absurd (omega arith)
+
+  -- what was taken had room
+  pub number-within : {v n : ℕ} {b : Bool} → number k .kind .read s p ≡ took v n b → (k ≤ length s - p) × (v ≡ numberAt k s p) × (n ≡ p + k)
+  number-within f = by-room (leb k (length s - p)) refl f
+
+  by-no-room : {r q : ℕ} (t : Bool) → leb k (length s - p) ≡ t → number k .kind .read s p ≡ refused r q
+      → (length s - p < k) × (_≡_ {A = Answer ℕ} (refused r q) (refused 1 p))
+  by-no-room {r} {q} true e f =
+      let g : _≡_ {A = Answer ℕ} (took (numberAt k s p) (p + k) true) (refused r q) = simp e at (sym (number-read k s p) ∙ f) in
+      let z : _≡_ {A = ℕ} 0 1 = cc in absurd (omega arith)
+  by-no-room {r} {q} false e f =
+      let g : _≡_ {A = Answer ℕ} (refused 1 p) (refused r q) = simp e at (sym (number-read k s p) ∙ f) in
+      (leb-false k (length s - p) e, sym g)
+
+  -- what was refused had none
+  pub number-without : {r q : ℕ} → number k .kind .read s p ≡ refused r q → (length s - p < k) × (_≡_ {A = Answer ℕ} (refused r q) (refused 1 p))
+  number-without f = by-no-room (leb k (length s - p)) refl f
+
+module _ (s : List ℕ) (p : ℕ) where
+  pub word-short : length s - p < 4 → refused 1 p ≡ word .kind .read s p
+  unfolding word
+  word-short h = number-short 4 s p h
+
+  pub word-took : {v : ℕ} → 4 ≤ length s - p → v ≡ numberAt 4 s p → took v (p + 4) true ≡ word .kind .read s p
+  unfolding word
+  word-took h e = number-took 4 s p h e
+
+  pub hyper-short : length s - p < 8 → refused 1 p ≡ hyper .kind .read s p
+  unfolding hyper
+  hyper-short h = number-short 8 s p h
+
+  pub hyper-took : {v : ℕ} → 8 ≤ length s - p → v ≡ numberAt 8 s p → took v (p + 8) true ≡ hyper .kind .read s p
+  unfolding hyper
+  hyper-took h e = number-took 8 s p h e
+
+  pub word-within : {v n : ℕ} {b : Bool} → word .kind .read s p ≡ took v n b → (4 ≤ length s - p) × (v ≡ numberAt 4 s p) × (n ≡ p + 4)
+  unfolding word
+  word-within f = number-within 4 s p f
+
+  -- signed numbers, flags and eight bytes, by the number that they are
+  pub int-took : {v n : ℕ} {b : Bool} {z : ℤ} → z ≡ signed 2147483648 v → word .kind .read s p ≡ took v n b → took z n b ≡ int .kind .read s p
+  unfolding word int
+  int-took e f = rw (e, f)
+
+  pub int-refused : {r q : ℕ} → word .kind .read s p ≡ refused r q → refused r q ≡ int .kind .read s p
+  unfolding word int
+  int-refused f = rw f
+
+  pub long-took : {v n : ℕ} {b : Bool} {z : ℤ} → z ≡ signed 9223372036854775808 v → hyper .kind .read s p ≡ took v n b
+      → took z n b ≡ long .kind .read s p
+  unfolding hyper long
+  long-took e f = rw (e, f)
+
+  pub long-refused : {r q : ℕ} → hyper .kind .read s p ≡ refused r q → refused r q ≡ long .kind .read s p
+  unfolding hyper long
+  long-refused f = rw f
+
+  flag-by : (v n : ℕ) → word .kind .read s p ≡ took v n true → took (not (eqb v 0)) n (ltb v 2) ≡ flag .kind .read s p
+  unfolding flag
+  flag-by zero n f = rw f
+  flag-by (suc zero) n f = rw f
+  flag-by (suc (suc v)) n f =
+      let g : 2 ≤ suc (suc v) = omega arith in
+      simp (f, le-ltb (suc (suc v)) 2 g, ne-eqb (suc (suc v)) 0 (λ e. omega arith))
+
+  pub flag-took : {v n : ℕ} → word .kind .read s p ≡ took v n true → took (not (eqb v 0)) n (ltb v 2) ≡ flag .kind .read s p
+  flag-took {v} {n} f = flag-by v n f
+
+  pub flag-refused : {r q : ℕ} → word .kind .read s p ≡ refused r q → refused r q ≡ flag .kind .read s p
+  unfolding flag
+  flag-refused f = rw f
+
+  eight-by : (x : Answer ℕ) → hyper .kind .read s p ≡ x → x ≡ eightHeld .read s p
+  unfolding eightHeld
+  eight-by (took v n b) f = rw f
+  eight-by (refused r q) f = rw f
+
+  pub eight-is : {x : Answer ℕ} → x ≡ hyper .kind .read s p → x ≡ eightHeld .read s p
+  eight-is {x} e = eight-by x (sym e)
+
+  -- an opaque and a word list, by the length word
+  pub piece-took : {v n : ℕ} {b : Bool} → word .kind .read s p ≡ took v n b → pieceAnswer s p v ≡ pieceHeld .read s p
+  unfolding pieceHeld
+  piece-took f = let w = word-within f in rw (w .1, le-leb 4 (length s - p) (w .0))
+
+  pub piece-refused : {r q : ℕ} → word .kind .read s p ≡ refused r q → refused r q ≡ pieceHeld .read s p
+  unfolding pieceHeld word
+  piece-refused f =
+      let w = number-without 4 s p f in
+      let e : _≡_ {A = Answer ℕ} (refused _ _) (refused 1 p) = w .1 in
+      rw (lt-leb 4 (length s - p) (w .0)) (cc e)
+
+  pub words-refused : {r q : ℕ} → word .kind .read s p ≡ refused r q → refused r q ≡ wordsHeld .read s p
+  unfolding wordsHeld word
+  words-refused f =
+      let w = number-without 4 s p f in
+      let e : _≡_ {A = Answer ℕ} (refused _ _) (refused 1 p) = w .1 in
+      rw (lt-leb 4 (length s - p) (w .0)) (cc e)
+
+  pub words-short : {v n : ℕ} {b : Bool} → word .kind .read s p ≡ took v n b → length s - n < v * 4 → refused 1 p ≡ wordsHeld .read s p
+  unfolding wordsHeld
+  words-short {v} {n} f h =
+      let w = word-within f in
+      let g : 4 ≤ length s - p = w .0 in
+      let k : length s - p < 4 + v * 4 = omega (arith, w .2) in
+      rw (← w .1, le-leb 4 (length s - p) g, lt-leb (4 + v * 4) (length s - p) k)
+
+  pub words-took : {v n : ℕ} {b : Bool} → word .kind .read s p ≡ took v n b → v * 4 ≤ length s - n
+      → took (record { at = n; count = v }) (n + v * 4) true ≡ wordsHeld .read s p
+  unfolding wordsHeld
+  words-took {v} {n} f h =
+      let w = word-within f in
+      let g : 4 ≤ length s - p = w .0 in
+      let k : 4 + v * 4 ≤ length s - p = omega (arith, w .2) in
+      rw (← w .1, le-leb 4 (length s - p) g, le-leb (4 + v * 4) (length s - p) k, w .2)

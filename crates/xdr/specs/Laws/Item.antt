@@ -1,0 +1,32 @@
+-- A lawful kind as one item is lawful.
+-- Assumes nothing.
+use mathlib.Core.Path.{_≡_, ap}
+use mathlib.Core.List.{List}
+use Prim.Native.Nat.{ℕ}
+use Rattle.xdr.specs.Meaning.Answer.{Answer, took, refused}
+use Rattle.xdr.specs.Meaning.Kind.{Kind, Sound, Lawful}
+use Rattle.xdr.specs.Meaning.Combinators.{whole, itemKind}
+
+module _ {M : Type 0} (K : Kind M) (L : Lawful K) where
+  whole-sound : (s : List ℕ) (p : ℕ) (x : Answer M) → Sound K s p x → Sound (itemKind K) s p (whole p x)
+  whole-sound s p (took m n b) f =
+      record {
+        loose = f .loose;
+        used = f .used;
+        left = f .left;
+        stands = f .stands;
+        next = f .next;
+        form = f .form;
+        plain = f .plain;
+      }
+  whole-sound s p (refused r q) f = tt
+
+  pub item-lawful : Lawful (itemKind K)
+  item-lawful =
+      record {
+        sound = λ s p h. whole-sound s p (K .read s p) (L .sound s p h);
+        complete = λ m w e t s p f h. ap (whole p) (L .complete m w e t s p f h);
+        good = L .good;
+        written = L .written;
+        plain = L .plain;
+      }

@@ -1,0 +1,148 @@
+-- Padding is the end of a word; and how long items are.
+-- Assumes nothing.
+use mathlib.Core.Path.{_≡_, refl, sym, ap, ap₂, _∙_}
+use mathlib.Core.Bool.{Bool, true, false, cond, _&&_, and-true}
+use mathlib.Core.List.{List, [], _∷_, _++_, append-assoc}
+use Prim.Native.Nat.{ℕ, zero, suc, _+_, _-_, _*_, _/_, _%_, _<_, _≤_}
+use native.Mathlib.Nat.{add-assoc, add-zero}
+use native.Mathlib.Numerals.{add-one}
+use native.Mathlib.Omega.{arith}
+use lib.Dec.{eqb, leb}
+use lib.IntN.{ℤ}
+use lib.ListN.{length, getD, take, drop, replicate, length-append, length-drop, length-replicate}
+use lib.Seq.{drop-cons, length-take-le}
+use borrow.Author.Tests.{eq-eqb, ne-eqb, eqb-true, eqb-false, le-leb, lt-leb}
+use Rattle.xdr.specs.Meaning.Bytes.{value, digits, unsigned, numberAt, padding, zeros}
+use Rattle.xdr.specs.Meaning.Answer.{Answer, took, refused, most}
+use Rattle.xdr.specs.Meaning.Items.{number, word, hyper, flag, fromFlag, int, long, eight, opaque}
+use Rattle.xdr.specs.Meaning.Pieces.{bytesIn, isInside, pieceAnswer, opaqueSize, sizeUpTo}
+use Rattle.xdr.specs.Laws.Digits.{length-digits}
+use Rattle.xdr.specs.Laws.Pieces.{inside-le}
+use Rattle.xdr.specs.declared.piece.Piece.{Piece}
+
+-- whether the low k bytes of a word are zero, for k up to 3
+abbrev pub lastZeros : ℕ → ℕ → Bool
+lastZeros w zero = true
+lastZeros w (suc zero) = eqb (w % 256) 0
+lastZeros w (suc (suc zero)) = eqb (w % 65536) 0
+lastZeros w (suc (suc (suc k))) = eqb (w % 16777216) 0
+
+pub last-rest : (w k : ℕ) → (k ≡ 0 → ⊥) → (k ≡ 1 → ⊥) → (k ≡ 2 → ⊥) → eqb (w % 16777216) 0 ≡ lastZeros w k
+last-rest w zero a b c = absurd (a refl)
+last-rest w (suc zero) a b c = absurd (b refl)
+last-rest w (suc (suc zero)) a b c = absurd (c refl)
+last-rest w (suc (suc (suc k))) a b c = refl
+
+-- n bytes with their padding are n rounded up to a multiple of four
+pub padded : (n : ℕ) → (n + 3) / 4 * 4 ≡ n + padding n
+padded n = omega arith
+
+pub pad-count : (n : ℕ) → (n + 3) / 4 * 4 - n ≡ padding n
+pad-count n = omega arith
+
+pad-small : (n : ℕ) → padding n < 4
+pad-small n = omega arith
+
+-- bytes are all zero exactly if the number that they write is
+three-zero : (b c d : ℕ) → eqb (b * 65536 + c * 256 + d) 0 ≡ (eqb b 0 && (eqb c 0 && (eqb d 0 && true)))
+three-zero b c d = go (eqb b 0) refl (eqb c 0) refl (eqb d 0) refl
+  where
+    go : (x : Bool) → eqb b 0 ≡ x → (y : Bool) → eqb c 0 ≡ y → (z : Bool) → eqb d 0 ≡ z
+        → eqb (b * 65536 + c * 256 + d) 0 ≡ (x && (y && (z && true)))
+    go true e true f true g = eq-eqb (b * 65536 + c * 256 + d) 0 (omega (arith, eqb-true b 0 e, eqb-true c 0 f, eqb-true d 0 g))
+    go true e true f false g = ne-eqb (b * 65536 + c * 256 + d) 0 (λ h. eqb-false d 0 g (omega arith))
+    go true e false f z g = ne-eqb (b * 65536 + c * 256 + d) 0 (λ h. eqb-false c 0 f (omega arith))
+    go false e y f z g = ne-eqb (b * 65536 + c * 256 + d) 0 (λ h. eqb-false b 0 e (omega arith))
+
+two-zero : (c d : ℕ) → eqb (c * 256 + d) 0 ≡ (eqb c 0 && (eqb d 0 && true))
+two-zero c d = let e : c * 256 + d ≡ 0 * 65536 + c * 256 + d = omega arith in ap (λ n. eqb n 0) e ∙ three-zero 0 c d
+
+module _ (s : List ℕ) (given : (i : ℕ) → getD s i 0 < 256) where
+  one-more : (k q : ℕ) → q < length s → zeros (take (suc k) (drop q s)) ≡ (eqb (getD s q 0) 0 && zeros (take k (drop (q + 1) s)))
+  one-more k q h = rw (drop-cons s q 0 h, add-one)
+
+  -- the last k bytes of the word at q
+  last-zeros : (k q : ℕ) → k < 4 → q + 4 ≤ length s → lastZeros (numberAt 4 s q) k ≡ zeros (take k (drop (q + 4 - k) s))
+  last-zeros zero q h room = refl
+  last-zeros (suc zero) q h room =
+      let e : q + 4 - 1 ≡ q + 1 + 1 + 1 = omega arith in
+      let f : numberAt 4 s q % 256 ≡ getD s (q + 1 + 1 + 1) 0 = omega (arith, given (q + 1 + 1 + 1)) in
+      rw (e, one-more 0 (q + 1 + 1 + 1) (omega arith), f) (sym (and-true (eqb (getD s (q + 1 + 1 + 1) 0) 0)))
+  last-zeros (suc (suc zero)) q h room =
+      let e : q + 4 - 2 ≡ q + 1 + 1 = omega arith in
+      let f : numberAt 4 s q % 65536 ≡ getD s (q + 1 + 1) 0 * 256 + getD s (q + 1 + 1 + 1) 0 =
+      omega (arith, given (q + 1 + 1), given (q + 1 + 1 + 1)) in
+      rw (e, one-more 1 (q + 1 + 1) (omega arith), one-more 0 (q + 1 + 1 + 1) (omega arith), f)
+      (two-zero (getD s (q + 1 + 1) 0) (getD s (q + 1 + 1 + 1) 0))
+  last-zeros (suc (suc (suc zero))) q h room =
+      let e : q + 4 - 3 ≡ q + 1 = omega arith in
+      let f : numberAt 4 s q % 16777216 ≡ getD s (q + 1) 0 * 65536 + getD s (q + 1 + 1) 0 * 256 + getD s (q + 1 + 1 + 1) 0 =
+      omega (arith, given (q + 1), given (q + 1 + 1), given (q + 1 + 1 + 1)) in
+      rw (e, one-more 2 (q + 1) (omega arith), one-more 1 (q + 1 + 1) (omega arith), one-more 0 (q + 1 + 1 + 1) (omega arith), f)
+      (three-zero (getD s (q + 1) 0) (getD s (q + 1 + 1) 0) (getD s (q + 1 + 1 + 1) 0))
+  last-zeros (suc (suc (suc (suc k)))) q h room = absurd (omega arith)
+
+  -- an opaque's body, by the room for it; its padding is the end of the last word
+  pub body-took : (p n m : ℕ) {w : ℕ} {b : Bool} → m ≡ (n + 3) / 4 * 4 → p + 4 + m ≤ length s → w ≡ numberAt 4 s (p + m) → b ≡ lastZeros w (m - n)
+      → took (record { at = p + 4; count = n }) (p + 4 + m) b ≡ pieceAnswer s p n
+  body-took p n m {w} {b} em room ew eb =
+      let k : m ≡ n + padding n = em ∙ padded n in
+      let h : 4 + n + padding n ≤ length s - p = omega arith in
+      let c : m - n ≡ padding n = omega arith in
+      let q : p + m + 4 - padding n ≡ p + 4 + n = omega arith in
+      let z : lastZeros (numberAt 4 s (p + m)) (padding n) ≡ zeros (take (padding n) (drop (p + 4 + n) s)) =
+      last-zeros (padding n) (p + m) (pad-small n) (omega arith) ∙ ap (λ i. zeros (take (padding n) (drop i s))) q in
+      let nx : p + 4 + m ≡ p + 4 + n + padding n = omega arith in
+      rw (le-leb (4 + n + padding n) (length s - p) h, nx, eb, ew, c, z)
+
+  pub body-short : (p n : ℕ) → length s - p < 4 + n + padding n → refused 1 p ≡ pieceAnswer s p n
+  body-short p n h = simp (lt-leb (4 + n + padding n) (length s - p) h)
+
+-- how long items are
+pub word-length : (v : ℕ) → length (word .kind .write v) ≡ 4
+unfolding word number
+word-length v = length-digits 4 v
+
+pub hyper-length : (v : ℕ) → length (hyper .kind .write v) ≡ 8
+unfolding hyper number
+hyper-length v = length-digits 8 v
+
+pub flag-length : (v : Bool) → length (flag .kind .write v) ≡ 4
+unfolding flag
+flag-length v = word-length (fromFlag v)
+
+pub int-length : (v : ℤ) → length (int .kind .write v) ≡ 4
+unfolding int number
+int-length v = length-digits 4 (unsigned 2147483648 v)
+
+pub long-length : (v : ℤ) → length (long .kind .write v) ≡ 8
+unfolding long number
+long-length v = length-digits 8 (unsigned 9223372036854775808 v)
+
+pub eight-length : (n : ℕ) → n < 18446744073709551616 → length (eight .kind .write (digits 8 n)) ≡ 8
+unfolding eight
+eight-length n h = hyper-length (value (digits 8 n))
+
+pub opaque-long : (l : List ℕ) → length (opaque .kind .write l) ≡ opaqueSize (length l)
+unfolding opaque
+opaque-long l =
+    length-append (word .kind .write (length l)) (l ++ replicate (padding (length l)) 0)
+    ∙ ap₂ (λ a b. a + b) (word-length (length l))
+    (length-append l (replicate (padding (length l)) 0) ∙ ap (λ b. length l + b) (length-replicate (padding (length l)) 0))
+    ∙ sym (add-assoc 4 (length l) (padding (length l)))
+
+pub piece-long : (s : List ℕ) (x : Piece) → isInside s x ≡ true → length (bytesIn s x) ≡ x .count
+piece-long s x h =
+    let k : x .at + x .count ≤ length s = inside-le s x h in
+    length-take-le (x .count) (drop (x .at) s) (omega (arith, length-drop (x .at) s))
+
+pub opaque-length : (s : List ℕ) (x : Piece) → isInside s x ≡ true → length (opaque .kind .write (bytesIn s x)) ≡ opaqueSize (x .count)
+opaque-length s x h = opaque-long (bytesIn s x) ∙ ap opaqueSize (piece-long s x h)
+
+pub size-within : (n : ℕ) → n ≤ most → sizeUpTo n ≡ opaqueSize n
+unfolding sizeUpTo
+size-within n h = simp (le-leb n most h)
+
+pub size-over : (n : ℕ) → most < n → 0 ≡ sizeUpTo n
+unfolding sizeUpTo
+size-over n h = simp (lt-leb n most h)

@@ -1,0 +1,113 @@
+-- Demands 2 and 3 hold of the answers of every public reader, and the three answers that one gives.
+-- Assumes nothing.
+use mathlib.Core.Path.{_≡_, refl, sym, ap, _∙_}
+use mathlib.Core.Bool.{Bool, true, false, cond}
+use mathlib.Core.List.{List}
+use Prim.Native.Nat.{ℕ, _<_, _≤_}
+use native.Mathlib.Omega.{arith}
+use lib.Dec.{leb}
+use lib.ListN.{length, getD}
+use borrow.Author.Tests.{le-leb, lt-leb, leb-true}
+use mir.Syntax.{w8}
+use mir.Val.{Fits}
+use Rattle.xdr.specs.Meaning.Bytes.{Bytes}
+use Rattle.xdr.specs.Meaning.Answer.{Answer, took, refused, most, opened}
+use Rattle.xdr.specs.Meaning.Promise.{Begins, Accepted, Reading}
+use Rattle.xdr.specs.Meaning.Format.{Format}
+use Rattle.xdr.specs.Meaning.Public.{Answers, Took, message, Kept}
+use Rattle.xdr.specs.Laws.Lists.{known-bytes}
+use Rattle.xdr.specs.Laws.Held.{taken-means, refused-means, taken-inside}
+use Rattle.xdr.specs.Laws.Promise.{keeps}
+
+module _ {A : Type 0} (s : List ℕ) (p : ℕ) where
+  opened-long : (x : Answer A) → most < length s → opened s p x ≡ refused 3 0
+  unfolding opened
+  opened-long x h = simp (lt-leb (length s) most h)
+
+  opened-past : (x : Answer A) → length s ≤ most → length s < p → opened s p x ≡ refused 9 0
+  unfolding opened
+  opened-past x h g = simp (le-leb (length s) most h, lt-leb p (length s) g)
+
+  pub opened-in : (x : Answer A) → length s ≤ most → p ≤ length s → opened s p x ≡ x
+  unfolding opened
+  opened-in x h g = simp (le-leb (length s) most h, le-leb p (length s) g)
+
+  -- what is taken was read, of a message that is not too long, at a place that is in it
+  opened-took : (x : Answer A) {a : A} {n : ℕ} {b : Bool} → took a n b ≡ opened s p x
+      → (x ≡ took a n b) × (length s ≤ most) × (p ≤ length s)
+  unfolding opened
+  opened-took x {a} {n} {b} e = by-long (leb (length s) most) refl (leb p (length s)) refl
+    where
+      by-long : (t : Bool) → leb (length s) most ≡ t → (u : Bool) → leb p (length s) ≡ u → (x ≡ took a n b) × (length s ≤ most) × (p ≤ length s)
+      by-long true h true g = (sym (simp (h, g) at e), leb-true (length s) most h, leb-true p (length s) g)
+      by-long true h false g =
+          let f : _≡_ {A = Answer A} (took a n b) (refused 9 0) = simp (h, g) at e in
+          let z : _≡_ {A = ℕ} 0 1 = cc in absurd (omega arith)
+      by-long false h u g =
+          let f : _≡_ {A = Answer A} (took a n b) (refused 3 0) = simp h at e in
+          let z : _≡_ {A = ℕ} 0 1 = cc in absurd (omega arith)
+
+-- the three answers of a public reader; `given` is what a slice's rule gives
+module _ {M S : Type 0} (F : Format M S) (s : List ℕ) (p : ℕ) (given : (i : ℕ) → Fits w8 (getD s i 0)) where
+  pub answers-long : most < length s → Answers F s p (refused 3 0)
+  answers-long h = record { is = sym (opened-long s p (F .held .read s p) h); bytes = known-bytes s given }
+
+  pub answers-past : length s ≤ most → length s < p → Answers F s p (refused 9 0)
+  answers-past h g = record { is = sym (opened-past s p (F .held .read s p) h g); bytes = known-bytes s given }
+
+  pub answers-in : {a : Answer S} → length s ≤ most → p ≤ length s → a ≡ F .held .read s p → Answers F s p a
+  answers-in h g e = record { is = e ∙ sym (opened-in s p (F .held .read s p) h g); bytes = known-bytes s given }
+
+module _ {M S : Type 0} (F : Format M S) where
+  reading : Took F → Reading (F .codec .kind)
+  reading t =
+      let o = opened-took (t .source) (t .place) (F .held .read (t .source) (t .place)) (t .answers .is) in
+      record {
+        input = t .source;
+        place = t .place;
+        message = message F t;
+        next = t .next;
+        plain = t .plain;
+        bytes = t .answers .bytes;
+        inside = o .2;
+        reads = taken-means (F .held) (t .source) (t .place) (o .0);
+      }
+
+  took-begins : (s : List ℕ) (p : ℕ) {a : Answer S} → Answers F s p a → (x : S) × (n : ℕ) × (b : Bool) × (a ≡ took x n b)
+      → (length s ≤ most) × (p ≤ length s) × Begins (F .codec .kind) s p
+  took-begins s p c t =
+      let o = opened-took s p (F .held .read s p) (sym (t .3) ∙ c .is) in (
+        o .1,
+        o .2,
+        keeps (F .codec) .accepted-iff s p (c .bytes) .0
+            (record { message = F .held .mean s (t .0); next = t .1; plain = t .2; reads = taken-means (F .held) s p (o .0) }),
+      )
+
+  held-took : (s : List ℕ) (p : ℕ) (z : Answer S) → F .held .read s p ≡ z → Accepted (F .codec .kind) s p
+      → (x : S) × (n : ℕ) × (b : Bool) × (F .held .read s p ≡ took x n b)
+  held-took s p (took x n b) e a = (x, n, b, e)
+  held-took s p (refused r q) e a =
+      let f : F .codec .kind .read s p ≡ refused r q = refused-means (F .held) s p e in
+      let z : _≡_ {A = ℕ} 0 1 = cc (f, a .reads) in absurd (omega arith)
+
+  begins-took : (s : List ℕ) (p : ℕ) {a : Answer S} → Answers F s p a → (length s ≤ most) × (p ≤ length s) × Begins (F .codec .kind) s p
+      → (x : S) × (n : ℕ) × (b : Bool) × (a ≡ took x n b)
+  begins-took s p c g =
+      let a = held-took s p (F .held .read s p) refl (keeps (F .codec) .accepted-iff s p (c .bytes) .1 (g .2)) in
+      (a .0, a .1, a .2, c .is ∙ opened-in s p (F .held .read s p) (g .0) (g .1) ∙ a .3)
+
+  pub kept : Kept F
+  unfolding reading
+  kept =
+      record {
+        accepted-iff = λ s p c. (took-begins s p c, begins-took s p c);
+        inside = λ t.
+            taken-inside (F .held) (t .source) (t .place)
+            (opened-took (t .source) (t .place) (F .held .read (t .source) (t .place)) (t .answers .is) .0);
+        in-range = λ t. keeps (F .codec) .in-range (reading t);
+        within = λ t. keeps (F .codec) .within (reading t);
+        same-iff = λ t t′. keeps (F .codec) .same-iff (reading t) (reading t′);
+        again = λ t. keeps (F .codec) .again (reading t);
+        plain-iff = λ t. keeps (F .codec) .plain-iff (reading t);
+        one = λ s p c d. c .is ∙ sym (d .is);
+      }

@@ -1,0 +1,70 @@
+-- A word in the other order of its bytes.
+-- Assumes nothing.
+use mathlib.Core.Path.{_≡_, refl, sym, ap, _∙_}
+use mathlib.Core.List.{List, [], _∷_, _++_}
+use Prim.Native.Nat.{ℕ, _^_, _+_, _*_, _<_, _/_, _%_}
+use native.Mathlib.Nat.{add-assoc, mul-one, add-zero, div-one}
+use native.Mathlib.Omega.{arith}
+use lib.ListN.{getD}
+use Rattle.xdr.specs.Meaning.Bytes.{digits, numberAt}
+use Rattle.xdr.specs.Meaning.Items.{number, word, hyper}
+use Rattle.xdr.specs.Laws.Digits.{digits-append}
+
+abbrev pub swapped : ℕ → ℕ
+swapped v = v % 256 * 16777216 + v / 256 % 256 * 65536 + v / 65536 % 256 * 256 + v / 16777216
+
+-- four bytes, low byte first, as a number
+abbrev pub little : ℕ → ℕ → ℕ → ℕ → ℕ
+little a b c d = a + b * 256 + c * 65536 + d * 16777216
+
+module _ (a b c d : ℕ) (ha : a < 256) (hb : b < 256) (hc : c < 256) (hd : d < 256) where
+  pub byte-0 : little a b c d % 256 ≡ a
+  byte-0 = omega arith
+
+  pub byte-1 : little a b c d / 256 % 256 ≡ b
+  byte-1 = omega arith
+
+  pub byte-2 : little a b c d / 65536 % 256 ≡ c
+  byte-2 = omega arith
+
+  pub byte-3 : little a b c d / 16777216 ≡ d
+  byte-3 = omega arith
+
+  pub swap-little : swapped (little a b c d) ≡ a * 16777216 + b * 65536 + c * 256 + d
+  swap-little = simp (byte-0, byte-1, byte-2, byte-3)
+
+-- four bytes of a source, read low byte first and swapped, are the word that they write
+pub word-swapped : (s : List ℕ) (p : ℕ) {a b c d : ℕ} → (a ≡ getD s p 0) × (a < 256) → (b ≡ getD s (p + 1) 0) × (b < 256)
+    → (c ≡ getD s (p + 2) 0) × (c < 256) → (d ≡ getD s (p + 3) 0) × (d < 256) → swapped (little a b c d) ≡ numberAt 4 s p
+word-swapped s p {a} {b} {c} {d} ea eb ec ed =
+    swap-little a b c d (ea .1) (eb .1) (ec .1) (ed .1) ∙ simp (ea .0, eb .0, ec .0, ed .0, add-assoc, mul-one, add-zero)
+
+-- the bytes of a word that was swapped, low byte first
+pub swapped-bytes : (v : ℕ) → v < 4294967296
+    → swapped v % 256 ∷ swapped v / 256 % 256 ∷ swapped v / 65536 % 256 ∷ swapped v / 16777216 ∷ [] ≡ word .kind .write v
+unfolding word number
+swapped-bytes v h =
+    let a : v / 16777216 < 256 = omega arith in
+    let b : v / 65536 % 256 < 256 = omega arith in
+    let c : v / 256 % 256 < 256 = omega arith in
+    let d : v % 256 < 256 = omega arith in
+    let e : swapped v ≡ little (v / 16777216) (v / 65536 % 256) (v / 256 % 256) (v % 256) = omega arith in
+    let e₁ : v % 16777216 / 65536 ≡ v / 65536 % 256 = omega arith in
+    let e₂ : v % 16777216 % 65536 / 256 ≡ v / 256 % 256 = omega arith in
+    let e₃ : v % 16777216 % 65536 % 256 ≡ v % 256 = omega arith in
+    rw e
+    (simp (
+      byte-0 (v / 16777216) (v / 65536 % 256) (v / 256 % 256) (v % 256) a b c d,
+      byte-1 (v / 16777216) (v / 65536 % 256) (v / 256 % 256) (v % 256) a b c d,
+      byte-2 (v / 16777216) (v / 65536 % 256) (v / 256 % 256) (v % 256) a b c d,
+      byte-3 (v / 16777216) (v / 65536 % 256) (v / 256 % 256) (v % 256) a b c d,
+      e₁,
+      e₂,
+      e₃,
+      div-one,
+    ))
+
+-- a hyper is two words
+pub hyper-words : (v : ℕ) → v < 18446744073709551616 → word .kind .write (v / 4294967296) ++ word .kind .write (v % 4294967296) ≡ hyper .kind .write v
+unfolding word hyper number
+hyper-words v h = digits-append 4 4 v h

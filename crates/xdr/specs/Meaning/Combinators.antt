@@ -1,0 +1,114 @@
+-- The four ways to make a kind: bytes as they stand, one kind after another, a kind seen as another, and a kind that is one item.
+-- Assumes nothing.
+use mathlib.Core.Path.{_≡_}
+use mathlib.Core.Bool.{Bool, true, cond, _&&_}
+use mathlib.Core.List.{List, [], _++_}
+use Prim.Native.Nat.{ℕ, _+_, _-_}
+use lib.Dec.{leb}
+use lib.ListN.{length, take, drop}
+use Rattle.xdr.specs.Meaning.Bytes.{Bytes}
+use Rattle.xdr.specs.Meaning.Answer.{Answer, took, refused, Loose, clean}
+use Rattle.xdr.specs.Meaning.Kind.{Kind}
+
+-- n bytes
+pub record Raw (n : ℕ) (l : List ℕ) : Type 0 where
+  pub size : length l ≡ n
+  pub bytes : Bytes l
+
+-- n bytes, as they stand: refusal 1 where there are fewer
+abbrev pub blockKind : ℕ → Kind (List ℕ)
+blockKind n =
+    record {
+      Good = Raw n;
+      Form = λ l w e. (w ≡ []) × (e ≡ l) × Raw n l;
+      read = λ s p. cond (leb n (length s - p)) (took (take n (drop p s)) (p + n) true) (refused 1 p);
+      write = λ l. l;
+    }
+
+-- no bytes
+abbrev pub voidKind : Kind (Unit {0})
+voidKind =
+    record {
+      Good = λ u. Unit {0};
+      Form = λ u w e. (w ≡ []) × (e ≡ []);
+      read = λ s p. took tt p true;
+      write = λ u. [];
+    }
+
+-- one after another: the second may depend on the first's message
+module _ {M : Type 0} {N : M → Type 0} (A : Kind M) (B : (a : M) → Kind (N a)) where
+  abbrev pub second : (a : M) → Bool → Answer (N a) → Answer ((a : M) × N a)
+  second a b (took c n b′) = took (a, c) n (b && b′)
+  second a b (refused r q) = refused r q
+
+  abbrev pub first : List ℕ → Answer M → Answer ((a : M) × N a)
+  first s (took a n b) = second a b (B a .read s n)
+  first s (refused r q) = refused r q
+
+  -- a form of the pair is a form of its first, and behind it one of its second
+  pub record Chained (m : (a : M) × N a) (w : List Loose) (e : List ℕ) : Type 0 where
+    pub e₁ : List ℕ
+    pub e₂ : List ℕ
+    pub w₁ : List Loose
+    pub w₂ : List Loose
+    pub form₁ : A .Form (m .0) w₁ e₁
+    pub form₂ : B (m .0) .Form (m .1) w₂ e₂
+    pub bytes : e ≡ e₁ ++ e₂
+    pub loose : w ≡ w₁ ++ w₂
+
+  abbrev pub chainKind : Kind ((a : M) × N a)
+  chainKind =
+      record {
+        Good = λ m. A .Good (m .0) × B (m .0) .Good (m .1);
+        Form = Chained;
+        read = λ s p. first s (A .read s p);
+        write = λ m. A .write (m .0) ++ B (m .0) .write (m .1);
+      }
+
+-- what a message is seen as: a message of another type, with what is loose in seeing it so; or nothing, which is refusal 2
+pub data Seen (N : Type 0) : Type 0 where
+  means : N → List Loose → Seen N
+  undeclared : Seen N
+
+-- what is meant is in range; and where nothing is loose, it is written as what was seen
+abbrev pub Faithful : {M N : Type 0} → (N → Type 0) → (N → M) → M → Seen N → Type 0
+Faithful Good to x (means m w) = Good m × (w ≡ [] → to m ≡ x)
+Faithful Good to x undeclared = Unit {0}
+
+-- messages of M, those in range of which are given, seen as messages of N
+pub record View (M : Type 0) (From : M → Type 0) (N : Type 0) : Type 1 where
+  pub Good : N → Type 0
+  pub see : M → Seen N
+  pub to : N → M
+  pub faithful : (x : M) → From x → Faithful Good to x (see x)
+  pub to-good : (m : N) → Good m → From (to m)
+  pub see-to : (m : N) → Good m → see (to m) ≡ means m []
+
+module _ {M N : Type 0} (K : Kind M) (W : View M (K .Good) N) where
+  abbrev pub meant : ℕ → ℕ → Bool → Seen N → Answer N
+  meant p n b (means m w) = took m n (clean w && b)
+  meant p n b undeclared = refused 2 p
+
+  abbrev pub look : ℕ → Answer M → Answer N
+  look p (took x n b) = meant p n b (W .see x)
+  look p (refused r q) = refused r q
+
+  -- a form of m is a form of a message that is seen as m
+  pub record Viewed (m : N) (w : List Loose) (e : List ℕ) : Type 0 where
+    pub of : M
+    pub w₁ : List Loose
+    pub w₂ : List Loose
+    pub form : K .Form of w₁ e
+    pub sees : W .see of ≡ means m w₂
+    pub loose : w ≡ w₂ ++ w₁
+
+  abbrev pub viewKind : Kind N
+  viewKind = record { Good = W .Good; Form = Viewed; read = λ s p. look p (K .read s p); write = λ m. K .write (W .to m) }
+
+-- one item: every refusal inside is that of the whole, at its first byte
+abbrev pub whole : {M : Type 0} → ℕ → Answer M → Answer M
+whole p (took m n b) = took m n b
+whole p (refused r q) = refused r p
+
+abbrev pub itemKind : {M : Type 0} → Kind M → Kind M
+itemKind K = record { Good = K .Good; Form = K .Form; read = λ s p. whole p (K .read s p); write = K .write }

@@ -1,0 +1,41 @@
+-- The formats of the items: what the code holds of each.
+-- Assumes nothing.
+use mathlib.Core.Path.{refl}
+use mathlib.Core.Bool.{Bool, true}
+use mathlib.Core.List.{List, []}
+use Prim.Native.Nat.{ℕ}
+use lib.IntN.{ℤ}
+use Rattle.xdr.specs.Meaning.Bytes.{digits}
+use Rattle.xdr.specs.Meaning.Combinators.{means}
+use Rattle.xdr.specs.Meaning.Items.{word, hyper, flag, int, long, eight, opaque, words}
+use Rattle.xdr.specs.Meaning.Held.{Held}
+use Rattle.xdr.specs.Meaning.Format.{Format, exactly, plain, heldView}
+use Rattle.xdr.specs.Meaning.Pieces.{bytesIn, isInside, pieceAt, wordsIn, areInside, wordPieceAt}
+use Rattle.xdr.specs.Laws.Pieces.{piece-agrees, piece-kept}
+use Rattle.xdr.specs.Laws.Words.{words-agrees, words-kept}
+use Rattle.xdr.specs.Laws.Items.{eight-faithful, eight-to-good, eight-see-to}
+use Rattle.xdr.specs.declared.piece.Piece.{Piece}
+
+-- eight bytes are held as the number that they write
+unfoldable pub eightHeld : Held eight ℕ
+unfolding eight hyper
+eightHeld =
+    heldView _ (plain hyper)
+    (record { holds = λ n. means n []; mean = λ s n. digits 8 n; inside = λ s n. true; square = λ s n. refl; within = λ s n h. refl })
+
+abbrev pub eightBytes : Format (List ℕ) ℕ
+eightBytes = record { codec = eight; held = eightHeld }
+
+-- an opaque is held as the place and the count of its bytes
+unfoldable pub pieceHeld : Held opaque Piece
+pieceHeld = record { read = pieceAt; mean = bytesIn; inside = isInside; agrees = piece-agrees; kept = piece-kept }
+
+abbrev pub bytes : Format (List ℕ) Piece
+bytes = record { codec = opaque; held = pieceHeld }
+
+-- a word list as the place of its first word and the count of its words
+unfoldable pub wordsHeld : Held words Piece
+wordsHeld = record { read = wordPieceAt; mean = wordsIn; inside = areInside; agrees = words-agrees; kept = words-kept }
+
+abbrev pub wordList : Format (List ℕ) Piece
+wordList = record { codec = words; held = wordsHeld }

@@ -1,0 +1,172 @@
+-- The items of XDR (RFC 4506, section 4), with the crate's tolerances 1 and 2: each nonzero flag is true, and padding may hold anything.
+-- Assumes nothing.
+use mathlib.Core.Path.{_≡_, refl}
+use mathlib.Core.Bool.{Bool, true, false, cond}
+use mathlib.Core.Option.{Option}
+use mathlib.Core.List.{List, [], _∷_}
+use Prim.Native.Nat.{ℕ, zero, suc, _+_, _-_, _^_, _<_}
+use lib.IntN.{ℤ}
+use lib.ListN.{length, replicate}
+use Rattle.xdr.specs.Meaning.Bytes.{Bytes, value, digits, padding, zeros, signed, unsigned, InHalf}
+use Rattle.xdr.specs.Meaning.Answer.{Loose, odd-flag, dirty-pad}
+use Rattle.xdr.specs.Meaning.Kind.{Codec}
+use Rattle.xdr.specs.Meaning.Combinators.{Raw, Seen, means, undeclared}
+use Rattle.xdr.specs.Meaning.Codecs.{block, void, chain, view, item, seen, _⨾_, mapped, times}
+use Rattle.xdr.specs.Laws.Exact.{Exact, among, among-exact}
+use Rattle.xdr.specs.Laws.Made.{If, toOption, fromOption, from-to, to-from, toList, fromList, list-from-to, list-to-from}
+use Rattle.xdr.specs.Laws.Items as laws
+
+-- a number of k bytes, the most significant first
+unfoldable pub number : ℕ → Codec ℕ
+number k =
+    view (block k)
+    (record {
+      Good = λ n. n < 256 ^ k;
+      see = λ l. means (value l) [];
+      to = digits k;
+      faithful = laws.number-faithful k;
+      to-good = laws.number-to-good k;
+      see-to = laws.number-see-to k;
+    })
+
+unfoldable pub word : Codec ℕ
+unfolding number
+word = number 4
+
+unfoldable pub hyper : Codec ℕ
+unfolding number
+hyper = number 8
+
+-- a flag: 0 is false, 1 is true, and any other word is true too, but loose
+abbrev pub seeFlag : ℕ → Seen Bool
+seeFlag zero = means false []
+seeFlag (suc zero) = means true []
+seeFlag (suc (suc n)) = means true (odd-flag ∷ [])
+
+abbrev pub fromFlag : Bool → ℕ
+fromFlag false = 0
+fromFlag true = 1
+
+pub flag-exact : (n : ℕ) → Exact (word .kind .Good) fromFlag n (seeFlag n)
+unfolding word number
+flag-exact zero = refl
+flag-exact (suc zero) = refl
+flag-exact (suc (suc n)) = laws.one-fits
+
+pub flag-see-to : (b : Bool) → seeFlag (fromFlag b) ≡ means b []
+flag-see-to true = refl
+flag-see-to false = refl
+
+unfoldable pub flag : Codec Bool
+flag = seen word seeFlag fromFlag flag-exact flag-see-to
+
+-- two's complement in k bytes
+abbrev pub integer : (k h : ℕ) → h + h ≡ 256 ^ k → Codec ℤ
+unfolding number
+integer k h e =
+    view (number k)
+    (record {
+      Good = InHalf h;
+      see = λ n. means (signed h n) [];
+      to = unsigned h;
+      faithful = laws.signed-faithful h (256 ^ k) e;
+      to-good = laws.signed-to-good h (256 ^ k) e;
+      see-to = laws.signed-see-to h;
+    })
+
+unfoldable pub int : Codec ℤ
+int = integer 4 2147483648 refl
+
+unfoldable pub long : Codec ℤ
+long = integer 8 9223372036854775808 refl
+
+-- eight bytes as they stand
+unfoldable pub eight : Codec (List ℕ)
+unfolding number hyper
+eight =
+    view hyper
+    (record {
+      Good = Raw 8;
+      see = λ n. means (digits 8 n) [];
+      to = value;
+      faithful = laws.eight-faithful;
+      to-good = laws.eight-to-good;
+      see-to = laws.eight-see-to;
+    })
+
+-- k bytes of padding: written as zeros, read whatever they hold, and loose if they hold anything else
+abbrev pub seePad : List ℕ → Seen (Unit {0})
+seePad l = means tt (cond (zeros l) [] (dirty-pad ∷ []))
+
+abbrev pub pad : ℕ → Codec (Unit {0})
+pad k =
+    view (block k)
+    (record {
+      Good = λ u. Unit {0};
+      see = seePad;
+      to = λ u. replicate k 0;
+      faithful = laws.pad-faithful k;
+      to-good = laws.pad-to-good k;
+      see-to = laws.pad-see-to k;
+    })
+
+-- opaque bytes: their number, they themselves, and padding; one item
+unfoldable pub opaque : Codec (List ℕ)
+unfolding word number
+opaque =
+    item
+    (view (chain word (λ n. block n ⨾ pad (padding n)))
+    (record {
+      Good = λ l. word .kind .Good (length l) × Bytes l;
+      see = λ x. means (x .1 .0) [];
+      to = λ l. (length l, (l, tt));
+      faithful = laws.opaque-faithful;
+      to-good = laws.opaque-to-good;
+      see-to = λ l g. refl;
+    }))
+
+-- a counted array; a list of words is one item
+abbrev pub counted : {M : Type 0} → Codec M → Codec (List M)
+counted {M} C =
+    mapped (chain word (times C)) (λ x. toList M (x .0) (x .1)) (fromList M) (λ x. list-from-to M (x .0) (x .1)) (list-to-from M)
+
+unfoldable pub words : Codec (List ℕ)
+words = item (counted word)
+
+-- a closed enumeration: a word that is the number of one of a list of values; any other is undeclared
+abbrev pub closed : {A : Type 0} (number : A → ℕ) (l : List A) → ((a : A) → among number l (number a) ≡ means a []) → Codec A
+closed number l each = seen word (among number l) number (among-exact (word .kind .Good) number l) each
+
+-- a value that a flag says is there
+abbrev pub if : {M : Type 0} → Codec M → (b : Bool) → Codec (If M b)
+if C true = C
+if C false = void
+
+abbrev pub option : {M : Type 0} → Codec M → Codec (Option M)
+option {M} C =
+    mapped (chain flag (if C)) (λ x. toOption M (x .0) (x .1)) (fromOption M) (λ x. from-to M (x .0) (x .1)) (to-from M)
+
+-- a union: a tag, and what the tag says. `see` names the message that it is, or the default that a stray tag is read as, or says that the
+-- tag is undeclared
+pub record Arm : Type 1 where
+  pub Msg : Type 0
+  pub codec : Codec Msg
+
+abbrev pub arm : {M : Type 0} → Codec M → Arm
+arm {M} C = record { Msg = M; codec = C }
+
+module _ (arms : ℕ → Arm) where
+  abbrev pub taggedArm : Codec ((tag : ℕ) × arms tag .Msg)
+  taggedArm = chain word (λ tag. arms tag .codec)
+
+  module _ {N : Type 0} (see : (tag : ℕ) → arms tag .Msg → Seen N) (to : N → (tag : ℕ) × arms tag .Msg) where
+    -- what is seen with nothing loose is written so, and a default is in range
+    abbrev pub Kept : Type 0
+    Kept = (tag : ℕ) (x : arms tag .Msg) → Exact (taggedArm .kind .Good) to (tag, x) (see tag x)
+
+    -- what is written is seen as what it is
+    abbrev pub Back : Type 0
+    Back = (m : N) → see (to m .0) (to m .1) ≡ means m []
+
+    abbrev pub union : Kept → Back → Codec N
+    union kept back = seen taggedArm (λ y. see (y .0) (y .1)) to (λ y. kept (y .0) (y .1)) back

@@ -1,0 +1,75 @@
+-- The promise: demands 2 and 3, of any kind.
+-- Assumes nothing.
+use mathlib.Core.Path.{_≡_}
+use mathlib.Core.Logic.{_↔_}
+use mathlib.Core.Bool.{Bool, true}
+use mathlib.Core.List.{List, []}
+use Prim.Native.Nat.{ℕ, _+_, _-_, _≤_, max}
+use lib.ListN.{length}
+use Rattle.xdr.specs.Meaning.Bytes.{Bytes, Stands, part}
+use Rattle.xdr.specs.Meaning.Answer.{Answer, took, refused, mapAnswer, Loose}
+use Rattle.xdr.specs.Meaning.Kind.{Kind}
+
+module _ {M : Type 0} (K : Kind M) where
+  -- a message of this kind begins at place p of s
+  pub record Begins (s : List ℕ) (p : ℕ) : Type 0 where
+    pub message : M
+    pub loose : List Loose
+    pub used : List ℕ
+    pub left : List ℕ
+    pub stands : Stands used left s p
+    pub form : K .Form message loose used
+
+  pub record Accepted (s : List ℕ) (p : ℕ) : Type 0 where
+    pub message : M
+    pub next : ℕ
+    pub plain : Bool
+    pub reads : K .read s p ≡ took message next plain
+
+  pub record Refused (s : List ℕ) (p : ℕ) : Type 0 where
+    pub number : ℕ
+    pub place : ℕ
+    pub reads : K .read s p ≡ refused number place
+
+  -- an accepted reading of a string of bytes
+  pub record Reading : Type 0 where
+    pub input : List ℕ
+    pub place : ℕ
+    pub message : M
+    pub next : ℕ
+    pub plain : Bool
+    pub bytes : Bytes input
+    pub inside : place ≤ length input
+    pub reads : K .read input place ≡ took message next plain
+
+  -- the bytes that a reading used, and its rewriting
+  abbrev pub used : Reading → List ℕ
+  used r = part (r .input) (r .place) (r .next)
+
+  abbrev pub rewriting : Reading → List ℕ
+  rewriting r = K .write (r .message)
+
+  pub record Promise : Type 0 where
+    -- demand 2: bytes are refused exactly if no message of this kind begins there, and else accepted
+    pub refused-iff : (s : List ℕ) (p : ℕ) → Bytes s → Refused s p ↔ ¬ (Begins s p)
+    pub accepted-iff : (s : List ℕ) (p : ℕ) → Bytes s → Accepted s p ↔ Begins s p
+    -- what is read is in range, and what was used lies inside
+    pub in-range : (r : Reading) → K .Good (r .message)
+    pub within : (r : Reading) → (r .place ≤ r .next) × (r .next ≤ length (r .input))
+    -- each message written reads back as itself, wherever it stands, using exactly its bytes
+    pub back : (m : M) (t s : List ℕ) (p : ℕ) → K .Good m → Stands (K .write m) t s p → K .read s p ≡ took m (p + length (K .write m)) true
+    -- demand 3: two accepted readings are the same message exactly when their rewritings are equal bytes
+    pub same-iff : (r r′ : Reading) → (r .message ≡ r′ .message) ↔ (rewriting r ≡ rewriting r′)
+    -- a rewriting reads back as the same message, and rewrites to itself
+    pub again : (r : Reading) → K .read (rewriting r) 0 ≡ took (r .message) (length (rewriting r)) true
+    pub rewrites : (r : Reading) → mapAnswer (K .write) (K .read (rewriting r) 0) ≡ took (rewriting r) (length (rewriting r)) true
+    -- a reading is plain exactly when the bytes used equal its rewriting
+    pub plain-iff : (r : Reading) → (r .plain ≡ true) ↔ (used r ≡ rewriting r)
+    -- and exactly when all flags in them are 0 or 1, all padding is zero and all tags are declared: of any form that those bytes are,
+    -- and they are one
+    pub clean-iff : (r : Reading) (w : List Loose) → K .Form (r .message) w (used r) → (r .plain ≡ true) ↔ (w ≡ [])
+    pub formed : (r : Reading) → (w : List Loose) × K .Form (r .message) w (used r)
+
+  -- some kinds promise also that a rewriting is no longer than the larger of k bytes and the bytes read
+  abbrev pub NoLonger : ℕ → Type 0
+  NoLonger k = (r : Reading) → length (rewriting r) ≤ max k (r .next - r .place)

@@ -1,0 +1,112 @@
+-- What the code's own types say, in the terms of `Meaning`: each refusal by document 01's number and place, each answer as an `Answer`.
+-- Assumes nothing.
+use mathlib.Core.Bool.{Bool, true}
+use mathlib.Core.Option.{Option, none, some}
+use Prim.Native.Nat.{ℕ}
+use lib.IntN.{ℤ}
+use Rattle.xdr.specs.Meaning.Answer.{Answer, took, refused, Written, done, unwritten}
+use Rattle.xdr.specs.declared.refusal.Refusal.{Refusal}
+use Rattle.xdr.specs.declared.refusal.Refusal.the-variants.{Ended, Undeclared, TooLong, Outside, NoRoom, Unfit, Overrun, NotCall, PastEnd}
+use Rattle.xdr.specs.declared.piece.Piece.{Piece}
+use Rattle.xdr.specs.declared.piece.WordFound.{WordFound}
+use Rattle.xdr.specs.declared.piece.WordFound.the-variants as word-found
+use Rattle.xdr.specs.declared.answer.U32Read.{U32Read}
+use Rattle.xdr.specs.declared.answer.U32Read.the-variants as U32
+use Rattle.xdr.specs.declared.answer.U64Read.{U64Read}
+use Rattle.xdr.specs.declared.answer.U64Read.the-variants as U64
+use Rattle.xdr.specs.declared.answer.I32Read.{I32Read}
+use Rattle.xdr.specs.declared.answer.I32Read.the-variants as I32
+use Rattle.xdr.specs.declared.answer.I64Read.{I64Read}
+use Rattle.xdr.specs.declared.answer.I64Read.the-variants as I64
+use Rattle.xdr.specs.declared.answer.BoolRead.{BoolRead}
+use Rattle.xdr.specs.declared.answer.BoolRead.the-variants as Bool
+use Rattle.xdr.specs.declared.answer.PieceRead.{PieceRead}
+use Rattle.xdr.specs.declared.answer.PieceRead.the-variants as Piece
+use Rattle.xdr.specs.declared.answer.Wrote.{Wrote}
+use Rattle.xdr.specs.declared.answer.Wrote.the-variants as wrote
+
+abbrev pub numberOf : Refusal → ℕ
+numberOf (Ended p) = 1
+numberOf (Undeclared p) = 2
+numberOf TooLong = 3
+numberOf Outside = 4
+numberOf NoRoom = 5
+numberOf Unfit = 6
+numberOf Overrun = 7
+numberOf NotCall = 8
+numberOf PastEnd = 9
+
+-- only 1 and 2 have a place
+abbrev pub placeOf : Refusal → ℕ
+placeOf (Ended p) = p
+placeOf (Undeclared p) = p
+placeOf TooLong = 0
+placeOf Outside = 0
+placeOf NoRoom = 0
+placeOf Unfit = 0
+placeOf Overrun = 0
+placeOf NotCall = 0
+placeOf PastEnd = 0
+
+abbrev pub refusal : {A : Type 0} → Refusal → Answer A
+refusal r = refused (numberOf r) (placeOf r)
+
+abbrev pub viewU32 : U32Read → Answer ℕ
+viewU32 (U32.Refused r) = refusal r
+viewU32 (U32.Took v n) = took v n true
+
+abbrev pub lostU32 : U32Read → Refusal
+lostU32 (U32.Refused r) = r
+lostU32 (U32.Took v n) = PastEnd
+
+abbrev pub viewU64 : U64Read → Answer ℕ
+viewU64 (U64.Refused r) = refusal r
+viewU64 (U64.Took v n) = took v n true
+
+abbrev pub lostU64 : U64Read → Refusal
+lostU64 (U64.Refused r) = r
+lostU64 (U64.Took v n) = PastEnd
+
+abbrev pub viewI32 : I32Read → Answer ℤ
+viewI32 (I32.Refused r) = refusal r
+viewI32 (I32.Took v n) = took v n true
+
+abbrev pub lostI32 : I32Read → Refusal
+lostI32 (I32.Refused r) = r
+lostI32 (I32.Took v n) = PastEnd
+
+abbrev pub viewI64 : I64Read → Answer ℤ
+viewI64 (I64.Refused r) = refusal r
+viewI64 (I64.Took v n) = took v n true
+
+abbrev pub lostI64 : I64Read → Refusal
+lostI64 (I64.Refused r) = r
+lostI64 (I64.Took v n) = PastEnd
+
+abbrev pub viewBool : BoolRead → Answer Bool
+viewBool (Bool.Refused r) = refusal r
+viewBool (Bool.Took v n p) = took v n p
+
+abbrev pub lostBool : BoolRead → Refusal
+lostBool (Bool.Refused r) = r
+lostBool (Bool.Took v n p) = PastEnd
+
+abbrev pub viewPiece : PieceRead → Answer Piece
+viewPiece (Piece.Refused r) = refusal r
+viewPiece (Piece.Took v n p) = took v n p
+
+abbrev pub lostPiece : PieceRead → Refusal
+lostPiece (Piece.Refused r) = r
+lostPiece (Piece.Took v n p) = PastEnd
+
+abbrev pub viewWrote : Wrote → Written
+viewWrote (wrote.Refused r) = unwritten (numberOf r)
+viewWrote (wrote.Done n) = done n
+
+abbrev pub lostWrote : Wrote → Refusal
+lostWrote (wrote.Refused r) = r
+lostWrote (wrote.Done n) = PastEnd
+
+abbrev pub viewWord : WordFound → Option ℕ
+viewWord word-found.None = none
+viewWord (word-found.Word v) = some v

@@ -1,0 +1,288 @@
+// For the crates above, and no door for users: items of a message whose length and start were tested already, and items laid at the front
+// of a lent buffer whose room was. Each is total all the same, and exact; it only leaves out refusals 3 and 9.
+ghost use mathlib.Core.Path.{_≡_};
+ghost use Prim.Native.Nat.{_+_, _<_, _≤_};
+ghost use lib.ListN.{length};
+ghost use mathlib.Core.List.{_++_};
+ghost use Rattle.xdr.specs.Meaning.Bytes.{numberAt, zeros};
+ghost use Rattle.xdr.specs.Meaning.Items.{word, hyper, flag, int, long, opaque, words};
+ghost use Rattle.xdr.specs.Meaning.Pieces.{pieceAnswer, opaqueSize, sizeUpTo};
+ghost use Rattle.xdr.specs.Meaning.Formats.{eightHeld, pieceHeld, wordsHeld, bytes, wordList};
+ghost use Rattle.xdr.specs.Meaning.Public.{laid, laidOf};
+ghost use Rattle.xdr.specs.Meaning.Views.{viewU32, viewU64, viewI32, viewI64, viewBool, viewPiece};
+ghost use Rattle.xdr.specs.Laws.Write.{Put};
+ghost use Rattle.xdr.specs.Laws.Padding.{lastZeros};
+use crate::answer::BoolRead;
+use crate::answer::I32Read;
+use crate::answer::I64Read;
+use crate::answer::PieceRead;
+use crate::answer::U32Read;
+use crate::answer::U64Read;
+use crate::number::hyper_here;
+use crate::number::signed32;
+use crate::number::signed64;
+use crate::number::swap;
+use crate::number::unsigned32;
+use crate::number::unsigned64;
+use crate::number::word_here;
+use crate::piece::Piece;
+use crate::piece::inside;
+use crate::piece::words_inside;
+use crate::refusal::Refusal;
+
+pub fn u32_at(src: &[u8], at: usize) -> U32Read
+    ensures { λ r. ⌜ viewU32 r ≡ word .kind .read (now (src .entry)) at ⌝ }
+{
+    if src.len() < 4 {
+        return U32Read::Refused(Refusal::Ended(at));
+    }
+    if src.len() - 4 < at {
+        return U32Read::Refused(Refusal::Ended(at));
+    }
+    U32Read::Took {
+        value: word_here(src, at),
+        next: at + 4,
+    }
+}
+
+pub fn u64_at(src: &[u8], at: usize) -> U64Read
+    ensures { λ r. ⌜ viewU64 r ≡ hyper .kind .read (now (src .entry)) at ⌝ }
+{
+    if src.len() < 8 {
+        return U64Read::Refused(Refusal::Ended(at));
+    }
+    if src.len() - 8 < at {
+        return U64Read::Refused(Refusal::Ended(at));
+    }
+    U64Read::Took {
+        value: hyper_here(src, at),
+        next: at + 8,
+    }
+}
+
+pub fn i32_at(src: &[u8], at: usize) -> I32Read
+    ensures { λ r. ⌜ viewI32 r ≡ int .kind .read (now (src .entry)) at ⌝ }
+{
+    let r = u32_at(src, at);
+    let U32Read::Took { value: v, next: n } = r else {
+        return I32Read::Refused(r.refusal());
+    };
+    I32Read::Took {
+        value: signed32(v),
+        next: n,
+    }
+}
+
+pub fn i64_at(src: &[u8], at: usize) -> I64Read
+    ensures { λ r. ⌜ viewI64 r ≡ long .kind .read (now (src .entry)) at ⌝ }
+{
+    let r = u64_at(src, at);
+    let U64Read::Took { value: v, next: n } = r else {
+        return I64Read::Refused(r.refusal());
+    };
+    I64Read::Took {
+        value: signed64(v),
+        next: n,
+    }
+}
+
+// Each nonzero flag is true.
+pub fn bool_at(src: &[u8], at: usize) -> BoolRead
+    ensures { λ r. ⌜ viewBool r ≡ flag .kind .read (now (src .entry)) at ⌝ }
+{
+    let r = u32_at(src, at);
+    let U32Read::Took { value: v, next: n } = r else {
+        return BoolRead::Refused(r.refusal());
+    };
+    BoolRead::Took {
+        value: v != 0,
+        next: n,
+        plain: v < 2,
+    }
+}
+
+// Eight fixed bytes, as the number that they write.
+pub fn eight_at(src: &[u8], at: usize) -> U64Read
+    ensures { λ r. ⌜ viewU64 r ≡ eightHeld .read (now (src .entry)) at ⌝ }
+{
+    u64_at(src, at)
+}
+
+// Whether the low k bytes of a word are zero.
+fn low_zeros(w: u32, k: usize) -> bool
+    ensures { λ r. ⌜ r ≡ lastZeros w k ⌝ }
+{
+    match k {
+        0 => true,
+        1 => w % 256 == 0,
+        2 => w % 65536 == 0,
+        _ => w % 16777216 == 0,
+    }
+}
+
+// The n bytes of content and their pad, of an opaque that begins at a place that has its length word. The pad is the end of a word.
+fn body_at(src: &[u8], at: usize, n: u32) -> PieceRead
+    requires { ⌜ at + 4 ≤ length (now src) ⌝ }
+    ensures { λ r. ⌜ viewPiece r ≡ pieceAnswer (now (src .entry)) at n ⌝ }
+{
+    let n = n as usize;
+    let m = (n + 3) / 4 * 4;
+    if src.len() - at - 4 < m {
+        return PieceRead::Refused(Refusal::Ended(at));
+    }
+    let w = word_here(src, at + m);
+    PieceRead::Took {
+        value: Piece {
+            at: at + 4,
+            count: n,
+        },
+        next: at + 4 + m,
+        plain: low_zeros(w, m - n),
+    }
+}
+
+pub fn opaque_at(src: &[u8], at: usize) -> PieceRead
+    ensures { λ r. ⌜ viewPiece r ≡ pieceHeld .read (now (src .entry)) at ⌝ }
+{
+    let r = u32_at(src, at);
+    let U32Read::Took { value: n, next: _ } = r else {
+        return PieceRead::Refused(r.refusal());
+    };
+    body_at(src, at, n)
+}
+
+// A list of words: its count, then as many words.
+pub fn words_at(src: &[u8], at: usize) -> PieceRead
+    ensures { λ r. ⌜ viewPiece r ≡ wordsHeld .read (now (src .entry)) at ⌝ }
+{
+    let r = u32_at(src, at);
+    let U32Read::Took { value: n, next: p } = r else {
+        return PieceRead::Refused(r.refusal());
+    };
+    let n = n as usize;
+    if src.len() - p < n * 4 {
+        return PieceRead::Refused(Refusal::Ended(at));
+    }
+    PieceRead::Took {
+        value: Piece { at: p, count: n },
+        next: p + n * 4,
+        plain: true,
+    }
+}
+
+// A word at the front of a buffer, which is left as it was where it has no four bytes.
+pub fn put_u32(v: u32, out: &mut [u8])
+    ensures { λ _. ⌜ now (out .exit) ≡ laid (word .kind .write v) (now (out .entry)) ⌝ }
+{
+    if out.len() < 4 {
+        return;
+    }
+    let s = swap(v);
+    out[0] = (s % 256) as u8;
+    out[1] = (s / 256 % 256) as u8;
+    out[2] = (s / 65536 % 256) as u8;
+    out[3] = (s / 16777216) as u8;
+}
+
+pub fn put_u64(v: u64, out: &mut [u8])
+    ensures { λ _. ⌜ now (out .exit) ≡ laid (hyper .kind .write v) (now (out .entry)) ⌝ }
+{
+    if out.len() < 8 {
+        return;
+    }
+    put_u32((v / 4294967296) as u32, &mut out[0..]);
+    put_u32((v % 4294967296) as u32, &mut out[4..]);
+}
+
+pub fn put_i32(v: i32, out: &mut [u8])
+    ensures { λ _. ⌜ now (out .exit) ≡ laid (int .kind .write v) (now (out .entry)) ⌝ }
+{
+    put_u32(unsigned32(v), out);
+}
+
+pub fn put_i64(v: i64, out: &mut [u8])
+    ensures { λ _. ⌜ now (out .exit) ≡ laid (long .kind .write v) (now (out .entry)) ⌝ }
+{
+    put_u64(unsigned64(v), out);
+}
+
+pub fn put_bool(v: bool, out: &mut [u8])
+    ensures { λ _. ⌜ now (out .exit) ≡ laid (flag .kind .write v) (now (out .entry)) ⌝ }
+{
+    if v {
+        put_u32(1, out);
+    } else {
+        put_u32(0, out);
+    }
+}
+
+// How many bytes an opaque of n bytes takes; 0 where n is over the limit.
+pub fn opaque_size(n: usize) -> usize
+    ensures { λ r. ⌜ r ≡ sizeUpTo n ⌝ }
+{
+    if 1048576 < n {
+        return 0;
+    }
+    4 + (n + 3) / 4 * 4
+}
+
+// An opaque at the front of a buffer that has room. The last word is zeroed first, so that what the bytes leave of it is the pad.
+fn lay_opaque(body: &[u8], out: &mut [u8])
+    requires { ⌜ length (now body) ≤ 1048576 ⌝ }
+    requires { ⌜ opaqueSize (length (now body)) ≤ length (now out) ⌝ }
+    ensures { λ _. ⌜ Put (now (out .entry)) (now (out .exit)) (opaqueSize (length (now (body .entry)))) (opaque .kind .write (now (body .entry))) ⌝ }
+{
+    let n = body.len();
+    let m = (n + 3) / 4 * 4;
+    put_u32(0, &mut out[m..]);
+    put_u32(n as u32, &mut out[0..]);
+    bytes::copy(body, &mut out[4..]);
+}
+
+// An opaque, whose bytes are a piece of a source, at the front of a buffer, which is left as it was where the source is too long, the piece
+// lies outside it, or there is no room.
+pub fn put_opaque(src: &[u8], x: Piece, out: &mut [u8])
+    ensures { λ _. ⌜ now (out .exit) ≡ laidOf bytes (now (src .entry)) x (now (out .entry)) ⌝ }
+{
+    if 1048576 < src.len() {
+        return;
+    }
+    if !inside(src, x) {
+        return;
+    }
+    let from = x.at;
+    let n = x.count;
+    if out.len() < 4 + (n + 3) / 4 * 4 {
+        return;
+    }
+    let to = from + n;
+    lay_opaque(&src[from..to], out);
+}
+
+// A word list at the front of a buffer that has room: its count, then the words as they stand in the source.
+fn lay_words(body: &[u8], n: usize, out: &mut [u8])
+    requires { ⌜ n ≤ 1048576 ⌝ }
+    requires { ⌜ 4 + length (now body) ≤ length (now out) ⌝ }
+    ensures { λ _. ⌜ Put (now (out .entry)) (now (out .exit)) (4 + length (now (body .entry))) (word .kind .write n ++ now (body .entry)) ⌝ }
+{
+    put_u32(n as u32, &mut out[0..]);
+    bytes::copy(body, &mut out[4..]);
+}
+
+pub fn put_words(src: &[u8], x: Piece, out: &mut [u8])
+    ensures { λ _. ⌜ now (out .exit) ≡ laidOf wordList (now (src .entry)) x (now (out .entry)) ⌝ }
+{
+    if 1048576 < src.len() {
+        return;
+    }
+    if !words_inside(src, x) {
+        return;
+    }
+    let from = x.at;
+    let n = x.count;
+    if out.len() < 4 + n * 4 {
+        return;
+    }
+    let to = from + n * 4;
+    lay_words(&src[from..to], n, out);
+}

@@ -1,0 +1,98 @@
+// Pieces: what is held of the bytes inside a message.
+ghost use mathlib.Core.Path.{_≡_};
+ghost use Rattle.xdr.specs.Meaning.Pieces.{partOf, isInside, wordsPartOf, areInside, wordOf};
+ghost use Rattle.xdr.specs.Meaning.Views.{viewWord};
+use crate::number::word_here;
+
+// A part of a message: the place of its first byte, and how many bytes it has, or words where it is a word list.
+pub struct Piece {
+    pub at: usize,
+    pub count: usize,
+}
+
+// A word of a word list, where there is one.
+pub enum WordFound {
+    None,
+    Word(u32),
+}
+
+// Whether a piece lies inside a message, for every place and count.
+pub fn inside(src: &[u8], x: Piece) -> bool
+    ensures { λ r. ⌜ r ≡ isInside (now (src .entry)) x ⌝ }
+{
+    let at = x.at;
+    let n = x.count;
+    if src.len() < n {
+        return false;
+    }
+    if src.len() - n < at {
+        return false;
+    }
+    true
+}
+
+// The part of a message that a piece is: the empty part at the start where it does not lie inside.
+pub fn part(src: &[u8], x: Piece) -> &[u8]
+    ensures { λ r. ⌜ now r ≡ partOf (now (src .entry)) x ⌝ }
+{
+    let at = x.at;
+    let n = x.count;
+    if src.len() < n {
+        return &src[..0];
+    }
+    if src.len() - n < at {
+        return &src[..0];
+    }
+    let end = at + n;
+    &src[at..end]
+}
+
+// Whether a word list's piece lies inside a message.
+pub fn words_inside(src: &[u8], x: Piece) -> bool
+    ensures { λ r. ⌜ r ≡ areInside (now (src .entry)) x ⌝ }
+{
+    let at = x.at;
+    let n = x.count;
+    if src.len() / 4 < n {
+        return false;
+    }
+    if src.len() - n * 4 < at {
+        return false;
+    }
+    true
+}
+
+// The bytes of a word list's piece.
+pub fn words_part(src: &[u8], x: Piece) -> &[u8]
+    ensures { λ r. ⌜ now r ≡ wordsPartOf (now (src .entry)) x ⌝ }
+{
+    let at = x.at;
+    let n = x.count;
+    if src.len() / 4 < n {
+        return &src[..0];
+    }
+    if src.len() - n * 4 < at {
+        return &src[..0];
+    }
+    let end = at + n * 4;
+    &src[at..end]
+}
+
+// The i-th word of a word list, counted from 0: none where the list does not lie inside, or has no such word.
+pub fn word_of(src: &[u8], x: Piece, i: usize) -> WordFound
+    ensures { λ r. ⌜ viewWord r ≡ wordOf (now (src .entry)) x i ⌝ }
+{
+    let at = x.at;
+    let n = x.count;
+    if src.len() / 4 < n {
+        return WordFound::None;
+    }
+    if src.len() - n * 4 < at {
+        return WordFound::None;
+    }
+    if n <= i {
+        return WordFound::None;
+    }
+    let q = at + i * 4;
+    WordFound::Word(word_here(src, q))
+}
