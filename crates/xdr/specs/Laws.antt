@@ -10,6 +10,7 @@ pub mod Promise
 pub mod Exact
 pub mod Made
 pub mod Items
+pub mod Forms
 pub mod Held
 pub mod Reading
 pub mod Pieces
@@ -23,3 +24,5 @@ pub mod Lay
 pub mod LayPieces
 pub mod Signed
 pub mod Answers
+pub mod One
+pub mod Kept

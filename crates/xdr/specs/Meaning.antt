@@ -6,6 +6,7 @@ pub mod Promise
 pub mod Combinators
 pub mod Codecs
 pub mod Items
+pub mod Forms
 pub mod Held
 pub mod Format
 pub mod Pieces

@@ -1,0 +1,45 @@
+-- What copying a message is: the public reading of a format, and the public writing of what it took.
+-- Assumes nothing.
+use mathlib.Core.Path.{_≡_}
+use mathlib.Core.Bool.{Bool}
+use mathlib.Core.List.{List}
+use Prim.Native.Nat.{ℕ}
+use lib.ListN.{length}
+use Rattle.xdr.specs.Meaning.Answer.{Answer, took, refused, opened, Written, done, unwritten}
+use Rattle.xdr.specs.Meaning.Format.{Format}
+use Rattle.xdr.specs.Meaning.Public.{writing, leaving}
+use Rattle.xdr.specs.Meaning.Views.{numberOf, placeOf}
+use Rattle.door.specs.declared.copy.Copied.{Copied}
+use Rattle.door.specs.declared.copy.Copied.the-variants.{Unknown, Unread, Unwritten, Done}
+
+-- what is said: no such kind; the reading's refusal by number and place; the writing's refusal by number; or the three figures
+pub data Copy : Type 0 where
+  unknown : Copy
+  unread : ℕ → ℕ → Copy
+  unmade : ℕ → Copy
+  made : ℕ → Bool → ℕ → Copy
+
+abbrev pub viewCopied : Copied → Copy
+viewCopied Unknown = unknown
+viewCopied (Unread r) = unread (numberOf r) (placeOf r)
+viewCopied (Unwritten r) = unmade (numberOf r)
+viewCopied (Done n b e) = made n b e
+
+module _ {M S : Type 0} (F : Format M S) (s : List ℕ) (start : ℕ) (o : List ℕ) where
+  abbrev pub saidOf : ℕ → Bool → Written → Copy
+  saidOf n b (done e) = made n b e
+  saidOf n b (unwritten r) = unmade r
+
+  -- what is said of a reading, and what the other buffer then holds
+  abbrev pub copySaid : Answer S → Copy
+  copySaid (took x n b) = saidOf n b (writing F s x start (length o))
+  copySaid (refused r q) = unread r q
+
+  abbrev pub copyLeft : Answer S → List ℕ
+  copyLeft (took x n b) = leaving F s x (writing F s x start (length o)) start o
+  copyLeft (refused r q) = o
+
+-- the message of format F at a place of s, copied to a place of o: the answer, and the buffer o′ that is left of o
+pub record Copies {M S : Type 0} (F : Format M S) (s : List ℕ) (at start : ℕ) (o : List ℕ) (c : Copy) (o′ : List ℕ) : Type 0 where
+  pub says : c ≡ copySaid F s start o (opened s at (F .held .read s at))
+  pub leaves : o′ ≡ copyLeft F s start o (opened s at (F .held .read s at))

@@ -1,0 +1,7 @@
+// The door: every kind of message by its number, read and written anew in published form.
+pub mod copy;
+mod items;
+mod kinds;
+
+pub use copy::Copied;
+pub use kinds::copy_kind;

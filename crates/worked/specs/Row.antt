@@ -1,0 +1,23 @@
+-- What a worked case of document 01 says.
+-- Assumes nothing.
+use mathlib.Core.Path.{_≡_}
+use mathlib.Core.List.{List, [], _∷_}
+use Prim.Native.Nat.{ℕ}
+use Rattle.xdr.specs.Meaning.Answer.{Answer, took, refused, opened}
+use Rattle.xdr.specs.Meaning.Format.{Format}
+
+-- the bytes that what was read is written as; none for a refusal
+abbrev pub rewritten : {M S : Type 0} → Format M S → Answer M → List ℕ
+rewritten F (took m n b) = F .codec .kind .write m
+rewritten F (refused r q) = []
+
+pub data Row : Type 1 where
+  -- bytes read from place 0: the answer, and the rewriting
+  reading : {M S : Type 0} → Format M S → List ℕ → Answer M → List ℕ → Row
+
+abbrev pub Right : Row → Type 0
+Right (reading F s a w) = (opened s 0 (F .codec .kind .read s 0) ≡ a) × (rewritten F a ≡ w)
+
+abbrev pub All : List Row → Type 0
+All [] = Unit {0}
+All (r ∷ rows) = Right r × All rows

@@ -1,0 +1,49 @@
+-- The forms of the items, drawn as in RFC 4506 with document 01's tolerances. Laws.Forms shows that the kinds of `Items` have these forms.
+-- Assumes nothing.
+use mathlib.Core.Path.{_≡_}
+use mathlib.Core.Bool.{Bool, not, cond}
+use mathlib.Core.List.{List, [], _∷_, _++_}
+use Prim.Native.Nat.{ℕ, _^_, _<_}
+use lib.Dec.{eqb, leb}
+use lib.ListN.{length}
+use Rattle.xdr.specs.Meaning.Bytes.{Bytes, digits, padding, zeros}
+use Rattle.xdr.specs.Meaning.Answer.{Loose, odd-flag, dirty-pad}
+
+-- a number of k bytes has one form, and nothing in it is loose
+pub record NumberForm (k n : ℕ) (w : List Loose) (e : List ℕ) : Type 0 where
+  pub loose : w ≡ []
+  pub range : n < 256 ^ k
+  pub bytes : e ≡ digits k n
+
+-- a flag is a word: true if it is not 0, and loose if it is above 1
+pub record FlagForm (b : Bool) (w : List Loose) (e : List ℕ) : Type 0 where
+  pub number : ℕ
+  pub range : number < 256 ^ 4
+  pub bytes : e ≡ digits 4 number
+  pub value : b ≡ not (eqb number 0)
+  pub loose : w ≡ cond (leb number 1) [] (odd-flag ∷ [])
+
+-- opaque bytes are their number, they themselves and padding to a multiple of four, which is loose if it is not all zero
+pub record OpaqueForm (l : List ℕ) (w : List Loose) (e : List ℕ) : Type 0 where
+  pub pad : List ℕ
+  pub range : length l < 256 ^ 4
+  pub all : Bytes l
+  pub pad-size : length pad ≡ padding (length l)
+  pub pad-bytes : Bytes pad
+  pub bytes : e ≡ digits 4 (length l) ++ (l ++ pad)
+  pub loose : w ≡ cond (zeros pad) [] (dirty-pad ∷ [])
+
+-- a word list is the number of its words and they themselves, and nothing in it is loose
+abbrev pub allDigits : List ℕ → List ℕ
+allDigits [] = []
+allDigits (x ∷ l) = digits 4 x ++ allDigits l
+
+abbrev pub AllWords : List ℕ → Type 0
+AllWords [] = Unit {0}
+AllWords (x ∷ l) = (x < 256 ^ 4) × AllWords l
+
+pub record WordsForm (l : List ℕ) (w : List Loose) (e : List ℕ) : Type 0 where
+  pub loose : w ≡ []
+  pub range : length l < 256 ^ 4
+  pub all : AllWords l
+  pub bytes : e ≡ digits 4 (length l) ++ allDigits l
