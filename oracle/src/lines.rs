@@ -1,0 +1,103 @@
+//! The lines of VECTORS.md: cases and answers as text.
+use std::fmt::Write;
+
+use crate::answers::{Choice, Fed, Refusal, State, Took};
+use crate::cases::Case;
+use crate::shapes::KINDS;
+
+/// The longest line that is read.
+pub const LONGEST: usize = 65_536;
+
+/// Bytes in hex, `-` for none.
+pub fn hex(bytes: &[u8]) -> String {
+    if bytes.is_empty() {
+        return String::from("-");
+    }
+    let mut text = String::with_capacity(2 * bytes.len());
+    for byte in bytes {
+        write!(text, "{byte:02x}").expect("a string can be written");
+    }
+    text
+}
+
+pub fn refusal(refusal: &Refusal) -> String {
+    match refusal.has_place() {
+        true => format!("refused {} {}", refusal.number, refusal.place),
+        false => format!("refused {}", refusal.number),
+    }
+}
+
+pub fn reading(answer: &Result<Took, Refusal>, rewriting: &[u8]) -> String {
+    match answer {
+        Ok(took) => format!("took {} {} {}", took.next, if took.plain { "plain" } else { "loose" }, hex(rewriting)),
+        Err(refused) => refusal(refused),
+    }
+}
+
+/// The choice, with the output buffer as it then is.
+pub fn choice(choice: &Choice, out: &[u8]) -> String {
+    let text = match choice {
+        Choice::HandOver { program, version, procedure, arguments, auth_unix } => {
+            let auth_unix = auth_unix.map_or(String::from("none"), |a| {
+                let (name, gids) = (a.name, a.gids);
+                format!("unix {} {} {} {} {} {} {}", a.stamp, name.place, name.count, a.uid, a.gid, gids.place, gids.count)
+            });
+            format!("handover {program} {version} {procedure} {arguments} {auth_unix}")
+        },
+        Choice::Reply => String::from("reply 24"),
+        Choice::Silence => String::from("silence"),
+        Choice::Refused(refused) => refusal(refused),
+    };
+    format!("{text} {}", hex(out))
+}
+
+/// A feed's answer; `record` is given where a complete record is shown.
+pub fn fed(fed: &Fed, record: Option<&[u8]>) -> String {
+    match fed {
+        Fed::More { used } => format!("more {used}"),
+        Fed::Refused { number, used } => format!("refused {number} {used}"),
+        Fed::Complete { length, used } => match record {
+            Some(record) => format!("complete {length} {used} {}", hex(record)),
+            None => format!("complete {length} {used}"),
+        },
+    }
+}
+
+/// What a line about the assembler ends with.
+pub fn state_and_buffer(state: &State, record: &[u8]) -> String {
+    let State { capacity, placed, count, value, left, last, stopped } = state;
+    let (last, stopped) = (u8::from(*last), u8::from(*stopped));
+    format!("; state {capacity} {placed} {count} {value} {left} {last} {stopped}; buffer {}", hex(record))
+}
+
+/// What a writing into a buffer answers.
+pub fn wrote(answer: Result<usize, u32>, out: &[u8]) -> String {
+    match answer {
+        Ok(next) => format!("wrote {next} {}", hex(out)),
+        Err(number) => format!("refused {number} {}", hex(out)),
+    }
+}
+
+impl Case {
+    /// The line by which the program `answers` can be asked the same.
+    pub fn line(&self) -> String {
+        match self {
+            Case::Read { kind, at, message, .. } => format!("read {} {at} {}", KINDS[*kind].0, hex(message)),
+            Case::Choose { seen, room, message } => format!("choose {} {room} {}", u8::from(*seen), hex(message)),
+            Case::Feed { capacity, runs } => {
+                let mut line = format!("feed {capacity}");
+                for run in runs.iter().filter(|run| !run.is_empty()) {
+                    line += " ";
+                    line += &hex(run);
+                }
+                line
+            },
+            Case::State { state, length, run } => {
+                let State { capacity, placed, count, value, left, last, stopped } = state;
+                let (last, stopped) = (u8::from(*last), u8::from(*stopped));
+                format!("state {capacity} {placed} {count} {value} {left} {last} {stopped} {length} {}", hex(run))
+            },
+            Case::Fragment { message, room, start } => format!("fragment {} {room} {start}", hex(message)),
+        }
+    }
+}

@@ -1,0 +1,244 @@
+//! A chosen list of lines: some of every kind and of every sort of line, each answer and each limit among them.
+use std::collections::HashSet;
+
+use crate::answers::State;
+use crate::cases::{append_call, append_message, cuts, damage, state, stream, Case, Room, Style};
+use crate::lines::hex;
+use crate::random::Random;
+use crate::shapes::{Shape, KINDS};
+
+/// The list is the same each time.
+const SEED: u64 = 4506;
+
+/// Most messages of the list are short, so that a person can read them.
+const SHORT: usize = 160;
+
+/// All lines, none of them twice.
+pub fn lines() -> Vec<String> {
+    let random = &mut Random::of(SEED, 0);
+    let mut list: Vec<String> = WORKED.iter().chain(ODD_LINES).map(|line| String::from(*line)).collect();
+    for kind in 0..KINDS.len() {
+        readings(random, kind, &mut list);
+        writings(random, kind, &mut list);
+    }
+    lengths(&mut list);
+    choices(random, &mut list);
+    streams(random, &mut list);
+    pieces(random, &mut list);
+    let mut met = HashSet::new();
+    list.retain(|line| met.insert(line.clone()));
+    list
+}
+
+/// The worked bytes of document 01, and what it names as traps.
+const WORKED: &[&str] = &[
+    "read bool 0 00000100",
+    "read opaque 0 0000000568656C6C6F000000",
+    "read opaque 0 0000000568656C6C6F000001",
+    "read opaque 0 00000000",
+    "read opaque 0 00000001AA0000",
+    "read i32 0 FFFFFFFF",
+    "read i32 0 80000000",
+    "read set_atime 0 00000003",
+    "read sattr3 0 000000000000000000000000FFFFFFFF00000000000000000000000000000000",
+    "read rpc_msg 0 0000002A00000002",
+    "read rpc_msg 0 0000002A0000000100000000000000000000000000000005",
+    "read rpc_msg 0 0000002A0000000100000002",
+    "read rpc_msg 0 0000002A000000010000000100000002",
+    "read rpc_msg 0 0000002A00000001000000010000000100000006",
+    "write bool 0 00000100 6 1",
+    "feed 10 0000000080000002ABCD",
+    "feed 10 0000000080000002ABCD80000000",
+    "feed 0 80000000",
+    "feed 3 80000004",
+    "feed 4 80000004",
+    "feed 1048577 00",
+    "choose 0 24 0000002A00000002",
+    "choose 0 23 0000002A00000002",
+    "choose 1 24 0000002A00000002",
+    "choose 0 24 0000002A0000000100000000000000000000000000000000",
+    // rpcvers 3 with a credential that is cut short: the credential comes first.
+    "choose 0 24 0000002A0000000000000003000186A3000000030000000000000001000000000000000000000000",
+    "choose 0 24 0000002A0000000000000002000186A3000000030000000000000000000000000000000000000000",
+    "choose 1 24 0000002A0000000000000002000186A3000000030000000000000000000000000000000000000000",
+    "choose 0 0 0000002A0000000000000002000186A3000000030000000000000000000000000000000000000000",
+    "part 0011223344 1 3",
+    "part 0011223344 3 3",
+];
+
+/// Lines that have not the form of any.
+const ODD_LINES: &[&str] = &[
+    "?",
+    "read",
+    "read bool 0",
+    "read bool 0 0000000",
+    "read bool 0 0000000g",
+    "read bool -1 00000000",
+    "read bool 18446744073709551616 00000000",
+    "read bool x 00000000",
+    "read Bool 0 00000000",
+    "read boolean 0 00000000",
+    "read  bool 0 00000000",
+    "read bool 0 00000000 ",
+    "reads bool 0 00000000",
+    "write bool 0 00000000 4",
+    "fragment abcd 6",
+    "choose 2 24 0000002a00000002",
+    "state 0 0 0 0 0 2 0 0 -",
+    "part 00 0",
+];
+
+fn made(random: &mut Random, kind: usize, style: Style) -> Vec<u8> {
+    loop {
+        let mut bytes = Vec::new();
+        append_message(random, &KINDS[kind].1, style, &mut bytes, &mut Vec::new());
+        if bytes.len() <= SHORT {
+            return bytes;
+        }
+    }
+}
+
+fn read_line(kind: usize, at: usize, message: &[u8]) -> String {
+    Case::Read { kind, at, message: message.to_vec(), room: Room::Ample }.line()
+}
+
+fn readings(random: &mut Random, kind: usize, list: &mut Vec<String>) {
+    for style in [Style::Plain, Style::Loose] {
+        for _ in 0..4 {
+            list.push(read_line(kind, 0, &made(random, kind, style)));
+        }
+        let mut behind = vec![0xA5; random.between(1, 9)];
+        let at = behind.len();
+        behind.extend(made(random, kind, style));
+        list.push(read_line(kind, at, &behind));
+        behind.extend([0x5A; 3]);
+        list.push(read_line(kind, at, &behind));
+        list.push(read_line(kind, behind.len(), &behind));
+        list.push(read_line(kind, behind.len() + 1, &behind));
+    }
+    let whole = made(random, kind, Style::Loose);
+    let step = whole.len().div_ceil(14).max(1);
+    for end in (0..whole.len()).step_by(step) {
+        list.push(read_line(kind, 0, &whole[..end]));
+    }
+    list.push(read_line(kind, 0, &whole[..whole.len() - 1]));
+    for _ in 0..14 {
+        let (mut bytes, mut words) = (Vec::new(), Vec::new());
+        let style = Style::any(random);
+        append_message(random, &KINDS[kind].1, style, &mut bytes, &mut words);
+        damage(random, 0, &mut bytes, &mut words);
+        bytes.truncate(2 * SHORT);
+        list.push(read_line(kind, 0, &bytes));
+    }
+    if let Shape::Closed(declared) = KINDS[kind].1 {
+        // Every number that is declared, those beside it, and the sign bit.
+        for number in declared.iter().flat_map(|n| [n.wrapping_sub(1), *n, n + 1, n | 1 << 31]) {
+            list.push(read_line(kind, 0, &number.to_be_bytes()));
+        }
+    }
+}
+
+fn writings(random: &mut Random, kind: usize, list: &mut Vec<String>) {
+    let source = made(random, kind, Style::Loose);
+    let mut line = |room: usize, start: usize| {
+        list.push(format!("write {} 0 {} {room} {start}", KINDS[kind].0, hex(&source)));
+    };
+    let enough = source.len().max(40);
+    line(enough, 0);
+    line(enough + 6, 3);
+    line(source.len().saturating_sub(1), 0);
+    line(source.len(), 1);
+    line(5, 5);
+    line(5, 6);
+}
+
+/// Lengths and counts about the bounds of the RFCs, about 2^31 and 2^32, and one as long as a line allows.
+fn lengths(list: &mut Vec<String>) {
+    let bodies: [(&str, &[usize]); 3] = [
+        ("opaque", &[3, 4, 5, 255, 256, 399, 400, 401, 32_000]),
+        ("nfs_fh3", &[63, 64, 65]),
+        ("words", &[15, 16, 17, 8_000]),
+    ];
+    for (name, lengths) in bodies {
+        for length in lengths {
+            let bytes = if name == "words" { 4 * length } else { length.next_multiple_of(4) };
+            let content = "5a".repeat(bytes);
+            list.push(format!("read {name} 0 {length:08x}{content}"));
+            list.push(format!("read {name} 0 {length:08x}{}", &content[2..]));
+        }
+    }
+    for name in ["opaque", "nfsstring", "nfs_fh3", "words", "diropargs3"] {
+        for length in
+            [0x3FFF_FFFF_u32, 0x4000_0000, 0x7FFF_FFFF, 0x8000_0000, 0xFFFF_FFFB, 0xFFFF_FFFC, 0xFFFF_FFFD, u32::MAX]
+        {
+            list.push(format!("read {name} 0 {length:08x}"));
+            list.push(format!("read {name} 2 abcd{length:08x}00000000"));
+        }
+    }
+}
+
+fn choices(random: &mut Random, list: &mut Vec<String>) {
+    let mut left = 420;
+    while left > 0 {
+        let (mut bytes, mut words) = (Vec::new(), Vec::new());
+        append_call(random, &mut bytes, &mut words);
+        if random.once_in(3) {
+            damage(random, 0, &mut bytes, &mut words);
+        }
+        if bytes.len() > 2 * SHORT {
+            continue;
+        }
+        left -= 1;
+        let room = if random.once_in(3) { random.below(40) } else { 24 };
+        list.push(Case::Choose { seen: random.once_in(4), room, message: bytes }.line());
+    }
+}
+
+fn streams(random: &mut Random, list: &mut Vec<String>) {
+    let mut left = 300;
+    while left > 0 {
+        let (bytes, capacity) = stream(random);
+        if bytes.is_empty() || bytes.len() > SHORT || capacity > SHORT {
+            continue;
+        }
+        left -= 1;
+        list.push(Case::Feed { capacity, runs: cuts(random, &bytes) }.line());
+    }
+    let mut left = 200;
+    while left > 0 {
+        let case = state(random);
+        // The header's count and value are kept to what a word can hold.
+        if let Case::State { state: State { count, value, .. }, length, .. } = &case {
+            if *count <= u64::from(u32::MAX) && *value <= u64::from(u32::MAX) && *length <= SHORT {
+                left -= 1;
+                list.push(case.line());
+            }
+        }
+    }
+    for length in [0, 1, 2, 3, 4, 5, 17, 255, 256] {
+        let mut message = Vec::new();
+        random.append(length, &mut message);
+        for (room, start) in
+            [(length + 4, 0), (length + 9, 3), (length + 3, 0), (length + 6, 3), (3, 3), (3, 4), (0, 0), (0, 1)]
+        {
+            list.push(Case::Fragment { message: message.clone(), room, start }.line());
+        }
+    }
+}
+
+fn pieces(random: &mut Random, list: &mut Vec<String>) {
+    for length in [0, 1, 8, 21] {
+        let mut bytes = Vec::new();
+        random.append(length, &mut bytes);
+        let text = hex(&bytes);
+        for place in [0, 1, length / 2, length, length + 1, usize::MAX] {
+            let rest = length.saturating_sub(place);
+            for count in [0, 1, rest, rest + 1, usize::MAX] {
+                list.push(format!("part {text} {place} {count}"));
+            }
+            for count in [0, 1, rest / 4, rest / 4 + 1, 1 << 62, usize::MAX] {
+                list.push(format!("words {text} {place} {count}"));
+            }
+        }
+    }
+}

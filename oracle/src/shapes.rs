@@ -1,0 +1,130 @@
+//! The kinds of message, as document 01 and the RFCs lay them out. The model reads by these shapes, and the cases are
+//! made by them. They are written from the documents and not from the crate, so that a misreading of either shows.
+
+/// How a message is laid out.
+pub enum Shape {
+    /// Four bytes.
+    Word,
+    /// Eight bytes, a number.
+    Hyper,
+    /// Eight bytes, no number.
+    Eight,
+    /// A word; every number but 0 is true.
+    Flag,
+    /// A length word, so many bytes, and padding to a multiple of four.
+    Opaque,
+    /// A count word, and so many words.
+    WordList,
+    /// A word, with the numbers it may be.
+    Closed(&'static [u32]),
+    /// One after another.
+    Record(&'static [&'static Shape]),
+    /// A flag, then the value if it is true.
+    Optional(&'static Shape),
+    /// A tag, then the value of its arm.
+    Union { arms: &'static [(u32, &'static Shape)], undeclared: Undeclared },
+}
+
+/// What a tag without an arm is.
+pub enum Undeclared {
+    /// Refusal 2.
+    Refused,
+    /// A message that is written as these words; nothing more is read.
+    WrittenAs(&'static [u32]),
+}
+
+use Shape::{Closed, Eight, Flag, Hyper, Opaque, Optional, Record, Union, Word, WordList};
+
+const TWO: &[u32] = &[0, 1];
+const NFSSTAT3: &[u32] = &[
+    0, 1, 2, 5, 6, 13, 17, 18, 19, 20, 21, 22, 27, 28, 30, 31, 63, 66, 69, 70, 71, 10001, 10002, 10003, 10004, 10005, 10006,
+    10007, 10008,
+];
+
+const NOTHING: Shape = Record(&[]);
+const AUTH_STAT: Shape = Closed(&[1, 2, 3, 4, 5]);
+const AUTH_FLAVOR: Shape = Closed(&[0, 1, 2, 3]);
+const FTYPE3: Shape = Closed(&[1, 2, 3, 4, 5, 6, 7]);
+pub const AUTH_UNIX: Shape = Record(&[&Word, &Opaque, &Word, &Word, &WordList]);
+const OPAQUE_AUTH: Shape = Record(&[&AUTH_FLAVOR, &Opaque]);
+const CALL_BODY: Shape = Record(&[&Word, &Word, &Word, &Word, &OPAQUE_AUTH, &OPAQUE_AUTH]);
+const TWO_WORDS: Shape = Record(&[&Word, &Word]);
+const ACCEPT_BODY: Shape = Union {
+    arms: &[(0, &NOTHING), (1, &NOTHING), (2, &TWO_WORDS), (3, &NOTHING), (4, &NOTHING)],
+    undeclared: Undeclared::WrittenAs(&[4]),
+};
+const ACCEPTED_REPLY: Shape = Record(&[&OPAQUE_AUTH, &ACCEPT_BODY]);
+const REJECTED_REPLY: Shape =
+    Union { arms: &[(0, &TWO_WORDS), (1, &AUTH_STAT)], undeclared: Undeclared::WrittenAs(&[0, 0, 0]) };
+const REPLY_BODY: Shape =
+    Union { arms: &[(0, &ACCEPTED_REPLY), (1, &REJECTED_REPLY)], undeclared: Undeclared::WrittenAs(&[0, 0, 0, 0]) };
+const RPC_BODY: Shape =
+    Union { arms: &[(0, &CALL_BODY), (1, &REPLY_BODY)], undeclared: Undeclared::WrittenAs(&[0, 0, 0, 0, 0, 0, 0, 0, 0]) };
+pub const RPC_MSG: Shape = Record(&[&Word, &RPC_BODY]);
+const FATTR3: Shape = Record(&[
+    &FTYPE3, &Word, &Word, &Word, &Word, &Hyper, &Hyper, &TWO_WORDS, &Hyper, &Hyper, &TWO_WORDS, &TWO_WORDS, &TWO_WORDS,
+]);
+const WCC_ATTR: Shape = Record(&[&Hyper, &TWO_WORDS, &TWO_WORDS]);
+const PRE_OP_ATTR: Shape = Optional(&WCC_ATTR);
+const POST_OP_ATTR: Shape = Optional(&FATTR3);
+const FSINFO3: Shape = Record(&[&POST_OP_ATTR, &Word, &Word, &Word, &Word, &Word, &Word, &Word, &Hyper, &TWO_WORDS, &Word]);
+const SET_WORD: Shape = Optional(&Word);
+const SET_SIZE3: Shape = Optional(&Hyper);
+const SET_TIME: Shape = Union { arms: &[(0, &NOTHING), (1, &NOTHING), (2, &TWO_WORDS)], undeclared: Undeclared::Refused };
+const SATTR3: Shape = Record(&[&SET_WORD, &SET_WORD, &SET_WORD, &SET_SIZE3, &SET_TIME, &SET_TIME]);
+
+/// The kinds in the order of VECTORS.md; a kind's number is its index.
+pub static KINDS: [(&str, Shape); 47] = [
+    ("bool", Flag),
+    ("i32", Word),
+    ("i64", Hyper),
+    ("u32", Word),
+    ("u64", Hyper),
+    ("eight", Eight),
+    ("opaque", Opaque),
+    ("nfsstring", Opaque),
+    ("words", WordList),
+    ("msg_type", Closed(TWO)),
+    ("reply_stat", Closed(TWO)),
+    ("accept_stat", Closed(&[0, 1, 2, 3, 4])),
+    ("reject_stat", Closed(TWO)),
+    ("auth_stat", AUTH_STAT),
+    ("auth_flavor", AUTH_FLAVOR),
+    ("time_how", Closed(&[0, 1, 2])),
+    ("nfsstat3", Closed(NFSSTAT3)),
+    ("ftype3", FTYPE3),
+    ("auth_unix", AUTH_UNIX),
+    ("opaque_auth", OPAQUE_AUTH),
+    ("rpc_msg", RPC_MSG),
+    ("rpc_body", RPC_BODY),
+    ("call_body", CALL_BODY),
+    ("reply_body", REPLY_BODY),
+    ("accepted_reply", ACCEPTED_REPLY),
+    ("accept_body", ACCEPT_BODY),
+    ("rejected_reply", REJECTED_REPLY),
+    ("mismatch_info", TWO_WORDS),
+    ("specdata3", TWO_WORDS),
+    ("nfs_fh3", Opaque),
+    ("nfstime3", TWO_WORDS),
+    ("fattr3", FATTR3),
+    ("fsinfo3", FSINFO3),
+    ("wcc_attr", WCC_ATTR),
+    ("pre_op_attr", PRE_OP_ATTR),
+    ("post_op_attr", POST_OP_ATTR),
+    ("wcc_data", Record(&[&PRE_OP_ATTR, &POST_OP_ATTR])),
+    ("post_op_fh3", Optional(&Opaque)),
+    ("set_mode3", SET_WORD),
+    ("set_uid3", SET_WORD),
+    ("set_gid3", SET_WORD),
+    ("set_size3", SET_SIZE3),
+    ("set_atime", SET_TIME),
+    ("set_mtime", SET_TIME),
+    ("sattr3", SATTR3),
+    ("diropargs3", Record(&[&Opaque, &Opaque])),
+    ("symlinkdata3", Record(&[&SATTR3, &Opaque])),
+];
+
+/// The number of a kind.
+pub fn kind(name: &str) -> Option<usize> {
+    KINDS.iter().position(|(n, _)| *n == name)
+}

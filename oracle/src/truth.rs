@@ -1,0 +1,172 @@
+//! What the answers must be. The crate is asked wherever it can tell; document 01's own rules (the bound, places past
+//! the end, room) stand in front of it; and the model fills in what the crate has no word for: the places of refusals.
+use nfsserve::{Handler, Reading, Records, Wire};
+
+use crate::answers::{AuthUnix, Choice, Piece, Refusal, Took, Wrote, BOUND, REPLY};
+use crate::model::Model;
+
+/// The crate allocates by the claimed length or count before it looks whether so much is there. Above this (and above
+/// what the message holds) it is not asked, and the answer must be refusal 1.
+const LARGEST_CLAIM: usize = 70_000;
+
+/// Where the model and the crate differ, no place can be told; no answer has this one.
+const NO_PLACE: usize = usize::MAX;
+
+pub struct Truth {
+    wire: Wire,
+    /// What the message last read is written as: by the crate, where it was taken.
+    pub rewriting: Vec<u8>,
+    from_model: Vec<u8>,
+    reply: Vec<u8>,
+    sent: Vec<u8>,
+    /// How often the crate was not asked because of a claim.
+    pub unasked: u64,
+}
+
+impl Truth {
+    pub fn new() -> Truth {
+        let names = crate::shapes::KINDS.iter().map(|(name, _)| *name);
+        assert!(names.eq(nfsserve::KINDS.iter().copied()), "the kinds of both sides are the same, in the same order");
+        let wire = Wire::new().expect("a runtime and a pair of sockets can be made");
+        Truth { wire, rewriting: Vec::new(), from_model: Vec::new(), reply: Vec::new(), sent: Vec::new(), unasked: 0 }
+    }
+
+    /// The answer to reading; `rewriting` then holds the rewriting.
+    pub fn read(&mut self, kind: usize, source: &[u8], at: usize) -> Result<Took, Refusal> {
+        let model = Model::FAULTLESS.read(kind, source, at, &mut self.from_model);
+        if let Err(Refusal { number: 3 | 9, .. }) = model.answer {
+            return model.answer;
+        }
+        if too_large(model.claim, source) {
+            self.unasked += 1;
+            return Err(placed(Reading::Short, model.answer.err()));
+        }
+        match nfsserve::read(kind, &source[at..], &mut self.rewriting) {
+            Reading::Took(used) => {
+                let next = at + used;
+                assert!(self.rewriting.len() <= used.max(40), "a rewriting is not longer than that");
+                Ok(Took { next, plain: source[at..next] == self.rewriting, length: self.rewriting.len() })
+            },
+            refused => Err(placed(refused, model.answer.err())),
+        }
+    }
+
+    /// The answer of the choice of program, and what it leaves in `out`.
+    pub fn choose(&mut self, message: &[u8], seen: bool, out: &mut [u8]) -> Choice {
+        let model = Model::FAULTLESS.choose(message, seen, &mut []);
+        let refusal = match model.choice {
+            Choice::Refused(refusal) => Some(refusal),
+            _ => None,
+        };
+        if message.len() > BOUND {
+            return model.choice;
+        }
+        if too_large(model.claim, message) {
+            self.unasked += 1;
+            return Choice::Refused(placed(Reading::Short, refusal));
+        }
+        let choice = self.wire.choose(message, seen, &mut self.reply);
+        let replied = matches!(choice, nfsserve::Choice::Replied);
+        assert_eq!(replied, !self.reply.is_empty(), "the crate writes exactly if it replies");
+        match choice {
+            nfsserve::Choice::HandedOver(noted) => {
+                let program = match noted.handler {
+                    Handler::Nfs => 100_003,
+                    Handler::Portmap => 100_000,
+                    Handler::Mount => 100_005,
+                };
+                assert_eq!(noted.program, program, "each handler has its program");
+                Choice::HandOver {
+                    program,
+                    version: noted.version,
+                    procedure: noted.procedure,
+                    arguments: message.len() - noted.left,
+                    auth_unix: noted.auth_unix.map(|bytes| auth_unix(&bytes, message, &model.choice)),
+                }
+            },
+            nfsserve::Choice::Replied if out.len() < REPLY => Choice::Refused(Refusal::plain(5)),
+            nfsserve::Choice::Replied => {
+                out[..REPLY].copy_from_slice(&self.reply);
+                Choice::Reply
+            },
+            nfsserve::Choice::Silent => Choice::Silence,
+            nfsserve::Choice::NotACall => Choice::Refused(Refusal::plain(8)),
+            nfsserve::Choice::Refused(refused) => Choice::Refused(placed(refused, refusal)),
+        }
+    }
+
+    /// The answer of `write_fragment`, and what it leaves in `out`.
+    pub fn fragment(&mut self, message: &[u8], out: &mut [u8], start: usize) -> Wrote {
+        if start > out.len() {
+            return Err(9);
+        }
+        if message.len() > BOUND {
+            return Err(3);
+        }
+        self.wire.fragment(message, &mut self.sent);
+        let next = start + self.sent.len();
+        let place = out.get_mut(start..next).ok_or(5_u32)?;
+        place.copy_from_slice(&self.sent);
+        Ok(next)
+    }
+
+    /// The records of a stream, as far as its fragments fit into a buffer of that capacity, and the place of the header
+    /// of the first that doesn't. The crate has no capacity: it is asked only for what stands before.
+    pub fn records(&self, stream: &[u8], capacity: usize) -> (Records, Option<usize>) {
+        let too_long = first_too_long(stream, capacity);
+        (self.wire.records(&stream[..too_long.unwrap_or(stream.len())]), too_long)
+    }
+}
+
+fn too_large(claim: u32, source: &[u8]) -> bool {
+    claim as usize > LARGEST_CLAIM.max(source.len())
+}
+
+/// The crate's refusal, with the place that the model has for it. A model that refuses otherwise gives none.
+fn placed(refused: Reading, model: Option<Refusal>) -> Refusal {
+    let number = match refused {
+        Reading::Short => 1,
+        Reading::Undeclared => 2,
+        other => panic!("document 01 has no refusal for the crate's answer {other:?}"),
+    };
+    let place = model.filter(|refusal| refusal.number == number).map_or(NO_PLACE, |refusal| refusal.place);
+    Refusal { number, place }
+}
+
+/// The `auth_unix` that the crate handed over, from the bytes it writes for it. Its pieces have the model's places, if
+/// the message has the crate's bytes there.
+fn auth_unix(bytes: &[u8], message: &[u8], model: &Choice) -> AuthUnix {
+    let word = |at: usize| u32::from_be_bytes([bytes[at], bytes[at + 1], bytes[at + 2], bytes[at + 3]]);
+    let (name, gids) = match model {
+        Choice::HandOver { auth_unix: Some(found), .. } => (found.name.place, found.gids.place),
+        _ => (NO_PLACE, NO_PLACE),
+    };
+    let located = |place: usize, content: &[u8], width: usize| {
+        let stands = message.get(place..).is_some_and(|rest| rest.starts_with(content));
+        Piece { place: if stands { place } else { NO_PLACE }, count: content.len() / width }
+    };
+    let length = word(4) as usize;
+    let uid = 8 + length.next_multiple_of(4);
+    AuthUnix {
+        stamp: word(0),
+        name: located(name, &bytes[8..8 + length], 1),
+        uid: word(uid),
+        gid: word(uid + 4),
+        gids: located(gids, &bytes[uid + 12..], 4),
+    }
+}
+
+/// The place of the first header whose fragment doesn't fit behind what its record has before it.
+fn first_too_long(stream: &[u8], capacity: usize) -> Option<usize> {
+    let (mut at, mut placed) = (0, 0);
+    while let Some(header) = stream.get(at..).and_then(|rest| rest.first_chunk()) {
+        let header = u32::from_be_bytes(*header);
+        let length = (header & 0x7FFF_FFFF) as usize;
+        if length > capacity - placed {
+            return Some(at);
+        }
+        at += 4 + length;
+        placed = if header >> 31 == 1 { 0 } else { placed + length };
+    }
+    None
+}
