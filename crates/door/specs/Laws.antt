@@ -1,1 +1,2 @@
 pub mod Copy
+pub mod Exports

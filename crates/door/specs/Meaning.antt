@@ -1,2 +1,3 @@
 pub mod Copy
 pub mod Kinds
+pub mod Exports

@@ -1,5 +1,6 @@
 // The door: every kind of message by its number, read and written anew in published form.
 pub mod copy;
+pub mod exports;
 mod items;
 mod kinds;
 

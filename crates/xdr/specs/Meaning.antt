@@ -4,6 +4,7 @@ pub mod Answer
 pub mod Kind
 pub mod Promise
 pub mod Combinators
+pub mod Shapes
 pub mod Codecs
 pub mod Items
 pub mod Forms

@@ -8,24 +8,13 @@ use native.Mathlib.Omega.{arith}
 use lib.Dec.{eqb}
 use borrow.Author.Tests.{eqb-true}
 use Rattle.xdr.specs.Meaning.Answer.{Loose}
-use Rattle.xdr.specs.Meaning.Combinators.{Seen, means, undeclared, Faithful}
+use Rattle.xdr.specs.Meaning.Combinators.{Seen, means, undeclared, Faithful, Exact, among}
 
 module _ {M N : Type 0} (Good : M → Type 0) (to : N → M) where
-  -- what is seen with nothing loose is written as what was seen; what is seen with something loose is a default, which is in range
-  abbrev pub Exact : M → Seen N → Type 0
-  Exact x (means m []) = to m ≡ x
-  Exact x (means m (l ∷ w)) = Good (to m)
-  Exact x undeclared = Unit {0}
-
-  pub exact-faithful : (x : M) → Good x → (y : Seen N) → Exact x y → Faithful (λ m. Good (to m)) to x y
+  pub exact-faithful : (x : M) → Good x → (y : Seen N) → Exact Good to x y → Faithful (λ m. Good (to m)) to x y
   exact-faithful x g undeclared h = tt
   exact-faithful x g (means m []) h = (subst Good (sym h) g, λ e. h)
   exact-faithful x g (means m (l ∷ w)) h = (h, λ e. let z : _≡_ {A = ℕ} 0 1 = cc in absurd (omega arith))
-
--- the first of a list of values that has a number
-abbrev pub among : {A : Type 0} → (A → ℕ) → List A → ℕ → Seen A
-among number [] v = undeclared
-among number (a ∷ l) v = cond (eqb v (number a)) (means a []) (among number l v)
 
 module _ {A : Type 0} (Good : ℕ → Type 0) (number : A → ℕ) where
   one : (a : A) (v : ℕ) (t : Bool) → eqb v (number a) ≡ t → (x : Seen A) → Exact Good number v x → Exact Good number v (cond t (means a []) x)

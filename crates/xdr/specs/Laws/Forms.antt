@@ -13,10 +13,12 @@ use Rattle.xdr.specs.Meaning.Bytes.{Bytes, digits, padding, zeros}
 use Rattle.xdr.specs.Meaning.Answer.{Loose, odd-flag, dirty-pad}
 use Rattle.xdr.specs.Meaning.Kind.{Codec}
 use Rattle.xdr.specs.Meaning.Combinators.{Seen, means}
-use Rattle.xdr.specs.Meaning.Codecs.{Tuple, times}
+use Rattle.xdr.specs.Meaning.Shapes.{Tuple}
+use Rattle.xdr.specs.Meaning.Codecs.{times}
 use Rattle.xdr.specs.Meaning.Items.{number, word, flag, seeFlag, fromFlag, opaque, words}
 use Rattle.xdr.specs.Meaning.Forms.{NumberForm, FlagForm, OpaqueForm, allDigits, AllWords, WordsForm}
-use Rattle.xdr.specs.Laws.Made.{toList, fromList, list-from-to}
+use Rattle.xdr.specs.Meaning.Shapes.{toList, fromList}
+use Rattle.xdr.specs.Laws.Made.{list-from-to}
 
 -- of any codec, the forms with nothing loose are what is written of the messages in range
 pub plain-form : {M : Type 0} (C : Codec M) (m : M) (e : List ℕ) → C .kind .Form m [] e ↔ (C .kind .Good m × (e ≡ C .kind .write m))

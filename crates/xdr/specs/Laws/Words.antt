@@ -13,12 +13,13 @@ use lib.Seq.{length-take-le, drop-drop}
 use borrow.Author.Tests.{le-leb, lt-leb, leb-true, leb-false}
 use Rattle.xdr.specs.Meaning.Bytes.{Bytes, value, digits, numberAt}
 use Rattle.xdr.specs.Meaning.Answer.{Answer, took, refused, mapAnswer, Taken, most}
-use Rattle.xdr.specs.Meaning.Codecs.{Tuple, times}
+use Rattle.xdr.specs.Meaning.Shapes.{Tuple}
+use Rattle.xdr.specs.Meaning.Codecs.{times}
 use Rattle.xdr.specs.Meaning.Items.{number, word, words}
 use Rattle.xdr.specs.Meaning.Pieces.{wordsAt, wordsIn, areInside, wordsPartOf, wordOf, wordsAnswer, wordPieceAt}
 use Rattle.xdr.specs.Laws.Lists.{bytes-take, bytes-drop}
 use Rattle.xdr.specs.Laws.Digits.{value-lt, value-at, digits-value}
-use Rattle.xdr.specs.Laws.Made.{toList, fromList}
+use Rattle.xdr.specs.Meaning.Shapes.{toList, fromList}
 use Rattle.xdr.specs.Laws.Reading.{number-read}
 use Rattle.xdr.specs.Laws.Digits.{length-digits}
 use Rattle.xdr.specs.declared.piece.Piece.{Piece}

@@ -7,12 +7,14 @@ use Prim.Native.Nat.{ℕ, zero, suc}
 use lib.Dec.{eqb}
 use Rattle.xdr.specs.Meaning.Answer.{Loose}
 use Rattle.xdr.specs.Meaning.Kind.{Codec}
+use Rattle.xdr.specs.Meaning.Shapes.{Tuple}
 use Rattle.xdr.specs.Meaning.Combinators.{blockKind, voidKind, chainKind, Seen, means, undeclared, View, viewKind, itemKind}
 use Rattle.xdr.specs.Laws.Block.{block-lawful, void-lawful}
 use Rattle.xdr.specs.Laws.Chain.{chain-lawful}
 use Rattle.xdr.specs.Laws.View.{view-lawful}
 use Rattle.xdr.specs.Laws.Item.{item-lawful}
-use Rattle.xdr.specs.Laws.Exact.{Exact, exact-faithful}
+use Rattle.xdr.specs.Meaning.Combinators.{Exact}
+use Rattle.xdr.specs.Laws.Exact.{exact-faithful}
 
 abbrev pub block : ℕ → Codec (List ℕ)
 block n = record { kind = blockKind n; laws = block-lawful n }
@@ -60,10 +62,6 @@ abbrev pub mapped : {M N : Type 0} (C : Codec M) (f : M → N) (g : N → M) →
 mapped C f g gf fg = seen C (λ x. means (f x) []) g gf (λ y. ap (λ z. means z []) (fg y))
 
 -- n values of a kind
-abbrev pub Tuple : Type 0 → ℕ → Type 0
-Tuple M zero = Unit {0}
-Tuple M (suc n) = M × Tuple M n
-
 abbrev pub times : {M : Type 0} → Codec M → (n : ℕ) → Codec (Tuple M n)
 times C zero = void
 times C (suc n) = chain C (λ a. times C n)

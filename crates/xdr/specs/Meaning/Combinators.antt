@@ -2,9 +2,9 @@
 -- Assumes nothing.
 use mathlib.Core.Path.{_≡_}
 use mathlib.Core.Bool.{Bool, true, cond, _&&_}
-use mathlib.Core.List.{List, [], _++_}
+use mathlib.Core.List.{List, [], _∷_, _++_}
 use Prim.Native.Nat.{ℕ, _+_, _-_}
-use lib.Dec.{leb}
+use lib.Dec.{leb, eqb}
 use lib.ListN.{length, take, drop}
 use Rattle.xdr.specs.Meaning.Bytes.{Bytes}
 use Rattle.xdr.specs.Meaning.Answer.{Answer, took, refused, Loose, clean}
@@ -74,6 +74,18 @@ pub data Seen (N : Type 0) : Type 0 where
 abbrev pub Faithful : {M N : Type 0} → (N → Type 0) → (N → M) → M → Seen N → Type 0
 Faithful Good to x (means m w) = Good m × (w ≡ [] → to m ≡ x)
 Faithful Good to x undeclared = Unit {0}
+
+module _ {M N : Type 0} (Good : M → Type 0) (to : N → M) where
+  -- what is seen with nothing loose is written as what was seen; what is seen with something loose is a default, which is in range
+  abbrev pub Exact : M → Seen N → Type 0
+  Exact x (means m []) = to m ≡ x
+  Exact x (means m (l ∷ w)) = Good (to m)
+  Exact x undeclared = Unit {0}
+
+-- the first of a list of values that has a number
+abbrev pub among : {A : Type 0} → (A → ℕ) → List A → ℕ → Seen A
+among number [] v = undeclared
+among number (a ∷ l) v = cond (eqb v (number a)) (means a []) (among number l v)
 
 -- messages of M, those in range of which are given, seen as messages of N
 pub record View (M : Type 0) (From : M → Type 0) (N : Type 0) : Type 1 where

@@ -11,8 +11,9 @@ use Rattle.xdr.specs.Meaning.Combinators.{Seen, means, undeclared, View}
 use Rattle.xdr.specs.Meaning.Codecs.{void, chain, view, seen, exactView}
 use Rattle.xdr.specs.Meaning.Items.{word, flag, if, option}
 use Rattle.xdr.specs.Meaning.Held.{Held, thenFirst, thenMean, thenInside, Holds, lookAt, mapSeen, Meant}
-use Rattle.xdr.specs.Laws.Exact.{Exact}
-use Rattle.xdr.specs.Laws.Made.{If, toOption, fromOption, from-to, to-from}
+use Rattle.xdr.specs.Meaning.Combinators.{Exact}
+use Rattle.xdr.specs.Meaning.Shapes.{If, toOption, fromOption}
+use Rattle.xdr.specs.Laws.Made.{from-to, to-from}
 use Rattle.xdr.specs.Laws.Held.{plain-agrees, plain-kept, then-agrees, then-kept, view-agrees, view-kept}
 
 pub record Format (M S : Type 0) : Type 1 where

@@ -12,8 +12,10 @@ use Rattle.xdr.specs.Meaning.Answer.{Loose, odd-flag, dirty-pad}
 use Rattle.xdr.specs.Meaning.Kind.{Codec}
 use Rattle.xdr.specs.Meaning.Combinators.{Raw, Seen, means, undeclared}
 use Rattle.xdr.specs.Meaning.Codecs.{block, void, chain, view, item, seen, _⨾_, mapped, times}
-use Rattle.xdr.specs.Laws.Exact.{Exact, among, among-exact}
-use Rattle.xdr.specs.Laws.Made.{If, toOption, fromOption, from-to, to-from, toList, fromList, list-from-to, list-to-from}
+use Rattle.xdr.specs.Meaning.Combinators.{Exact, among}
+use Rattle.xdr.specs.Laws.Exact.{among-exact}
+use Rattle.xdr.specs.Meaning.Shapes.{If, toOption, fromOption, toList, fromList}
+use Rattle.xdr.specs.Laws.Made.{from-to, to-from, list-from-to, list-to-from}
 use Rattle.xdr.specs.Laws.Items as laws
 
 -- a number of k bytes, the most significant first
