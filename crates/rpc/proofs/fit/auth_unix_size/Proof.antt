@@ -1,0 +1,20 @@
+use borrow.Author.Needs.{needs}
+use native.Mathlib.Omega.{arith}
+use Rattle.rpc.specs.Laws.Sizes.{size-small}
+use Rattle.rpc.proofs.fit.auth_unix_size.Statement.{statement}
+use Rattle.rpc.proofs.fit.auth_unix_size.Tie as tie
+
+add-result : tie.Need-add-result
+add-result c = omega (arith, size-small (c .before .before .before .args .m .machinename .count))
+
+add-result-2 : tie.Need-add-result-2
+add-result-2 c = omega (arith, size-small (c .before .before .before .before .args .m .machinename .count))
+
+returns : tie.Need-returns
+returns c = (omega arith, omega (arith, size-small (c .before .before .before .before .args .m .machinename .count)))
+
+pub auth-unix-size-spec : {M : Type 1} → statement M
+auth-unix-size-spec =
+    tie.close
+    (tie.spec
+    (search needs) add-result (search needs) add-result-2 returns)

@@ -1,0 +1,62 @@
+use borrow.Author.Needs.{needs}
+use native.Mathlib.Omega.{arith}
+use mathlib.Core.Path.{sym, ap, _∙_}
+use Prim.Native.Nat.{_+_}
+use denote.Ref.{now}
+use Rattle.xdr.specs.Laws.Write.{put-laid, put-same, lent, field, room}
+use Rattle.xdr.specs.Laws.Padding.{word-length}
+use Rattle.rpc.specs.Laws.Sizes.{authSize, call-written, call-cred, call-verf}
+use Rattle.rpc.specs.Laws.Puts.{put-sized}
+use Rattle.rpc.proofs.put.put_call_body.Statement.{statement}
+use Rattle.rpc.proofs.put.put_call_body.Tie as tie
+
+put-opaque-auth-requires : tie.Need-put-opaque-auth-requires
+put-opaque-auth-requires c κs =
+    let d = c .before .before .before .before .before .before .before .before .before .before .before .before .before .before .before .before .before .before .before .before .before in
+    let s = now (d .args .src) in
+    let m = d .args .m in
+    let h = d .pre .0 in
+    let f1 = put-laid (word-length _) (omega (arith, d .pre .1)) (c .before .before .before .before .before .before .before .before .before .before .before .before .before .before .before .put-u32 .ensures) in
+    let f2 = lent _ f1 (omega (arith, d .pre .1)) (word-length _) (c .before .before .before .before .before .before .before .before .before .before .before .put-u322 .ensures) in
+    let f3 = lent _ f2 (omega (arith, d .pre .1)) (word-length _) (c .before .before .before .before .before .before .before .put-u323 .ensures) in
+    let f4 = lent _ f3 (omega (arith, d .pre .1)) (word-length _) (c .before .before .before .put-u324 .ensures) in
+    (call-cred s m h, room f4 (authSize (m .cred)) (omega (arith, d .pre .1)))
+
+put-opaque-auth-requires-2 : tie.Need-put-opaque-auth-requires-2
+put-opaque-auth-requires-2 c κs =
+    let d = c .before .before .before .before .before .before .before .before .before .before .before .before .before .before .before .before .before .before .before .before .before .before .before .before .before .before in
+    let s = now (d .args .src) in
+    let m = d .args .m in
+    let h = d .pre .0 in
+    let f1 = put-laid (word-length _) (omega (arith, d .pre .1)) (c .before .before .before .before .before .before .before .before .before .before .before .before .before .before .before .before .before .before .before .before .put-u32 .ensures) in
+    let f2 = lent _ f1 (omega (arith, d .pre .1)) (word-length _) (c .before .before .before .before .before .before .before .before .before .before .before .before .before .before .before .before .put-u322 .ensures) in
+    let f3 = lent _ f2 (omega (arith, d .pre .1)) (word-length _) (c .before .before .before .before .before .before .before .before .before .before .before .before .put-u323 .ensures) in
+    let f4 = lent _ f3 (omega (arith, d .pre .1)) (word-length _) (c .before .before .before .before .before .before .before .before .put-u324 .ensures) in
+    let f5 = field f4 (omega (arith, d .pre .1)) (c .before .before .before .before .put-opaque-auth .ensures) in
+    let e = c .before .opaque-auth-size .ensures .0 in
+    let f6 = put-sized (ap (λ n. 16 + n) (sym e)) f5 in
+    (call-verf s m h, room f6 (authSize (m .verf)) (omega (arith, d .pre .1)))
+
+returns : tie.Need-returns
+returns c =
+    let d = c .before .before .before .before .before .before .before .before .before .before .before .before .before .before .before .before .before .before .before .before .before .before .before .before .before .before .before .before .before in
+    let s = now (d .args .src) in
+    let m = d .args .m in
+    let h = d .pre .0 in
+    let f1 = put-laid (word-length _) (omega (arith, d .pre .1)) (c .before .before .before .before .before .before .before .before .before .before .before .before .before .before .before .before .before .before .before .before .before .before .before .put-u32 .ensures) in
+    let f2 = lent _ f1 (omega (arith, d .pre .1)) (word-length _) (c .before .before .before .before .before .before .before .before .before .before .before .before .before .before .before .before .before .before .before .put-u322 .ensures) in
+    let f3 = lent _ f2 (omega (arith, d .pre .1)) (word-length _) (c .before .before .before .before .before .before .before .before .before .before .before .before .before .before .before .put-u323 .ensures) in
+    let f4 = lent _ f3 (omega (arith, d .pre .1)) (word-length _) (c .before .before .before .before .before .before .before .before .before .before .before .put-u324 .ensures) in
+    let f5 = field f4 (omega (arith, d .pre .1)) (c .before .before .before .before .before .before .before .put-opaque-auth .ensures) in
+    let e = c .before .before .before .before .opaque-auth-size .ensures .0 in
+    let f6 = put-sized (ap (λ n. 16 + n) (sym e)) f5 in
+    let f7 = field f6 (omega (arith, d .pre .1)) (c .before .before .put-opaque-auth2 .ensures) in
+    put-sized (omega (arith, e)) (put-same (call-written s m) f7)
+
+pub put-call-body-spec : {M : Type 1} → statement M
+put-call-body-spec =
+    tie.close
+    (tie.spec
+    (search needs) (search needs) (search needs) (search needs) (search needs) (search needs) (search needs) (search needs) (search needs)
+    (search needs) (search needs) (search needs) (search needs) (search needs) (search needs) (search needs) put-opaque-auth-requires
+    (search needs) (search needs) (search needs) (search needs) (search needs) put-opaque-auth-requires-2 (search needs) returns)

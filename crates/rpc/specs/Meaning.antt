@@ -1,0 +1,9 @@
+-- What the messages of RPC mean: short definitions, to be held against RFC 5531 and document 01. Read them in this order.
+pub mod Closed
+pub mod Messages
+pub mod Auth
+pub mod UnixIn
+pub mod Reply
+pub mod Message
+pub mod Makers
+pub mod Views

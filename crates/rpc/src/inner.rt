@@ -1,0 +1,669 @@
+// For the crates above, and no door for users: the kinds of a message whose length and start were tested already. Each is total all the
+// same, and exact; it only leaves out refusals 3 and 9.
+ghost use mathlib.Core.Path.{_≡_};
+ghost use Rattle.rpc.specs.Meaning.Closed.{msg-type, reply-stat, accept-stat, reject-stat, auth-flavor, auth-stat};
+ghost use Rattle.rpc.specs.Meaning.Auth.{opaque-auth, auth-unix};
+ghost use Rattle.rpc.specs.Meaning.UnixIn.{unixIn};
+ghost use Rattle.rpc.specs.Meaning.Reply.{mismatch-info, accept-body, accepted-reply, rejected-reply, reply-body};
+ghost use Rattle.rpc.specs.Meaning.Message.{call-body, rpc-body, rpc-msg};
+ghost use Rattle.rpc.specs.Meaning.Views.{viewMsgType, viewReplyStat, viewAcceptStat, viewRejectStat, viewAuthFlavor, viewAuthStat, viewMismatchInfo, viewOpaqueAuth, viewAuthUnix, viewCallBody, viewAcceptedReply, viewRpcMsg, viewAcceptBody, viewRejectedReply, viewReplyBody, viewRpcBody};
+use crate::answer::AcceptBodyRead;
+use crate::answer::AcceptStatRead;
+use crate::answer::AcceptedReplyRead;
+use crate::answer::AuthFlavorRead;
+use crate::answer::AuthStatRead;
+use crate::answer::AuthUnixRead;
+use crate::answer::CallBodyRead;
+use crate::answer::MismatchInfoRead;
+use crate::answer::MsgTypeRead;
+use crate::answer::OpaqueAuthRead;
+use crate::answer::RejectStatRead;
+use crate::answer::RejectedReplyRead;
+use crate::answer::ReplyBodyRead;
+use crate::answer::ReplyStatRead;
+use crate::answer::RpcBodyRead;
+use crate::answer::RpcMsgRead;
+use crate::auth::auth_flavor;
+use crate::auth::auth_stat;
+use crate::auth::auth_unix;
+use crate::auth::opaque_auth;
+use crate::makers::no_auth;
+use crate::message::call_body;
+use crate::message::msg_type;
+use crate::message::rpc_body;
+use crate::message::rpc_msg;
+use crate::reply::accept_body;
+use crate::reply::accept_stat;
+use crate::reply::accepted_reply;
+use crate::reply::mismatch_info;
+use crate::reply::reject_stat;
+use crate::reply::rejected_reply;
+use crate::reply::reply_body;
+use crate::reply::reply_stat;
+use xdr::Piece;
+use xdr::PieceRead;
+use xdr::Refusal;
+use xdr::U32Read;
+use xdr::inner::opaque_at;
+use xdr::inner::u32_at;
+use xdr::inner::words_at;
+use xdr::inside;
+
+pub fn msg_type_at(src: &[u8], at: usize) -> MsgTypeRead
+    ensures { λ r. ⌜ viewMsgType r ≡ msg-type .kind .read (now (src .entry)) at ⌝ }
+{
+    let r = u32_at(src, at);
+    let U32Read::Took { value: v, next: n } = r else {
+        return MsgTypeRead::Refused(r.refusal());
+    };
+    match v {
+        0 => MsgTypeRead::Took {
+            value: msg_type::CALL,
+            next: n,
+        },
+        1 => MsgTypeRead::Took {
+            value: msg_type::REPLY,
+            next: n,
+        },
+        _ => MsgTypeRead::Refused(Refusal::Undeclared(at)),
+    }
+}
+
+pub fn reply_stat_at(src: &[u8], at: usize) -> ReplyStatRead
+    ensures { λ r. ⌜ viewReplyStat r ≡ reply-stat .kind .read (now (src .entry)) at ⌝ }
+{
+    let r = u32_at(src, at);
+    let U32Read::Took { value: v, next: n } = r else {
+        return ReplyStatRead::Refused(r.refusal());
+    };
+    match v {
+        0 => ReplyStatRead::Took {
+            value: reply_stat::MSG_ACCEPTED,
+            next: n,
+        },
+        1 => ReplyStatRead::Took {
+            value: reply_stat::MSG_DENIED,
+            next: n,
+        },
+        _ => ReplyStatRead::Refused(Refusal::Undeclared(at)),
+    }
+}
+
+pub fn accept_stat_at(src: &[u8], at: usize) -> AcceptStatRead
+    ensures { λ r. ⌜ viewAcceptStat r ≡ accept-stat .kind .read (now (src .entry)) at ⌝ }
+{
+    let r = u32_at(src, at);
+    let U32Read::Took { value: v, next: n } = r else {
+        return AcceptStatRead::Refused(r.refusal());
+    };
+    match v {
+        0 => AcceptStatRead::Took {
+            value: accept_stat::SUCCESS,
+            next: n,
+        },
+        1 => AcceptStatRead::Took {
+            value: accept_stat::PROG_UNAVAIL,
+            next: n,
+        },
+        2 => AcceptStatRead::Took {
+            value: accept_stat::PROG_MISMATCH,
+            next: n,
+        },
+        3 => AcceptStatRead::Took {
+            value: accept_stat::PROC_UNAVAIL,
+            next: n,
+        },
+        4 => AcceptStatRead::Took {
+            value: accept_stat::GARBAGE_ARGS,
+            next: n,
+        },
+        _ => AcceptStatRead::Refused(Refusal::Undeclared(at)),
+    }
+}
+
+pub fn reject_stat_at(src: &[u8], at: usize) -> RejectStatRead
+    ensures { λ r. ⌜ viewRejectStat r ≡ reject-stat .kind .read (now (src .entry)) at ⌝ }
+{
+    let r = u32_at(src, at);
+    let U32Read::Took { value: v, next: n } = r else {
+        return RejectStatRead::Refused(r.refusal());
+    };
+    match v {
+        0 => RejectStatRead::Took {
+            value: reject_stat::RPC_MISMATCH,
+            next: n,
+        },
+        1 => RejectStatRead::Took {
+            value: reject_stat::AUTH_ERROR,
+            next: n,
+        },
+        _ => RejectStatRead::Refused(Refusal::Undeclared(at)),
+    }
+}
+
+pub fn auth_flavor_at(src: &[u8], at: usize) -> AuthFlavorRead
+    ensures { λ r. ⌜ viewAuthFlavor r ≡ auth-flavor .kind .read (now (src .entry)) at ⌝ }
+{
+    let r = u32_at(src, at);
+    let U32Read::Took { value: v, next: n } = r else {
+        return AuthFlavorRead::Refused(r.refusal());
+    };
+    match v {
+        0 => AuthFlavorRead::Took {
+            value: auth_flavor::AUTH_NULL,
+            next: n,
+        },
+        1 => AuthFlavorRead::Took {
+            value: auth_flavor::AUTH_UNIX,
+            next: n,
+        },
+        2 => AuthFlavorRead::Took {
+            value: auth_flavor::AUTH_SHORT,
+            next: n,
+        },
+        3 => AuthFlavorRead::Took {
+            value: auth_flavor::AUTH_DES,
+            next: n,
+        },
+        _ => AuthFlavorRead::Refused(Refusal::Undeclared(at)),
+    }
+}
+
+pub fn auth_stat_at(src: &[u8], at: usize) -> AuthStatRead
+    ensures { λ r. ⌜ viewAuthStat r ≡ auth-stat .kind .read (now (src .entry)) at ⌝ }
+{
+    let r = u32_at(src, at);
+    let U32Read::Took { value: v, next: n } = r else {
+        return AuthStatRead::Refused(r.refusal());
+    };
+    match v {
+        1 => AuthStatRead::Took {
+            value: auth_stat::AUTH_BADCRED,
+            next: n,
+        },
+        2 => AuthStatRead::Took {
+            value: auth_stat::AUTH_REJECTEDCRED,
+            next: n,
+        },
+        3 => AuthStatRead::Took {
+            value: auth_stat::AUTH_BADVERF,
+            next: n,
+        },
+        4 => AuthStatRead::Took {
+            value: auth_stat::AUTH_REJECTEDVERF,
+            next: n,
+        },
+        5 => AuthStatRead::Took {
+            value: auth_stat::AUTH_TOOWEAK,
+            next: n,
+        },
+        _ => AuthStatRead::Refused(Refusal::Undeclared(at)),
+    }
+}
+
+pub fn mismatch_info_at(src: &[u8], at: usize) -> MismatchInfoRead
+    ensures { λ r. ⌜ viewMismatchInfo r ≡ mismatch-info .kind .read (now (src .entry)) at ⌝ }
+{
+    let r1 = u32_at(src, at);
+    let U32Read::Took {
+        value: low,
+        next: n1,
+    } = r1
+    else {
+        return MismatchInfoRead::Refused(r1.refusal());
+    };
+    let r2 = u32_at(src, n1);
+    let U32Read::Took {
+        value: high,
+        next: n2,
+    } = r2
+    else {
+        return MismatchInfoRead::Refused(r2.refusal());
+    };
+    MismatchInfoRead::Took {
+        value: mismatch_info { low, high },
+        next: n2,
+    }
+}
+
+pub fn opaque_auth_at(src: &[u8], at: usize) -> OpaqueAuthRead
+    ensures { λ r. ⌜ viewOpaqueAuth r ≡ opaque-auth .held .read (now (src .entry)) at ⌝ }
+{
+    let r1 = auth_flavor_at(src, at);
+    let AuthFlavorRead::Took {
+        value: flavor,
+        next: n1,
+    } = r1
+    else {
+        return OpaqueAuthRead::Refused(r1.refusal());
+    };
+    let r2 = opaque_at(src, n1);
+    let PieceRead::Took {
+        value: body,
+        next: n2,
+        plain: p1,
+    } = r2
+    else {
+        return OpaqueAuthRead::Refused(r2.refusal());
+    };
+    OpaqueAuthRead::Took {
+        value: opaque_auth { flavor, body },
+        next: n2,
+        plain: p1,
+    }
+}
+
+pub fn auth_unix_at(src: &[u8], at: usize) -> AuthUnixRead
+    ensures { λ r. ⌜ viewAuthUnix r ≡ auth-unix .held .read (now (src .entry)) at ⌝ }
+{
+    let r1 = u32_at(src, at);
+    let U32Read::Took {
+        value: stamp,
+        next: n1,
+    } = r1
+    else {
+        return AuthUnixRead::Refused(r1.refusal());
+    };
+    let r2 = opaque_at(src, n1);
+    let PieceRead::Took {
+        value: machinename,
+        next: n2,
+        plain: p1,
+    } = r2
+    else {
+        return AuthUnixRead::Refused(r2.refusal());
+    };
+    let r3 = u32_at(src, n2);
+    let U32Read::Took {
+        value: uid,
+        next: n3,
+    } = r3
+    else {
+        return AuthUnixRead::Refused(r3.refusal());
+    };
+    let r4 = u32_at(src, n3);
+    let U32Read::Took {
+        value: gid,
+        next: n4,
+    } = r4
+    else {
+        return AuthUnixRead::Refused(r4.refusal());
+    };
+    let r5 = words_at(src, n4);
+    let PieceRead::Took {
+        value: gids,
+        next: n5,
+        plain: p2,
+    } = r5
+    else {
+        return AuthUnixRead::Refused(r5.refusal());
+    };
+    AuthUnixRead::Took {
+        value: auth_unix {
+            stamp,
+            machinename,
+            uid,
+            gid,
+            gids,
+        },
+        next: n5,
+        plain: p1 & p2,
+    }
+}
+
+// The auth_unix in a credential's body, whose end is the end; places are those of the whole message.
+pub fn auth_unix_in(src: &[u8], body: Piece) -> AuthUnixRead
+    ensures { λ r. ⌜ viewAuthUnix r ≡ unixIn (now (src .entry)) body ⌝ }
+{
+    if !inside(src, body) {
+        return AuthUnixRead::Refused(Refusal::Ended(0));
+    }
+    let at = body.at;
+    let end = at + body.count;
+    auth_unix_at(&src[..end], at)
+}
+
+pub fn call_body_at(src: &[u8], at: usize) -> CallBodyRead
+    ensures { λ r. ⌜ viewCallBody r ≡ call-body .held .read (now (src .entry)) at ⌝ }
+{
+    let r1 = u32_at(src, at);
+    let U32Read::Took {
+        value: rpcvers,
+        next: n1,
+    } = r1
+    else {
+        return CallBodyRead::Refused(r1.refusal());
+    };
+    let r2 = u32_at(src, n1);
+    let U32Read::Took {
+        value: prog,
+        next: n2,
+    } = r2
+    else {
+        return CallBodyRead::Refused(r2.refusal());
+    };
+    let r3 = u32_at(src, n2);
+    let U32Read::Took {
+        value: vers,
+        next: n3,
+    } = r3
+    else {
+        return CallBodyRead::Refused(r3.refusal());
+    };
+    let r4 = u32_at(src, n3);
+    let U32Read::Took {
+        value: proc,
+        next: n4,
+    } = r4
+    else {
+        return CallBodyRead::Refused(r4.refusal());
+    };
+    let r5 = opaque_auth_at(src, n4);
+    let OpaqueAuthRead::Took {
+        value: cred,
+        next: n5,
+        plain: p1,
+    } = r5
+    else {
+        return CallBodyRead::Refused(r5.refusal());
+    };
+    let r6 = opaque_auth_at(src, n5);
+    let OpaqueAuthRead::Took {
+        value: verf,
+        next: n6,
+        plain: p2,
+    } = r6
+    else {
+        return CallBodyRead::Refused(r6.refusal());
+    };
+    CallBodyRead::Took {
+        value: call_body {
+            rpcvers,
+            prog,
+            vers,
+            proc,
+            cred,
+            verf,
+        },
+        next: n6,
+        plain: p1 & p2,
+    }
+}
+
+// Tolerance 5: a tag above 4 is GARBAGE_ARGS.
+pub fn accept_body_at(src: &[u8], at: usize) -> AcceptBodyRead
+    ensures { λ r. ⌜ viewAcceptBody r ≡ accept-body .kind .read (now (src .entry)) at ⌝ }
+{
+    let r = u32_at(src, at);
+    let U32Read::Took {
+        value: tag,
+        next: n,
+    } = r
+    else {
+        return AcceptBodyRead::Refused(r.refusal());
+    };
+    match tag {
+        0 => AcceptBodyRead::Took {
+            value: accept_body::SUCCESS,
+            next: n,
+            plain: true,
+        },
+        1 => AcceptBodyRead::Took {
+            value: accept_body::PROG_UNAVAIL,
+            next: n,
+            plain: true,
+        },
+        2 => {
+            let r2 = mismatch_info_at(src, n);
+            let MismatchInfoRead::Took {
+                value: m,
+                next: next,
+            } = r2
+            else {
+                return AcceptBodyRead::Refused(r2.refusal());
+            };
+            AcceptBodyRead::Took {
+                value: accept_body::PROG_MISMATCH(m),
+                next: next,
+                plain: true,
+            }
+        }
+        3 => AcceptBodyRead::Took {
+            value: accept_body::PROC_UNAVAIL,
+            next: n,
+            plain: true,
+        },
+        4 => AcceptBodyRead::Took {
+            value: accept_body::GARBAGE_ARGS,
+            next: n,
+            plain: true,
+        },
+        _ => AcceptBodyRead::Took {
+            value: accept_body::GARBAGE_ARGS,
+            next: n,
+            plain: false,
+        },
+    }
+}
+
+pub fn accepted_reply_at(src: &[u8], at: usize) -> AcceptedReplyRead
+    ensures { λ r. ⌜ viewAcceptedReply r ≡ accepted-reply .held .read (now (src .entry)) at ⌝ }
+{
+    let r1 = opaque_auth_at(src, at);
+    let OpaqueAuthRead::Took {
+        value: verf,
+        next: n1,
+        plain: p1,
+    } = r1
+    else {
+        return AcceptedReplyRead::Refused(r1.refusal());
+    };
+    let r2 = accept_body_at(src, n1);
+    let AcceptBodyRead::Took {
+        value: reply_data,
+        next: n2,
+        plain: p2,
+    } = r2
+    else {
+        return AcceptedReplyRead::Refused(r2.refusal());
+    };
+    AcceptedReplyRead::Took {
+        value: accepted_reply { verf, reply_data },
+        next: n2,
+        plain: p1 & p2,
+    }
+}
+
+// Tolerance 6: a tag of 2 or more is RPC_MISMATCH 0, 0, and nothing more is read.
+pub fn rejected_reply_at(src: &[u8], at: usize) -> RejectedReplyRead
+    ensures { λ r. ⌜ viewRejectedReply r ≡ rejected-reply .kind .read (now (src .entry)) at ⌝ }
+{
+    let r = u32_at(src, at);
+    let U32Read::Took {
+        value: tag,
+        next: n,
+    } = r
+    else {
+        return RejectedReplyRead::Refused(r.refusal());
+    };
+    match tag {
+        0 => {
+            let r0 = mismatch_info_at(src, n);
+            let MismatchInfoRead::Took {
+                value: m,
+                next: next,
+            } = r0
+            else {
+                return RejectedReplyRead::Refused(r0.refusal());
+            };
+            RejectedReplyRead::Took {
+                value: rejected_reply::RPC_MISMATCH(m),
+                next: next,
+                plain: true,
+            }
+        }
+        1 => {
+            let r1 = auth_stat_at(src, n);
+            let AuthStatRead::Took {
+                value: a,
+                next: next,
+            } = r1
+            else {
+                return RejectedReplyRead::Refused(r1.refusal());
+            };
+            RejectedReplyRead::Took {
+                value: rejected_reply::AUTH_ERROR(a),
+                next: next,
+                plain: true,
+            }
+        }
+        _ => RejectedReplyRead::Took {
+            value: rejected_reply::RPC_MISMATCH(mismatch_info { low: 0, high: 0 }),
+            next: n,
+            plain: false,
+        },
+    }
+}
+
+// Tolerance 4: a tag of 2 or more is MSG_ACCEPTED, null verifier, SUCCESS, and nothing more is read.
+pub fn reply_body_at(src: &[u8], at: usize) -> ReplyBodyRead
+    ensures { λ r. ⌜ viewReplyBody r ≡ reply-body .held .read (now (src .entry)) at ⌝ }
+{
+    let r = u32_at(src, at);
+    let U32Read::Took {
+        value: tag,
+        next: n,
+    } = r
+    else {
+        return ReplyBodyRead::Refused(r.refusal());
+    };
+    match tag {
+        0 => {
+            let r0 = accepted_reply_at(src, n);
+            let AcceptedReplyRead::Took {
+                value: a,
+                next: next,
+                plain: p,
+            } = r0
+            else {
+                return ReplyBodyRead::Refused(r0.refusal());
+            };
+            ReplyBodyRead::Took {
+                value: reply_body::MSG_ACCEPTED(a),
+                next: next,
+                plain: p,
+            }
+        }
+        1 => {
+            let r1 = rejected_reply_at(src, n);
+            let RejectedReplyRead::Took {
+                value: d,
+                next: next,
+                plain: p,
+            } = r1
+            else {
+                return ReplyBodyRead::Refused(r1.refusal());
+            };
+            ReplyBodyRead::Took {
+                value: reply_body::MSG_DENIED(d),
+                next: next,
+                plain: p,
+            }
+        }
+        _ => ReplyBodyRead::Took {
+            value: reply_body::MSG_ACCEPTED(accepted_reply {
+                verf: no_auth(),
+                reply_data: accept_body::SUCCESS,
+            }),
+            next: n,
+            plain: false,
+        },
+    }
+}
+
+// Tolerance 3: a tag of 2 or more is a CALL with every field zero and empty, and nothing more is read.
+pub fn rpc_body_at(src: &[u8], at: usize) -> RpcBodyRead
+    ensures { λ r. ⌜ viewRpcBody r ≡ rpc-body .held .read (now (src .entry)) at ⌝ }
+{
+    let r = u32_at(src, at);
+    let U32Read::Took {
+        value: tag,
+        next: n,
+    } = r
+    else {
+        return RpcBodyRead::Refused(r.refusal());
+    };
+    match tag {
+        0 => {
+            let r0 = call_body_at(src, n);
+            let CallBodyRead::Took {
+                value: c,
+                next: next,
+                plain: p,
+            } = r0
+            else {
+                return RpcBodyRead::Refused(r0.refusal());
+            };
+            RpcBodyRead::Took {
+                value: rpc_body::CALL(c),
+                next: next,
+                plain: p,
+            }
+        }
+        1 => {
+            let r1 = reply_body_at(src, n);
+            let ReplyBodyRead::Took {
+                value: r,
+                next: next,
+                plain: p,
+            } = r1
+            else {
+                return RpcBodyRead::Refused(r1.refusal());
+            };
+            RpcBodyRead::Took {
+                value: rpc_body::REPLY(r),
+                next: next,
+                plain: p,
+            }
+        }
+        _ => RpcBodyRead::Took {
+            value: rpc_body::CALL(call_body {
+                rpcvers: 0,
+                prog: 0,
+                vers: 0,
+                proc: 0,
+                cred: no_auth(),
+                verf: no_auth(),
+            }),
+            next: n,
+            plain: false,
+        },
+    }
+}
+
+pub fn rpc_msg_at(src: &[u8], at: usize) -> RpcMsgRead
+    ensures { λ r. ⌜ viewRpcMsg r ≡ rpc-msg .held .read (now (src .entry)) at ⌝ }
+{
+    let r1 = u32_at(src, at);
+    let U32Read::Took {
+        value: xid,
+        next: n1,
+    } = r1
+    else {
+        return RpcMsgRead::Refused(r1.refusal());
+    };
+    let r2 = rpc_body_at(src, n1);
+    let RpcBodyRead::Took {
+        value: body,
+        next: n2,
+        plain: p1,
+    } = r2
+    else {
+        return RpcMsgRead::Refused(r2.refusal());
+    };
+    RpcMsgRead::Took {
+        value: rpc_msg { xid, body },
+        next: n2,
+        plain: p1,
+    }
+}

@@ -1,0 +1,165 @@
+// Kinds laid at the front of a buffer that has room, field by field: each field's writer is lent the tail.
+ghost use mathlib.Core.Path.{_≡_};
+ghost use Prim.Native.Nat.{_≤_};
+ghost use lib.ListN.{length};
+ghost use Rattle.xdr.specs.Meaning.Public.{output};
+ghost use Rattle.xdr.specs.Laws.Write.{Put, Ready};
+ghost use Rattle.rpc.specs.Meaning.Auth.{opaque-auth, auth-unix};
+ghost use Rattle.rpc.specs.Meaning.Reply.{mismatch-info, accept-body, accepted-reply, rejected-reply, reply-body};
+ghost use Rattle.rpc.specs.Meaning.Message.{call-body, rpc-body, rpc-msg};
+ghost use Rattle.rpc.specs.Laws.Sizes.{authSize, unixSize, callSize, acceptSize, acceptedSize, rejectSize, replySize, bodySize, msgSize};
+use crate::auth::auth_unix;
+use crate::auth::opaque_auth;
+use crate::fit::opaque_auth_size;
+use crate::message::call_body;
+use crate::message::rpc_body;
+use crate::message::rpc_msg;
+use crate::reply::accept_body;
+use crate::reply::accepted_reply;
+use crate::reply::mismatch_info;
+use crate::reply::rejected_reply;
+use crate::reply::reply_body;
+use xdr::inner::opaque_size;
+use xdr::inner::put_opaque;
+use xdr::inner::put_u32;
+use xdr::inner::put_words;
+
+pub(crate) fn put_mismatch_info(m: mismatch_info, out: &mut [u8])
+    requires { ⌜ 8 ≤ length (now out) ⌝ }
+    ensures { λ _. ⌜ Put (now (out .entry)) (now (out .exit)) 8 (mismatch-info .kind .write m) ⌝ }
+{
+    put_u32(m.low, out);
+    put_u32(m.high, &mut out[4..]);
+}
+
+pub(crate) fn put_opaque_auth(src: &[u8], m: opaque_auth, out: &mut [u8])
+    requires { ⌜ Ready opaque-auth (now src) m ⌝ }
+    requires { ⌜ authSize m ≤ length (now out) ⌝ }
+    ensures { λ _. ⌜ Put (now (out .entry)) (now (out .exit)) (authSize m) (output opaque-auth (now (src .entry)) m) ⌝ }
+{
+    let flavor = m.flavor;
+    let body = m.body;
+    put_u32(flavor.number(), out);
+    put_opaque(src, body, &mut out[4..]);
+}
+
+pub(crate) fn put_auth_unix(src: &[u8], m: auth_unix, out: &mut [u8])
+    requires { ⌜ Ready auth-unix (now src) m ⌝ }
+    requires { ⌜ unixSize m ≤ length (now out) ⌝ }
+    ensures { λ _. ⌜ Put (now (out .entry)) (now (out .exit)) (unixSize m) (output auth-unix (now (src .entry)) m) ⌝ }
+{
+    let machinename = m.machinename;
+    let gids = m.gids;
+    put_u32(m.stamp, out);
+    put_opaque(src, machinename, &mut out[4..]);
+    let a = 4 + opaque_size(machinename.count);
+    let b = a + 4;
+    let c = b + 4;
+    put_u32(m.uid, &mut out[a..]);
+    put_u32(m.gid, &mut out[b..]);
+    put_words(src, gids, &mut out[c..]);
+}
+
+pub(crate) fn put_call_body(src: &[u8], m: call_body, out: &mut [u8])
+    requires { ⌜ Ready call-body (now src) m ⌝ }
+    requires { ⌜ callSize m ≤ length (now out) ⌝ }
+    ensures { λ _. ⌜ Put (now (out .entry)) (now (out .exit)) (callSize m) (output call-body (now (src .entry)) m) ⌝ }
+{
+    let cred = m.cred;
+    let verf = m.verf;
+    put_u32(m.rpcvers, out);
+    put_u32(m.prog, &mut out[4..]);
+    put_u32(m.vers, &mut out[8..]);
+    put_u32(m.proc, &mut out[12..]);
+    put_opaque_auth(src, cred, &mut out[16..]);
+    let a = 16 + opaque_auth_size(cred);
+    put_opaque_auth(src, verf, &mut out[a..]);
+}
+
+pub(crate) fn put_accept_body(m: accept_body, out: &mut [u8])
+    requires { ⌜ acceptSize m ≤ length (now out) ⌝ }
+    ensures { λ _. ⌜ Put (now (out .entry)) (now (out .exit)) (acceptSize m) (accept-body .kind .write m) ⌝ }
+{
+    match m {
+        accept_body::SUCCESS => put_u32(0, out),
+        accept_body::PROG_UNAVAIL => put_u32(1, out),
+        accept_body::PROG_MISMATCH(v) => {
+            put_u32(2, out);
+            put_mismatch_info(v, &mut out[4..]);
+        }
+        accept_body::PROC_UNAVAIL => put_u32(3, out),
+        accept_body::GARBAGE_ARGS => put_u32(4, out),
+    }
+}
+
+pub(crate) fn put_accepted_reply(src: &[u8], m: accepted_reply, out: &mut [u8])
+    requires { ⌜ Ready accepted-reply (now src) m ⌝ }
+    requires { ⌜ acceptedSize m ≤ length (now out) ⌝ }
+    ensures { λ _. ⌜ Put (now (out .entry)) (now (out .exit)) (acceptedSize m) (output accepted-reply (now (src .entry)) m) ⌝ }
+{
+    let verf = m.verf;
+    let reply_data = m.reply_data;
+    put_opaque_auth(src, verf, out);
+    let a = opaque_auth_size(verf);
+    put_accept_body(reply_data, &mut out[a..]);
+}
+
+pub(crate) fn put_rejected_reply(m: rejected_reply, out: &mut [u8])
+    requires { ⌜ rejectSize m ≤ length (now out) ⌝ }
+    ensures { λ _. ⌜ Put (now (out .entry)) (now (out .exit)) (rejectSize m) (rejected-reply .kind .write m) ⌝ }
+{
+    match m {
+        rejected_reply::RPC_MISMATCH(v) => {
+            put_u32(0, out);
+            put_mismatch_info(v, &mut out[4..]);
+        }
+        rejected_reply::AUTH_ERROR(a) => {
+            put_u32(1, out);
+            put_u32(a.number(), &mut out[4..]);
+        }
+    }
+}
+
+pub(crate) fn put_reply_body(src: &[u8], m: reply_body, out: &mut [u8])
+    requires { ⌜ Ready reply-body (now src) m ⌝ }
+    requires { ⌜ replySize m ≤ length (now out) ⌝ }
+    ensures { λ _. ⌜ Put (now (out .entry)) (now (out .exit)) (replySize m) (output reply-body (now (src .entry)) m) ⌝ }
+{
+    match m {
+        reply_body::MSG_ACCEPTED(a) => {
+            put_u32(0, out);
+            put_accepted_reply(src, a, &mut out[4..]);
+        }
+        reply_body::MSG_DENIED(r) => {
+            put_u32(1, out);
+            put_rejected_reply(r, &mut out[4..]);
+        }
+    }
+}
+
+pub(crate) fn put_rpc_body(src: &[u8], m: rpc_body, out: &mut [u8])
+    requires { ⌜ Ready rpc-body (now src) m ⌝ }
+    requires { ⌜ bodySize m ≤ length (now out) ⌝ }
+    ensures { λ _. ⌜ Put (now (out .entry)) (now (out .exit)) (bodySize m) (output rpc-body (now (src .entry)) m) ⌝ }
+{
+    match m {
+        rpc_body::CALL(c) => {
+            put_u32(0, out);
+            put_call_body(src, c, &mut out[4..]);
+        }
+        rpc_body::REPLY(r) => {
+            put_u32(1, out);
+            put_reply_body(src, r, &mut out[4..]);
+        }
+    }
+}
+
+pub(crate) fn put_rpc_msg(src: &[u8], m: rpc_msg, out: &mut [u8])
+    requires { ⌜ Ready rpc-msg (now src) m ⌝ }
+    requires { ⌜ msgSize m ≤ length (now out) ⌝ }
+    ensures { λ _. ⌜ Put (now (out .entry)) (now (out .exit)) (msgSize m) (output rpc-msg (now (src .entry)) m) ⌝ }
+{
+    let body = m.body;
+    put_u32(m.xid, out);
+    put_rpc_body(src, body, &mut out[4..]);
+}
