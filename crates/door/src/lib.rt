@@ -2,6 +2,7 @@
 pub mod copy;
 pub mod exports;
 mod items;
+mod messages;
 mod kinds;
 
 pub use copy::Copied;

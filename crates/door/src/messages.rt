@@ -1,0 +1,313 @@
+// Each kind of RFC 5531, copied.
+ghost use Rattle.xdr.specs.Meaning.Format.{exactly};
+ghost use Rattle.rpc.specs.Meaning.Closed.{msg-type, reply-stat, accept-stat, reject-stat, auth-stat, auth-flavor};
+ghost use Rattle.rpc.specs.Meaning.Auth.{auth-unix, opaque-auth};
+ghost use Rattle.rpc.specs.Meaning.Message.{rpc-msg, rpc-body, call-body};
+ghost use Rattle.rpc.specs.Meaning.Reply.{reply-body, accepted-reply, accept-body, rejected-reply, mismatch-info};
+ghost use Rattle.door.specs.Meaning.Copy.{viewCopied, Copies};
+use crate::copy::Copied;
+use xdr::Wrote;
+use rpc::MsgTypeRead;
+use rpc::ReplyStatRead;
+use rpc::AcceptStatRead;
+use rpc::RejectStatRead;
+use rpc::AuthStatRead;
+use rpc::AuthFlavorRead;
+use rpc::AuthUnixRead;
+use rpc::OpaqueAuthRead;
+use rpc::RpcMsgRead;
+use rpc::RpcBodyRead;
+use rpc::CallBodyRead;
+use rpc::ReplyBodyRead;
+use rpc::AcceptedReplyRead;
+use rpc::AcceptBodyRead;
+use rpc::RejectedReplyRead;
+use rpc::MismatchInfoRead;
+
+pub(crate) fn copy_msg_type(src: &[u8], at: usize, out: &mut [u8], start: usize) -> Copied
+    ensures { λ r. ⌜ Copies (exactly msg-type) (now (src .entry)) at start (now (out .entry)) (viewCopied r) (now (out .exit)) ⌝ }
+{
+    let r = rpc::read_msg_type(src, at);
+    let MsgTypeRead::Took { value: v, next: n } = r else {
+        return Copied::Unread(r.refusal());
+    };
+    let w = rpc::write_msg_type(v, out, start);
+    let Wrote::Done(end) = w else {
+        return Copied::Unwritten(w.refusal());
+    };
+    Copied::Done {
+        next: n,
+        plain: true,
+        end,
+    }
+}
+
+pub(crate) fn copy_reply_stat(src: &[u8], at: usize, out: &mut [u8], start: usize) -> Copied
+    ensures { λ r. ⌜ Copies (exactly reply-stat) (now (src .entry)) at start (now (out .entry)) (viewCopied r) (now (out .exit)) ⌝ }
+{
+    let r = rpc::read_reply_stat(src, at);
+    let ReplyStatRead::Took { value: v, next: n } = r else {
+        return Copied::Unread(r.refusal());
+    };
+    let w = rpc::write_reply_stat(v, out, start);
+    let Wrote::Done(end) = w else {
+        return Copied::Unwritten(w.refusal());
+    };
+    Copied::Done {
+        next: n,
+        plain: true,
+        end,
+    }
+}
+
+pub(crate) fn copy_accept_stat(src: &[u8], at: usize, out: &mut [u8], start: usize) -> Copied
+    ensures { λ r. ⌜ Copies (exactly accept-stat) (now (src .entry)) at start (now (out .entry)) (viewCopied r) (now (out .exit)) ⌝ }
+{
+    let r = rpc::read_accept_stat(src, at);
+    let AcceptStatRead::Took { value: v, next: n } = r else {
+        return Copied::Unread(r.refusal());
+    };
+    let w = rpc::write_accept_stat(v, out, start);
+    let Wrote::Done(end) = w else {
+        return Copied::Unwritten(w.refusal());
+    };
+    Copied::Done {
+        next: n,
+        plain: true,
+        end,
+    }
+}
+
+pub(crate) fn copy_reject_stat(src: &[u8], at: usize, out: &mut [u8], start: usize) -> Copied
+    ensures { λ r. ⌜ Copies (exactly reject-stat) (now (src .entry)) at start (now (out .entry)) (viewCopied r) (now (out .exit)) ⌝ }
+{
+    let r = rpc::read_reject_stat(src, at);
+    let RejectStatRead::Took { value: v, next: n } = r else {
+        return Copied::Unread(r.refusal());
+    };
+    let w = rpc::write_reject_stat(v, out, start);
+    let Wrote::Done(end) = w else {
+        return Copied::Unwritten(w.refusal());
+    };
+    Copied::Done {
+        next: n,
+        plain: true,
+        end,
+    }
+}
+
+pub(crate) fn copy_auth_stat(src: &[u8], at: usize, out: &mut [u8], start: usize) -> Copied
+    ensures { λ r. ⌜ Copies (exactly auth-stat) (now (src .entry)) at start (now (out .entry)) (viewCopied r) (now (out .exit)) ⌝ }
+{
+    let r = rpc::read_auth_stat(src, at);
+    let AuthStatRead::Took { value: v, next: n } = r else {
+        return Copied::Unread(r.refusal());
+    };
+    let w = rpc::write_auth_stat(v, out, start);
+    let Wrote::Done(end) = w else {
+        return Copied::Unwritten(w.refusal());
+    };
+    Copied::Done {
+        next: n,
+        plain: true,
+        end,
+    }
+}
+
+pub(crate) fn copy_auth_flavor(src: &[u8], at: usize, out: &mut [u8], start: usize) -> Copied
+    ensures { λ r. ⌜ Copies (exactly auth-flavor) (now (src .entry)) at start (now (out .entry)) (viewCopied r) (now (out .exit)) ⌝ }
+{
+    let r = rpc::read_auth_flavor(src, at);
+    let AuthFlavorRead::Took { value: v, next: n } = r else {
+        return Copied::Unread(r.refusal());
+    };
+    let w = rpc::write_auth_flavor(v, out, start);
+    let Wrote::Done(end) = w else {
+        return Copied::Unwritten(w.refusal());
+    };
+    Copied::Done {
+        next: n,
+        plain: true,
+        end,
+    }
+}
+
+pub(crate) fn copy_auth_unix(src: &[u8], at: usize, out: &mut [u8], start: usize) -> Copied
+    ensures { λ r. ⌜ Copies auth-unix (now (src .entry)) at start (now (out .entry)) (viewCopied r) (now (out .exit)) ⌝ }
+{
+    let r = rpc::read_auth_unix(src, at);
+    let AuthUnixRead::Took { value: v, next: n, plain: p } = r else {
+        return Copied::Unread(r.refusal());
+    };
+    let w = rpc::write_auth_unix(src, v, out, start);
+    let Wrote::Done(end) = w else {
+        return Copied::Unwritten(w.refusal());
+    };
+    Copied::Done {
+        next: n,
+        plain: p,
+        end,
+    }
+}
+
+pub(crate) fn copy_opaque_auth(src: &[u8], at: usize, out: &mut [u8], start: usize) -> Copied
+    ensures { λ r. ⌜ Copies opaque-auth (now (src .entry)) at start (now (out .entry)) (viewCopied r) (now (out .exit)) ⌝ }
+{
+    let r = rpc::read_opaque_auth(src, at);
+    let OpaqueAuthRead::Took { value: v, next: n, plain: p } = r else {
+        return Copied::Unread(r.refusal());
+    };
+    let w = rpc::write_opaque_auth(src, v, out, start);
+    let Wrote::Done(end) = w else {
+        return Copied::Unwritten(w.refusal());
+    };
+    Copied::Done {
+        next: n,
+        plain: p,
+        end,
+    }
+}
+
+pub(crate) fn copy_rpc_msg(src: &[u8], at: usize, out: &mut [u8], start: usize) -> Copied
+    ensures { λ r. ⌜ Copies rpc-msg (now (src .entry)) at start (now (out .entry)) (viewCopied r) (now (out .exit)) ⌝ }
+{
+    let r = rpc::read_rpc_msg(src, at);
+    let RpcMsgRead::Took { value: v, next: n, plain: p } = r else {
+        return Copied::Unread(r.refusal());
+    };
+    let w = rpc::write_rpc_msg(src, v, out, start);
+    let Wrote::Done(end) = w else {
+        return Copied::Unwritten(w.refusal());
+    };
+    Copied::Done {
+        next: n,
+        plain: p,
+        end,
+    }
+}
+
+pub(crate) fn copy_rpc_body(src: &[u8], at: usize, out: &mut [u8], start: usize) -> Copied
+    ensures { λ r. ⌜ Copies rpc-body (now (src .entry)) at start (now (out .entry)) (viewCopied r) (now (out .exit)) ⌝ }
+{
+    let r = rpc::read_rpc_body(src, at);
+    let RpcBodyRead::Took { value: v, next: n, plain: p } = r else {
+        return Copied::Unread(r.refusal());
+    };
+    let w = rpc::write_rpc_body(src, v, out, start);
+    let Wrote::Done(end) = w else {
+        return Copied::Unwritten(w.refusal());
+    };
+    Copied::Done {
+        next: n,
+        plain: p,
+        end,
+    }
+}
+
+pub(crate) fn copy_call_body(src: &[u8], at: usize, out: &mut [u8], start: usize) -> Copied
+    ensures { λ r. ⌜ Copies call-body (now (src .entry)) at start (now (out .entry)) (viewCopied r) (now (out .exit)) ⌝ }
+{
+    let r = rpc::read_call_body(src, at);
+    let CallBodyRead::Took { value: v, next: n, plain: p } = r else {
+        return Copied::Unread(r.refusal());
+    };
+    let w = rpc::write_call_body(src, v, out, start);
+    let Wrote::Done(end) = w else {
+        return Copied::Unwritten(w.refusal());
+    };
+    Copied::Done {
+        next: n,
+        plain: p,
+        end,
+    }
+}
+
+pub(crate) fn copy_reply_body(src: &[u8], at: usize, out: &mut [u8], start: usize) -> Copied
+    ensures { λ r. ⌜ Copies reply-body (now (src .entry)) at start (now (out .entry)) (viewCopied r) (now (out .exit)) ⌝ }
+{
+    let r = rpc::read_reply_body(src, at);
+    let ReplyBodyRead::Took { value: v, next: n, plain: p } = r else {
+        return Copied::Unread(r.refusal());
+    };
+    let w = rpc::write_reply_body(src, v, out, start);
+    let Wrote::Done(end) = w else {
+        return Copied::Unwritten(w.refusal());
+    };
+    Copied::Done {
+        next: n,
+        plain: p,
+        end,
+    }
+}
+
+pub(crate) fn copy_accepted_reply(src: &[u8], at: usize, out: &mut [u8], start: usize) -> Copied
+    ensures { λ r. ⌜ Copies accepted-reply (now (src .entry)) at start (now (out .entry)) (viewCopied r) (now (out .exit)) ⌝ }
+{
+    let r = rpc::read_accepted_reply(src, at);
+    let AcceptedReplyRead::Took { value: v, next: n, plain: p } = r else {
+        return Copied::Unread(r.refusal());
+    };
+    let w = rpc::write_accepted_reply(src, v, out, start);
+    let Wrote::Done(end) = w else {
+        return Copied::Unwritten(w.refusal());
+    };
+    Copied::Done {
+        next: n,
+        plain: p,
+        end,
+    }
+}
+
+pub(crate) fn copy_accept_body(src: &[u8], at: usize, out: &mut [u8], start: usize) -> Copied
+    ensures { λ r. ⌜ Copies (exactly accept-body) (now (src .entry)) at start (now (out .entry)) (viewCopied r) (now (out .exit)) ⌝ }
+{
+    let r = rpc::read_accept_body(src, at);
+    let AcceptBodyRead::Took { value: v, next: n, plain: p } = r else {
+        return Copied::Unread(r.refusal());
+    };
+    let w = rpc::write_accept_body(v, out, start);
+    let Wrote::Done(end) = w else {
+        return Copied::Unwritten(w.refusal());
+    };
+    Copied::Done {
+        next: n,
+        plain: p,
+        end,
+    }
+}
+
+pub(crate) fn copy_rejected_reply(src: &[u8], at: usize, out: &mut [u8], start: usize) -> Copied
+    ensures { λ r. ⌜ Copies (exactly rejected-reply) (now (src .entry)) at start (now (out .entry)) (viewCopied r) (now (out .exit)) ⌝ }
+{
+    let r = rpc::read_rejected_reply(src, at);
+    let RejectedReplyRead::Took { value: v, next: n, plain: p } = r else {
+        return Copied::Unread(r.refusal());
+    };
+    let w = rpc::write_rejected_reply(v, out, start);
+    let Wrote::Done(end) = w else {
+        return Copied::Unwritten(w.refusal());
+    };
+    Copied::Done {
+        next: n,
+        plain: p,
+        end,
+    }
+}
+
+pub(crate) fn copy_mismatch_info(src: &[u8], at: usize, out: &mut [u8], start: usize) -> Copied
+    ensures { λ r. ⌜ Copies (exactly mismatch-info) (now (src .entry)) at start (now (out .entry)) (viewCopied r) (now (out .exit)) ⌝ }
+{
+    let r = rpc::read_mismatch_info(src, at);
+    let MismatchInfoRead::Took { value: v, next: n } = r else {
+        return Copied::Unread(r.refusal());
+    };
+    let w = rpc::write_mismatch_info(v, out, start);
+    let Wrote::Done(end) = w else {
+        return Copied::Unwritten(w.refusal());
+    };
+    Copied::Done {
+        next: n,
+        plain: true,
+        end,
+    }
+}

@@ -1,0 +1,191 @@
+-- The choice of program, by the case that a message is in.
+-- Assumes nothing.
+use mathlib.Core.Path.{_≡_, refl, sym, ap, subst, _∙_}
+use mathlib.Core.Bool.{Bool, true, false, cond, _||_, or-true}
+use mathlib.Core.Logic.{_⊎_, inl, inr, ⊎-elim}
+use mathlib.Core.Option.{Option, none, some}
+use mathlib.Core.List.{List, [], _∷_, _++_}
+use Prim.Native.Nat.{ℕ, _+_, _≤_, _<_}
+use native.Mathlib.Omega.{arith}
+use lib.Dec.{eqb, leb}
+use lib.ListN.{length, take, drop, length-append, length-drop}
+use lib.Seq.{drop-at}
+use borrow.Author.Tests.{eq-eqb, ne-eqb, le-leb, lt-leb, leb-true, leb-false}
+use Rattle.xdr.specs.Meaning.Answer.{Answer, took, refused, most, opened, Written, done, unwritten}
+use Rattle.xdr.specs.Meaning.Items.{number, word, opaque}
+use Rattle.xdr.specs.Meaning.Pieces.{isInside}
+use Rattle.xdr.specs.Meaning.Formats.{pieceHeld}
+use Rattle.xdr.specs.Meaning.Public.{output, writing, leaving, Writes}
+use Rattle.rpc.specs.Meaning.Closed.{auth-flavor, flavorNumber}
+use Rattle.rpc.specs.Meaning.Auth.{opaque-auth}
+use Rattle.rpc.specs.Meaning.Reply.{mismatch-info, accept-body, accepted-reply, rejected-reply, reply-body}
+use Rattle.rpc.specs.Meaning.Message.{rpc-body, rpc-msg}
+use Rattle.rpc.specs.Meaning.Makers.{versMismatch, progUnavail}
+use Rattle.rpc.specs.Meaning.UnixIn.{unixIn}
+use Rattle.rpc.specs.declared.auth.auth_flavor.{«auth_flavor»}
+use Rattle.rpc.specs.declared.auth.auth_flavor.the-variants.{«AUTH_NULL», «AUTH_UNIX», «AUTH_SHORT», «AUTH_DES»}
+use Rattle.rpc.specs.declared.auth.auth_unix.{«auth_unix»}
+use Rattle.rpc.specs.declared.message.call_body.{«call_body»}
+use Rattle.rpc.specs.declared.message.rpc_body.{«rpc_body»}
+use Rattle.rpc.specs.declared.message.rpc_body.the-variants.{CALL, REPLY}
+use Rattle.rpc.specs.declared.reply.reply_body.{«reply_body»}
+use Rattle.rpc.specs.declared.message.rpc_msg.{«rpc_msg»}
+use Rattle.rpcwire.specs.Meaning.Choice.{Chosen, turned-away, replied, silence, handed, Outcome, outcome, served, replying, byProgram, byVersion, byUnix, byFlavor, byBody, byMessage, choosing, Chooses, Leaves, ChoicePromised}
+
+-- a message of 24 bytes that has no pieces
+pub record Short (m : «rpc_msg») : Type 0 where
+  pub long : length (output rpc-msg [] m) ≡ 24
+  pub whole : rpc-msg .held .inside [] m ≡ true
+
+pub mismatch-short : (x : ℕ) → Short (versMismatch x)
+unfolding rpc-msg rpc-body reply-body rejected-reply mismatch-info word number
+mismatch-short x = record { long = refl; whole = refl }
+
+pub unavail-short : (x : ℕ) → Short (progUnavail x)
+unfolding rpc-msg rpc-body reply-body accepted-reply accept-body opaque-auth auth-flavor opaque pieceHeld isInside word number
+unavail-short x = record { long = refl; whole = refl }
+
+-- what the writer of a message says and leaves, of one that is short
+module _ (m : «rpc_msg») (h : Short m) (o : List ℕ) where
+  says-short : writing rpc-msg [] m 0 (length o) ≡ cond (leb 24 (length o)) (done 24) (unwritten 5)
+  unfolding writing
+  says-short = rw (h .whole, h .long, le-leb 0 (length o) (omega arith))
+
+  done-by : (t : Bool) → leb 24 (length o) ≡ t → {n : ℕ} {o′ : List ℕ} → done n ≡ cond t (done 24) (unwritten 5) → o′ ≡ leaving rpc-msg [] m (done n) 0 o
+      → outcome (replied n) o′ ≡ replying m o
+  unfolding replying
+  done-by true e {n} {o′} f g =
+      let k : n ≡ 24 = cc in
+      ap (λ l. outcome (replied n) l) g ∙ rw (k, e)
+  done-by false e f g = let z : _≡_ {A = ℕ} 0 1 = cc in absurd (omega arith)
+
+  pub reply-done : {w : Written} {n : ℕ} {o′ : List ℕ} → Writes rpc-msg [] m 0 o w o′ → w ≡ done n → outcome (replied n) o′ ≡ replying m o
+  reply-done c e = done-by (leb 24 (length o)) refl (sym e ∙ c .says ∙ says-short) (c .leaves ∙ ap (λ v. leaving rpc-msg [] m v 0 o) e)
+
+  none-by : (t : Bool) → leb 24 (length o) ≡ t → {r : ℕ} {o′ : List ℕ} → unwritten r ≡ cond t (done 24) (unwritten 5) → o′ ≡ o
+      → outcome (turned-away 5 0) o′ ≡ replying m o
+  unfolding replying
+  none-by true e f g = let z : _≡_ {A = ℕ} 0 1 = cc in absurd (omega arith)
+  none-by false e f g = ap (λ l. outcome (turned-away 5 0) l) g ∙ sym (rw e)
+
+  pub reply-none : {w : Written} {r : ℕ} {o′ : List ℕ} → Writes rpc-msg [] m 0 o w o′ → w ≡ unwritten r → outcome (turned-away 5 0) o′ ≡ replying m o
+  reply-none c e = none-by (leb 24 (length o)) refl (sym e ∙ c .says ∙ says-short) (c .leaves ∙ ap (λ v. leaving rpc-msg [] m v 0 o) e)
+
+-- a call whose credential is read
+module _ (seen : Bool) (o : List ℕ) (x : ℕ) (c : «call_body») (a : Option «auth_unix») (n : ℕ) where
+  pub version-other : (c .rpcvers ≡ 2 → ⊥) → {r : Outcome} → r ≡ replying (versMismatch x) o → r ≡ byVersion seen o x c a n
+  unfolding byVersion
+  version-other h e = e ∙ sym (rw (ne-eqb (c .rpcvers) 2 h))
+
+  module _ (h : c .rpcvers ≡ 2) where
+    pub version-seen : seen ≡ true → outcome silence o ≡ byVersion seen o x c a n
+    unfolding byVersion
+    version-seen e = sym (rw (eq-eqb (c .rpcvers) 2 h, e))
+
+    module _ (e : seen ≡ false) where
+      pub program-served : served (c .prog) ≡ true → outcome (handed (c .prog) (c .vers) (c .proc) a n) o ≡ byVersion seen o x c a n
+      unfolding byVersion byProgram
+      program-served f = sym (rw (eq-eqb (c .rpcvers) 2 h, e, f))
+
+      pub program-other : served (c .prog) ≡ false → {r : Outcome} → r ≡ replying (progUnavail x) o → r ≡ byVersion seen o x c a n
+      unfolding byVersion byProgram
+      program-other f g = g ∙ sym (rw (eq-eqb (c .rpcvers) 2 h, e, f))
+
+pub is-served : (p : ℕ) → ((p ≡ 100000) ⊎ ((p ≡ 100003) ⊎ (p ≡ 100005))) → served p ≡ true
+is-served p h = ⊎-elim (λ e. rw e) (λ k. ⊎-elim (λ e. rw e) (λ e. rw e) k) h
+
+pub not-served : (p : ℕ) → ((p ≡ 100000) ⊎ ((p ≡ 100003) ⊎ (p ≡ 100005)) → ⊥) → served p ≡ false
+not-served p h = simp (ne-eqb p 100003 (λ e. h (inr (inl e))), ne-eqb p 100000 (λ e. h (inl e)), ne-eqb p 100005 (λ e. h (inr (inr e))))
+
+-- what the choice is, as far as the message is read
+module _ (s : List ℕ) (seen : Bool) (o : List ℕ) where
+  pub not-taken : {r q : ℕ} → opened s 0 (rpc-msg .held .read s 0) ≡ refused r q → outcome (turned-away r q) o ≡ choosing s seen o
+  unfolding choosing
+  not-taken e = sym (ap (byMessage s seen o) e)
+
+  module _ {m : «rpc_msg»} {n : ℕ} {b : Bool} (e : opened s 0 (rpc-msg .held .read s 0) ≡ took m n b) where
+    pub took-reply : {q : «reply_body»} → m .body ≡ REPLY q → outcome (turned-away 8 0) o ≡ choosing s seen o
+    unfolding choosing
+    took-reply f = sym (ap (byMessage s seen o) e ∙ ap (byBody s seen o (m .xid) n) f)
+
+    pub took-call : {c : «call_body»} → m .body ≡ CALL c → {r : Outcome} → r ≡ byFlavor s seen o (m .xid) c n (c .cred .flavor) → r ≡ choosing s seen o
+    unfolding choosing
+    took-call f g = g ∙ sym (ap (byMessage s seen o) e ∙ ap (byBody s seen o (m .xid) n) f)
+
+  module _ (x : ℕ) (c : «call_body») (n : ℕ) where
+    flavor-of : (f : «auth_flavor») → (flavorNumber f ≡ 1 → ⊥) → byFlavor s seen o x c n f ≡ byVersion seen o x c none n
+    flavor-of «AUTH_NULL» h = refl
+    flavor-of «AUTH_UNIX» h = absurd (h refl)
+    flavor-of «AUTH_SHORT» h = refl
+    flavor-of «AUTH_DES» h = refl
+
+    -- a credential of another flavor says nothing
+    pub flavor-other : (flavorNumber (c .cred .flavor) ≡ 1 → ⊥) → {r : Outcome} → r ≡ byVersion seen o x c none n → r ≡ byFlavor s seen o x c n (c .cred .flavor)
+    flavor-other h e = e ∙ sym (flavor-of (c .cred .flavor) h)
+
+    module _ (h : c .cred .flavor ≡ «AUTH_UNIX») where
+      pub unix-refused : {r q : ℕ} → unixIn s (c .cred .body) ≡ refused r q → outcome (turned-away r q) o ≡ byFlavor s seen o x c n (c .cred .flavor)
+      unix-refused e = sym (ap (byFlavor s seen o x c n) h ∙ ap (byUnix s seen o x c n) e)
+
+      pub unix-took : {a : «auth_unix»} {k : ℕ} {b : Bool} → unixIn s (c .cred .body) ≡ took a k b → {r : Outcome} → r ≡ byVersion seen o x c (some a) n
+          → r ≡ byFlavor s seen o x c n (c .cred .flavor)
+      unix-took e g = g ∙ sym (ap (byFlavor s seen o x c n) h ∙ ap (byUnix s seen o x c n) e)
+
+-- ---- what a choice leaves of the output
+
+abbrev LeavesOf : List ℕ → Outcome → Type 0
+LeavesOf o r = Leaves (r .said) o (r .held)
+
+leaves-reply : (m : «rpc_msg») → Short m → (o : List ℕ) (t : Bool) → leb 24 (length o) ≡ t → LeavesOf o (replying m o)
+unfolding replying
+leaves-reply m h o true e =
+    let k : 24 ≤ length o = leb-true 24 (length o) e in
+    rw e (
+      refl,
+      k,
+      drop-at (output rpc-msg [] m) (drop 24 o) 24 (h .long),
+      length-append (output rpc-msg [] m) (drop 24 o) ∙ omega (arith, h .long, length-drop 24 o),
+    )
+leaves-reply m h o false e = rw e refl
+
+leaves-cond : (o : List ℕ) (t : Bool) (a b : Outcome) → LeavesOf o a → LeavesOf o b → LeavesOf o (cond t a b)
+leaves-cond o true a b f g = f
+leaves-cond o false a b f g = g
+
+module _ (s : List ℕ) (seen : Bool) (o : List ℕ) where
+  leaves-version : (x : ℕ) (c : «call_body») (a : Option «auth_unix») (n : ℕ) → LeavesOf o (byVersion seen o x c a n)
+  unfolding byVersion byProgram
+  leaves-version x c a n =
+      leaves-cond o (eqb (c .rpcvers) 2) _ _
+      (leaves-cond o seen _ _ refl
+      (leaves-cond o (served (c .prog)) _ _ refl (leaves-reply (progUnavail x) (unavail-short x) o (leb 24 (length o)) refl)))
+      (leaves-reply (versMismatch x) (mismatch-short x) o (leb 24 (length o)) refl)
+
+  leaves-unix : (x : ℕ) (c : «call_body») (n : ℕ) (r : Answer «auth_unix») → LeavesOf o (byUnix s seen o x c n r)
+  leaves-unix x c n (took a k b) = leaves-version x c (some a) n
+  leaves-unix x c n (refused r q) = refl
+
+  leaves-flavor : (x : ℕ) (c : «call_body») (n : ℕ) (f : «auth_flavor») → LeavesOf o (byFlavor s seen o x c n f)
+  leaves-flavor x c n «AUTH_NULL» = leaves-version x c none n
+  leaves-flavor x c n «AUTH_UNIX» = leaves-unix x c n (unixIn s (c .cred .body))
+  leaves-flavor x c n «AUTH_SHORT» = leaves-version x c none n
+  leaves-flavor x c n «AUTH_DES» = leaves-version x c none n
+
+  leaves-body : (x n : ℕ) (y : «rpc_body») → LeavesOf o (byBody s seen o x n y)
+  leaves-body x n (CALL c) = leaves-flavor x c n (c .cred .flavor)
+  leaves-body x n (REPLY r) = refl
+
+  leaves-message : (r : Answer «rpc_msg») → LeavesOf o (byMessage s seen o r)
+  leaves-message (took m n b) = leaves-body (m .xid) n (m .body)
+  leaves-message (refused r q) = refl
+
+  leaves-choosing : LeavesOf o (choosing s seen o)
+  unfolding choosing
+  leaves-choosing = leaves-message (opened s 0 (rpc-msg .held .read s 0))
+
+  pub choice-promised : {c : Chosen} {o′ : List ℕ} → Chooses s seen o c o′ → ChoicePromised s seen o c o′
+  choice-promised h =
+      record {
+        one = λ g. (ap (λ (r : Outcome). r .said) (h .is ∙ sym (g .is)), ap (λ (r : Outcome). r .held) (h .is ∙ sym (g .is)));
+        leaves = subst (LeavesOf o) (sym (h .is)) leaves-choosing;
+      }
