@@ -5,10 +5,21 @@ ghost use Prim.Native.Nat.{_≤_};
 ghost use lib.ListN.{length};
 ghost use lib.Seq.{sets};
 ghost use mathlib.Core.List.{[], _∷_};
+ghost use mathlib.Core.Bool.{cond};
 ghost use Rattle.door.specs.Meaning.Copy.{viewCopied};
-ghost use Rattle.door.specs.Meaning.Exports.{codeOf, figures, ReadCalled};
+ghost use Rattle.xdr.specs.Meaning.Views.{viewWrote};
+ghost use Rattle.rpcwire.specs.Meaning.Views.{viewChoice, viewCaller, viewFed};
+ghost use Rattle.door.specs.Meaning.Exports.{codeOf, figures, ReadCalled, wroteCode, wroteFigure, FragmentCalled, chosenCode, chosenFigures, handedFigures, ChooseCalled, stateOf, stateList, fedCode, fedFigures, fedState, FeedCalled};
 use crate::copy::Copied;
 use crate::kinds::copy_kind;
+use rpcwire::Assembler;
+use rpcwire::Caller;
+use rpcwire::Choice;
+use rpcwire::Fed;
+use rpcwire::choose;
+use rpcwire::feed;
+use rpcwire::write_fragment;
+use xdr::Wrote;
 
 // The list for the figures is too short.
 pub const SHORT_LIST: u32 = 254;
@@ -73,4 +84,257 @@ pub extern "C" fn yugerzat_read(
     }
     let c = copy_kind(kind, src, at, out, 0);
     tell_copied(c, info)
+}
+
+// Writes a message as a record's only fragment, from place `start` of out. 0: info holds the place after it. A refusal: 0.
+#[no_mangle]
+pub extern "C" fn yugerzat_fragment(
+    message: &[u8],
+    out: &mut [u8],
+    start: usize,
+    info: &mut [u64],
+) -> u32
+    ensures { λ r. ⌜ FragmentCalled (now (message .entry)) start (now (out .entry)) (now (info .entry)) r (now (out .exit)) (now (info .exit)) ⌝ }
+{
+    if info.len() < 1 {
+        return SHORT_LIST;
+    }
+    let w = write_fragment(message, out, start);
+    match w {
+        Wrote::Done(n) => {
+            info[0] = n as u64;
+            0
+        }
+        Wrote::Refused(r) => {
+            info[0] = 0;
+            r.number()
+        }
+    }
+}
+
+// Twelve figures at the front of a list.
+fn put_twelve(
+    a: u64,
+    b: u64,
+    c: u64,
+    d: u64,
+    e: u64,
+    f: u64,
+    g: u64,
+    h: u64,
+    i: u64,
+    j: u64,
+    k: u64,
+    l: u64,
+    info: &mut [u64],
+)
+    requires { ⌜ 12 ≤ length (now info) ⌝ }
+    ensures { λ _. ⌜ now (info .exit) ≡ sets (now (info .entry)) 0 (a ∷ b ∷ c ∷ d ∷ e ∷ f ∷ g ∷ h ∷ i ∷ j ∷ k ∷ l ∷ []) ⌝ }
+{
+    info[0] = a;
+    info[1] = b;
+    info[2] = c;
+    info[3] = d;
+    info[4] = e;
+    info[5] = f;
+    info[6] = g;
+    info[7] = h;
+    info[8] = i;
+    info[9] = j;
+    info[10] = k;
+    info[11] = l;
+}
+
+// The number of a choice, and its figures.
+fn tell_chosen(c: Choice, info: &mut [u64]) -> u32
+    requires { ⌜ 12 ≤ length (now info) ⌝ }
+    ensures said { λ r. ⌜ r ≡ chosenCode (viewChoice c) ⌝ }
+    ensures told { λ _. ⌜ now (info .exit) ≡ sets (now (info .entry)) 0 (chosenFigures (viewChoice c)) ⌝ }
+{
+    match c {
+        Choice::Refused(r) => {
+            put_twelve(r.place() as u64, 0, 0, 0, 0, 0, 0, 0, 0, 0, 0, 0, info);
+            r.number()
+        }
+        Choice::Replied(n) => {
+            put_twelve(n as u64, 0, 0, 0, 0, 0, 0, 0, 0, 0, 0, 0, info);
+            101
+        }
+        Choice::Silent => {
+            put_twelve(0, 0, 0, 0, 0, 0, 0, 0, 0, 0, 0, 0, info);
+            102
+        }
+        Choice::HandOver {
+            prog,
+            vers,
+            proc,
+            caller,
+            arguments,
+        } => {
+            tell_hand_over(prog, vers, proc, caller, arguments, info);
+            100
+        }
+    }
+}
+
+// The figures of a hand-over: program, version, procedure, the place of the arguments, then 1 and the seven of the auth_unix, or zeros.
+fn tell_hand_over(
+    prog: u32,
+    vers: u32,
+    proc: u32,
+    caller: Caller,
+    arguments: usize,
+    info: &mut [u64],
+)
+    requires { ⌜ 12 ≤ length (now info) ⌝ }
+    ensures { λ _. ⌜ now (info .exit) ≡ sets (now (info .entry)) 0 (handedFigures prog vers proc arguments (viewCaller caller)) ⌝ }
+{
+    match caller {
+        Caller::Unnamed => put_twelve(
+            prog as u64,
+            vers as u64,
+            proc as u64,
+            arguments as u64,
+            0,
+            0,
+            0,
+            0,
+            0,
+            0,
+            0,
+            0,
+            info,
+        ),
+        Caller::Unix(a) => {
+            let name = a.machinename;
+            let gids = a.gids;
+            put_twelve(
+                prog as u64,
+                vers as u64,
+                proc as u64,
+                arguments as u64,
+                1,
+                a.stamp as u64,
+                name.at as u64,
+                name.count as u64,
+                a.uid as u64,
+                a.gid as u64,
+                gids.at as u64,
+                gids.count as u64,
+                info,
+            )
+        }
+    }
+}
+
+// Chooses what to answer to a message; seen is 0 where the call did not come before. 100: a hand-over; info holds program, version,
+// procedure, the place of the arguments, then 1 with stamp, place and count of the name, uid, gid, place and count of the gids, or 0 with
+// zeros. 101: a reply of info[0] bytes stands at the start of out. 102: silence. A refusal: info holds its place.
+#[no_mangle]
+pub extern "C" fn yugerzat_choose(
+    message: &[u8],
+    seen: u32,
+    out: &mut [u8],
+    info: &mut [u64],
+) -> u32
+    ensures { λ r. ⌜ ChooseCalled (now (message .entry)) seen (now (out .entry)) (now (info .entry)) r (now (out .exit)) (now (info .exit)) ⌝ }
+{
+    if info.len() < 12 {
+        return SHORT_LIST;
+    }
+    let c = choose(message, seen != 0, out);
+    tell_chosen(c, info)
+}
+
+fn bit(b: bool) -> u64
+    ensures { λ r. ⌜ r ≡ cond b 1 0 ⌝ }
+{
+    if b { 1 } else { 0 }
+}
+
+// The seven numbers of an assembler's state, at the front of a list.
+fn put_state(s: Assembler, list: &mut [u64])
+    requires { ⌜ 7 ≤ length (now list) ⌝ }
+    ensures { λ _. ⌜ now (list .exit) ≡ sets (now (list .entry)) 0 (stateList s) ⌝ }
+{
+    let last = bit(s.last);
+    let stopped = bit(s.stopped);
+    list[0] = s.capacity as u64;
+    list[1] = s.placed as u64;
+    list[2] = s.header_count as u64;
+    list[3] = s.header_value as u64;
+    list[4] = s.left as u64;
+    list[5] = last;
+    list[6] = stopped;
+}
+
+fn put_two(a: u64, b: u64, info: &mut [u64])
+    requires { ⌜ 2 ≤ length (now info) ⌝ }
+    ensures { λ _. ⌜ now (info .exit) ≡ sets (now (info .entry)) 0 (a ∷ b ∷ []) ⌝ }
+{
+    info[0] = a;
+    info[1] = b;
+}
+
+// The number of a feed's answer, its state and its figures.
+fn tell_fed(f: Fed, list: &mut [u64], info: &mut [u64]) -> u32
+    requires { ⌜ (7 ≤ length (now list)) × (2 ≤ length (now info)) ⌝ }
+    ensures { λ r. ⌜ (r ≡ fedCode (viewFed f)) × (now (list .exit) ≡ sets (now (list .entry)) 0 (stateList (fedState (viewFed f)))) × (now (info .exit) ≡ sets (now (info .entry)) 0 (fedFigures (viewFed f))) ⌝ }
+{
+    match f {
+        Fed::Refused {
+            refusal,
+            state,
+            used,
+        } => {
+            put_state(state, list);
+            put_two(used as u64, 0, info);
+            refusal.number()
+        }
+        Fed::More { state, used } => {
+            put_state(state, list);
+            put_two(used as u64, 0, info);
+            100
+        }
+        Fed::Complete {
+            length,
+            state,
+            used,
+        } => {
+            put_state(state, list);
+            put_two(used as u64, length as u64, info);
+            101
+        }
+    }
+}
+
+// Feeds a run of bytes to an assembler, whose state is seven numbers: capacity, bytes placed, header bytes so far and their value, bytes
+// left, last and stopped (0 or not). 100: more. 101: complete. Or refusal 6 or 7. info holds the bytes used, and the length of a complete
+// record; the state is the one to go on with.
+#[no_mangle]
+pub extern "C" fn yugerzat_feed(
+    state: &mut [u64],
+    run: &[u8],
+    buf: &mut [u8],
+    info: &mut [u64],
+) -> u32
+    ensures { λ r. ⌜ FeedCalled (now (state .entry)) (now (run .entry)) (now (buf .entry)) (now (info .entry)) r (now (state .exit)) (now (buf .exit)) (now (info .exit)) ⌝ }
+{
+    if state.len() < 7 {
+        return SHORT_LIST;
+    }
+    if info.len() < 2 {
+        return SHORT_LIST;
+    }
+    let s = Assembler {
+        capacity: state[0] as usize,
+        placed: state[1] as usize,
+        header_count: state[2] as usize,
+        header_value: state[3] as usize,
+        left: state[4] as usize,
+        last: state[5] != 0,
+        stopped: state[6] != 0,
+    };
+    let f = feed(s, run, buf);
+    tell_fed(f, state, info)
 }

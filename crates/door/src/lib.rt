@@ -2,8 +2,8 @@
 pub mod copy;
 pub mod exports;
 mod items;
-mod messages;
 mod kinds;
+mod messages;
 
 pub use copy::Copied;
 pub use kinds::copy_kind;

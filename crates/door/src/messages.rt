@@ -6,23 +6,23 @@ ghost use Rattle.rpc.specs.Meaning.Message.{rpc-msg, rpc-body, call-body};
 ghost use Rattle.rpc.specs.Meaning.Reply.{reply-body, accepted-reply, accept-body, rejected-reply, mismatch-info};
 ghost use Rattle.door.specs.Meaning.Copy.{viewCopied, Copies};
 use crate::copy::Copied;
-use xdr::Wrote;
-use rpc::MsgTypeRead;
-use rpc::ReplyStatRead;
-use rpc::AcceptStatRead;
-use rpc::RejectStatRead;
-use rpc::AuthStatRead;
-use rpc::AuthFlavorRead;
-use rpc::AuthUnixRead;
-use rpc::OpaqueAuthRead;
-use rpc::RpcMsgRead;
-use rpc::RpcBodyRead;
-use rpc::CallBodyRead;
-use rpc::ReplyBodyRead;
-use rpc::AcceptedReplyRead;
 use rpc::AcceptBodyRead;
-use rpc::RejectedReplyRead;
+use rpc::AcceptStatRead;
+use rpc::AcceptedReplyRead;
+use rpc::AuthFlavorRead;
+use rpc::AuthStatRead;
+use rpc::AuthUnixRead;
+use rpc::CallBodyRead;
 use rpc::MismatchInfoRead;
+use rpc::MsgTypeRead;
+use rpc::OpaqueAuthRead;
+use rpc::RejectStatRead;
+use rpc::RejectedReplyRead;
+use rpc::ReplyBodyRead;
+use rpc::ReplyStatRead;
+use rpc::RpcBodyRead;
+use rpc::RpcMsgRead;
+use xdr::Wrote;
 
 pub(crate) fn copy_msg_type(src: &[u8], at: usize, out: &mut [u8], start: usize) -> Copied
     ensures { λ r. ⌜ Copies (exactly msg-type) (now (src .entry)) at start (now (out .entry)) (viewCopied r) (now (out .exit)) ⌝ }
@@ -136,7 +136,12 @@ pub(crate) fn copy_auth_unix(src: &[u8], at: usize, out: &mut [u8], start: usize
     ensures { λ r. ⌜ Copies auth-unix (now (src .entry)) at start (now (out .entry)) (viewCopied r) (now (out .exit)) ⌝ }
 {
     let r = rpc::read_auth_unix(src, at);
-    let AuthUnixRead::Took { value: v, next: n, plain: p } = r else {
+    let AuthUnixRead::Took {
+        value: v,
+        next: n,
+        plain: p,
+    } = r
+    else {
         return Copied::Unread(r.refusal());
     };
     let w = rpc::write_auth_unix(src, v, out, start);
@@ -154,7 +159,12 @@ pub(crate) fn copy_opaque_auth(src: &[u8], at: usize, out: &mut [u8], start: usi
     ensures { λ r. ⌜ Copies opaque-auth (now (src .entry)) at start (now (out .entry)) (viewCopied r) (now (out .exit)) ⌝ }
 {
     let r = rpc::read_opaque_auth(src, at);
-    let OpaqueAuthRead::Took { value: v, next: n, plain: p } = r else {
+    let OpaqueAuthRead::Took {
+        value: v,
+        next: n,
+        plain: p,
+    } = r
+    else {
         return Copied::Unread(r.refusal());
     };
     let w = rpc::write_opaque_auth(src, v, out, start);
@@ -172,7 +182,12 @@ pub(crate) fn copy_rpc_msg(src: &[u8], at: usize, out: &mut [u8], start: usize) 
     ensures { λ r. ⌜ Copies rpc-msg (now (src .entry)) at start (now (out .entry)) (viewCopied r) (now (out .exit)) ⌝ }
 {
     let r = rpc::read_rpc_msg(src, at);
-    let RpcMsgRead::Took { value: v, next: n, plain: p } = r else {
+    let RpcMsgRead::Took {
+        value: v,
+        next: n,
+        plain: p,
+    } = r
+    else {
         return Copied::Unread(r.refusal());
     };
     let w = rpc::write_rpc_msg(src, v, out, start);
@@ -190,7 +205,12 @@ pub(crate) fn copy_rpc_body(src: &[u8], at: usize, out: &mut [u8], start: usize)
     ensures { λ r. ⌜ Copies rpc-body (now (src .entry)) at start (now (out .entry)) (viewCopied r) (now (out .exit)) ⌝ }
 {
     let r = rpc::read_rpc_body(src, at);
-    let RpcBodyRead::Took { value: v, next: n, plain: p } = r else {
+    let RpcBodyRead::Took {
+        value: v,
+        next: n,
+        plain: p,
+    } = r
+    else {
         return Copied::Unread(r.refusal());
     };
     let w = rpc::write_rpc_body(src, v, out, start);
@@ -208,7 +228,12 @@ pub(crate) fn copy_call_body(src: &[u8], at: usize, out: &mut [u8], start: usize
     ensures { λ r. ⌜ Copies call-body (now (src .entry)) at start (now (out .entry)) (viewCopied r) (now (out .exit)) ⌝ }
 {
     let r = rpc::read_call_body(src, at);
-    let CallBodyRead::Took { value: v, next: n, plain: p } = r else {
+    let CallBodyRead::Took {
+        value: v,
+        next: n,
+        plain: p,
+    } = r
+    else {
         return Copied::Unread(r.refusal());
     };
     let w = rpc::write_call_body(src, v, out, start);
@@ -226,7 +251,12 @@ pub(crate) fn copy_reply_body(src: &[u8], at: usize, out: &mut [u8], start: usiz
     ensures { λ r. ⌜ Copies reply-body (now (src .entry)) at start (now (out .entry)) (viewCopied r) (now (out .exit)) ⌝ }
 {
     let r = rpc::read_reply_body(src, at);
-    let ReplyBodyRead::Took { value: v, next: n, plain: p } = r else {
+    let ReplyBodyRead::Took {
+        value: v,
+        next: n,
+        plain: p,
+    } = r
+    else {
         return Copied::Unread(r.refusal());
     };
     let w = rpc::write_reply_body(src, v, out, start);
@@ -244,7 +274,12 @@ pub(crate) fn copy_accepted_reply(src: &[u8], at: usize, out: &mut [u8], start: 
     ensures { λ r. ⌜ Copies accepted-reply (now (src .entry)) at start (now (out .entry)) (viewCopied r) (now (out .exit)) ⌝ }
 {
     let r = rpc::read_accepted_reply(src, at);
-    let AcceptedReplyRead::Took { value: v, next: n, plain: p } = r else {
+    let AcceptedReplyRead::Took {
+        value: v,
+        next: n,
+        plain: p,
+    } = r
+    else {
         return Copied::Unread(r.refusal());
     };
     let w = rpc::write_accepted_reply(src, v, out, start);
@@ -262,7 +297,12 @@ pub(crate) fn copy_accept_body(src: &[u8], at: usize, out: &mut [u8], start: usi
     ensures { λ r. ⌜ Copies (exactly accept-body) (now (src .entry)) at start (now (out .entry)) (viewCopied r) (now (out .exit)) ⌝ }
 {
     let r = rpc::read_accept_body(src, at);
-    let AcceptBodyRead::Took { value: v, next: n, plain: p } = r else {
+    let AcceptBodyRead::Took {
+        value: v,
+        next: n,
+        plain: p,
+    } = r
+    else {
         return Copied::Unread(r.refusal());
     };
     let w = rpc::write_accept_body(v, out, start);
@@ -280,7 +320,12 @@ pub(crate) fn copy_rejected_reply(src: &[u8], at: usize, out: &mut [u8], start: 
     ensures { λ r. ⌜ Copies (exactly rejected-reply) (now (src .entry)) at start (now (out .entry)) (viewCopied r) (now (out .exit)) ⌝ }
 {
     let r = rpc::read_rejected_reply(src, at);
-    let RejectedReplyRead::Took { value: v, next: n, plain: p } = r else {
+    let RejectedReplyRead::Took {
+        value: v,
+        next: n,
+        plain: p,
+    } = r
+    else {
         return Copied::Unread(r.refusal());
     };
     let w = rpc::write_rejected_reply(v, out, start);

@@ -1,11 +1,20 @@
 -- What the exported functions answer: a number, and figures in a lent list.
 -- Assumes nothing.
 use mathlib.Core.Path.{_≡_}
-use mathlib.Core.Bool.{Bool, true, false, cond}
+use mathlib.Core.Bool.{Bool, cond, not}
 use mathlib.Core.List.{List, [], _∷_}
 use Prim.Native.Nat.{ℕ, _≤_, _<_}
-use lib.ListN.{length}
+use lib.ListN.{length, getD}
 use lib.Seq.{sets}
+use mathlib.Core.Option.{Option, none, some}
+use mathlib.Core.Logic.{_⊎_}
+use lib.Dec.{eqb}
+use Rattle.xdr.specs.Meaning.Answer.{Written, done, unwritten}
+use Rattle.rpc.specs.declared.auth.auth_unix.{«auth_unix»}
+use Rattle.rpcwire.specs.Meaning.Fragment.{WritesFragment}
+use Rattle.rpcwire.specs.Meaning.Choice.{Chosen, turned-away, replied, silence, handed, Chooses}
+use Rattle.rpcwire.specs.Meaning.Stream.{Said, more, complete, refused, Feeds}
+use Rattle.rpcwire.specs.declared.assembler.Assembler.{Assembler}
 use Rattle.door.specs.Meaning.Copy.{Copy, unknown, unread, unmade, made}
 use Rattle.door.specs.Meaning.Kinds.{kinds, CopiesOf}
 
@@ -32,3 +41,93 @@ pub record Told (kind : ℕ) (s : List ℕ) (at : ℕ) (o i : List ℕ) (r : ℕ
 pub record ReadCalled (kind : ℕ) (s : List ℕ) (at : ℕ) (o i : List ℕ) (r : ℕ) (o′ i′ : List ℕ) : Type 0 where
   pub room : 3 ≤ length i → Told kind s at o i r o′ i′
   pub short : length i < 3 → (r ≡ 254) × (o′ ≡ o) × (i′ ≡ i)
+
+-- `yugerzat_fragment`: one figure, the place after the fragment
+abbrev pub wroteCode : Written → ℕ
+wroteCode (done n) = 0
+wroteCode (unwritten r) = r
+
+abbrev pub wroteFigure : Written → ℕ
+wroteFigure (done n) = n
+wroteFigure (unwritten r) = 0
+
+pub record FragmentTold (m : List ℕ) (start : ℕ) (o i : List ℕ) (r : ℕ) (o′ i′ : List ℕ) : Type 0 where
+  pub answer : Written
+  pub writes : WritesFragment m start o answer o′
+  pub number : r ≡ wroteCode answer
+  pub list : i′ ≡ sets i 0 (wroteFigure answer ∷ [])
+
+pub record FragmentCalled (m : List ℕ) (start : ℕ) (o i : List ℕ) (r : ℕ) (o′ i′ : List ℕ) : Type 0 where
+  pub room : 1 ≤ length i → FragmentTold m start o i r o′ i′
+  pub short : length i < 1 → (r ≡ 254) × (o′ ≡ o) × (i′ ≡ i)
+
+-- `yugerzat_choose`: twelve figures
+abbrev pub chosenCode : Chosen → ℕ
+chosenCode (turned-away r q) = r
+chosenCode (replied n) = 101
+chosenCode silence = 102
+chosenCode (handed p v f a n) = 100
+
+abbrev pub handedFigures : (prog vers proc args : ℕ) → Option «auth_unix» → List ℕ
+handedFigures p v f n none = p ∷ v ∷ f ∷ n ∷ 0 ∷ 0 ∷ 0 ∷ 0 ∷ 0 ∷ 0 ∷ 0 ∷ 0 ∷ []
+handedFigures p v f n (some a) =
+    p ∷ v ∷ f ∷ n ∷ 1 ∷ a .stamp ∷ a .machinename .at ∷ a .machinename .count ∷ a .uid ∷ a .gid ∷ a .gids .at ∷ a .gids .count ∷ []
+
+abbrev pub chosenFigures : Chosen → List ℕ
+chosenFigures (turned-away r q) = q ∷ 0 ∷ 0 ∷ 0 ∷ 0 ∷ 0 ∷ 0 ∷ 0 ∷ 0 ∷ 0 ∷ 0 ∷ 0 ∷ []
+chosenFigures (replied n) = n ∷ 0 ∷ 0 ∷ 0 ∷ 0 ∷ 0 ∷ 0 ∷ 0 ∷ 0 ∷ 0 ∷ 0 ∷ 0 ∷ []
+chosenFigures silence = 0 ∷ 0 ∷ 0 ∷ 0 ∷ 0 ∷ 0 ∷ 0 ∷ 0 ∷ 0 ∷ 0 ∷ 0 ∷ 0 ∷ []
+chosenFigures (handed p v f a n) = handedFigures p v f n a
+
+pub record ChooseTold (s : List ℕ) (seen : ℕ) (o i : List ℕ) (r : ℕ) (o′ i′ : List ℕ) : Type 0 where
+  pub chosen : Chosen
+  pub chooses : Chooses s (not (eqb seen 0)) o chosen o′
+  pub number : r ≡ chosenCode chosen
+  pub list : i′ ≡ sets i 0 (chosenFigures chosen)
+
+pub record ChooseCalled (s : List ℕ) (seen : ℕ) (o i : List ℕ) (r : ℕ) (o′ i′ : List ℕ) : Type 0 where
+  pub room : 12 ≤ length i → ChooseTold s seen o i r o′ i′
+  pub short : length i < 12 → (r ≡ 254) × (o′ ≡ o) × (i′ ≡ i)
+
+-- `yugerzat_feed`: the state is seven numbers, and two figures say what was used and how long the record is
+abbrev pub stateOf : List ℕ → Assembler
+stateOf l =
+    record {
+      capacity = getD l 0 0;
+      placed = getD l 1 0;
+      «header_count» = getD l 2 0;
+      «header_value» = getD l 3 0;
+      left = getD l 4 0;
+      last = not (eqb (getD l 5 0) 0);
+      stopped = not (eqb (getD l 6 0) 0);
+    }
+
+abbrev pub stateList : Assembler → List ℕ
+stateList s =
+    s .capacity ∷ s .placed ∷ s .«header_count» ∷ s .«header_value» ∷ s .left ∷ cond (s .last) 1 0 ∷ cond (s .stopped) 1 0 ∷ []
+
+abbrev pub fedCode : Said → ℕ
+fedCode (more s u) = 100
+fedCode (complete n s u) = 101
+fedCode (refused r s u) = r
+
+abbrev pub fedState : Said → Assembler
+fedState (more s u) = s
+fedState (complete n s u) = s
+fedState (refused r s u) = s
+
+abbrev pub fedFigures : Said → List ℕ
+fedFigures (more s u) = u ∷ 0 ∷ []
+fedFigures (complete n s u) = u ∷ n ∷ []
+fedFigures (refused r s u) = u ∷ 0 ∷ []
+
+pub record FeedTold (l run d i : List ℕ) (r : ℕ) (l′ d′ i′ : List ℕ) : Type 0 where
+  pub said : Said
+  pub feeds : Feeds (stateOf l) run d said d′
+  pub number : r ≡ fedCode said
+  pub state : l′ ≡ sets l 0 (stateList (fedState said))
+  pub list : i′ ≡ sets i 0 (fedFigures said)
+
+pub record FeedCalled (l run d i : List ℕ) (r : ℕ) (l′ d′ i′ : List ℕ) : Type 0 where
+  pub room : 7 ≤ length l → 2 ≤ length i → FeedTold l run d i r l′ d′ i′
+  pub short : (length l < 7) ⊎ (length i < 2) → (r ≡ 254) × (l′ ≡ l) × (d′ ≡ d) × (i′ ≡ i)
