@@ -2,6 +2,28 @@
 ghost use Rattle.door.specs.Meaning.Copy.{viewCopied};
 ghost use Rattle.door.specs.Meaning.Kinds.{kinds, CopiesOf};
 use crate::copy::Copied;
+use crate::files::copy_diropargs3;
+use crate::files::copy_fattr3;
+use crate::files::copy_fsinfo3;
+use crate::files::copy_ftype3;
+use crate::files::copy_nfs_fh3;
+use crate::files::copy_nfsstat3;
+use crate::files::copy_nfstime3;
+use crate::files::copy_post_op_attr;
+use crate::files::copy_post_op_fh3;
+use crate::files::copy_pre_op_attr;
+use crate::files::copy_sattr3;
+use crate::files::copy_set_atime;
+use crate::files::copy_set_gid3;
+use crate::files::copy_set_mode3;
+use crate::files::copy_set_mtime;
+use crate::files::copy_set_size3;
+use crate::files::copy_set_uid3;
+use crate::files::copy_specdata3;
+use crate::files::copy_symlinkdata3;
+use crate::files::copy_time_how;
+use crate::files::copy_wcc_attr;
+use crate::files::copy_wcc_data;
 use crate::items::copy_bool;
 use crate::items::copy_eight;
 use crate::items::copy_i32;
@@ -10,6 +32,22 @@ use crate::items::copy_opaque;
 use crate::items::copy_u32;
 use crate::items::copy_u64;
 use crate::items::copy_words;
+use crate::messages::copy_accept_body;
+use crate::messages::copy_accept_stat;
+use crate::messages::copy_accepted_reply;
+use crate::messages::copy_auth_flavor;
+use crate::messages::copy_auth_stat;
+use crate::messages::copy_auth_unix;
+use crate::messages::copy_call_body;
+use crate::messages::copy_mismatch_info;
+use crate::messages::copy_msg_type;
+use crate::messages::copy_opaque_auth;
+use crate::messages::copy_reject_stat;
+use crate::messages::copy_rejected_reply;
+use crate::messages::copy_reply_body;
+use crate::messages::copy_reply_stat;
+use crate::messages::copy_rpc_body;
+use crate::messages::copy_rpc_msg;
 
 // Reads a message of the kind from a place of one buffer and writes it, in published form, from a place of another.
 pub fn copy_kind(kind: u32, src: &[u8], at: usize, out: &mut [u8], start: usize) -> Copied
@@ -25,6 +63,44 @@ pub fn copy_kind(kind: u32, src: &[u8], at: usize, out: &mut [u8], start: usize)
         6 => copy_opaque(src, at, out, start),
         7 => copy_opaque(src, at, out, start),
         8 => copy_words(src, at, out, start),
+        9 => copy_msg_type(src, at, out, start),
+        10 => copy_reply_stat(src, at, out, start),
+        11 => copy_accept_stat(src, at, out, start),
+        12 => copy_reject_stat(src, at, out, start),
+        13 => copy_auth_stat(src, at, out, start),
+        14 => copy_auth_flavor(src, at, out, start),
+        15 => copy_time_how(src, at, out, start),
+        16 => copy_nfsstat3(src, at, out, start),
+        17 => copy_ftype3(src, at, out, start),
+        18 => copy_auth_unix(src, at, out, start),
+        19 => copy_opaque_auth(src, at, out, start),
+        20 => copy_rpc_msg(src, at, out, start),
+        21 => copy_rpc_body(src, at, out, start),
+        22 => copy_call_body(src, at, out, start),
+        23 => copy_reply_body(src, at, out, start),
+        24 => copy_accepted_reply(src, at, out, start),
+        25 => copy_accept_body(src, at, out, start),
+        26 => copy_rejected_reply(src, at, out, start),
+        27 => copy_mismatch_info(src, at, out, start),
+        28 => copy_specdata3(src, at, out, start),
+        29 => copy_nfs_fh3(src, at, out, start),
+        30 => copy_nfstime3(src, at, out, start),
+        31 => copy_fattr3(src, at, out, start),
+        32 => copy_fsinfo3(src, at, out, start),
+        33 => copy_wcc_attr(src, at, out, start),
+        34 => copy_pre_op_attr(src, at, out, start),
+        35 => copy_post_op_attr(src, at, out, start),
+        36 => copy_wcc_data(src, at, out, start),
+        37 => copy_post_op_fh3(src, at, out, start),
+        38 => copy_set_mode3(src, at, out, start),
+        39 => copy_set_uid3(src, at, out, start),
+        40 => copy_set_gid3(src, at, out, start),
+        41 => copy_set_size3(src, at, out, start),
+        42 => copy_set_atime(src, at, out, start),
+        43 => copy_set_mtime(src, at, out, start),
+        44 => copy_sattr3(src, at, out, start),
+        45 => copy_diropargs3(src, at, out, start),
+        46 => copy_symlinkdata3(src, at, out, start),
         _ => Copied::Unknown,
     }
 }

@@ -1,6 +1,12 @@
--- What follows: the promise for each kind, and facts that proofs cite.
-pub mod Tags
-pub mod UnixIn
-pub mod Placing
+-- What follows: the promise for each kind, how long each is written, the bytes of the replies that are made, and facts that proofs cite.
+pub mod Promise
+pub mod One
+pub mod Makers
+pub mod Length
 pub mod Sizes
+pub mod UnixIn
+pub mod Tags
+pub mod Info
+pub mod Placing
 pub mod Puts
+pub mod ClosedWrites

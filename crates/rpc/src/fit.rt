@@ -14,6 +14,7 @@ use crate::message::rpc_body;
 use crate::message::rpc_msg;
 use crate::reply::accept_body;
 use crate::reply::accepted_reply;
+use crate::reply::mismatch_info;
 use crate::reply::rejected_reply;
 use crate::reply::reply_body;
 use xdr::Refusal;
@@ -138,7 +139,7 @@ pub(crate) fn accept_body_size(m: accept_body) -> usize
     match m {
         accept_body::SUCCESS => 4,
         accept_body::PROG_UNAVAIL => 4,
-        accept_body::PROG_MISMATCH(_) => 12,
+        accept_body::PROG_MISMATCH(_) => 4 + mismatch_info::SIZE,
         accept_body::PROC_UNAVAIL => 4,
         accept_body::GARBAGE_ARGS => 4,
     }
@@ -156,7 +157,7 @@ pub(crate) fn rejected_reply_size(m: rejected_reply) -> usize
     ensures { λ r. ⌜ (r ≡ rejectSize m) × (r ≤ 12) ⌝ }
 {
     match m {
-        rejected_reply::RPC_MISMATCH(_) => 12,
+        rejected_reply::RPC_MISMATCH(_) => 4 + mismatch_info::SIZE,
         rejected_reply::AUTH_ERROR(_) => 8,
     }
 }

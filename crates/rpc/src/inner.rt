@@ -215,14 +215,14 @@ pub fn mismatch_info_at(src: &[u8], at: usize) -> MismatchInfoRead
     let r2 = u32_at(src, n1);
     let U32Read::Took {
         value: high,
-        next: n2,
+        next: _,
     } = r2
     else {
         return MismatchInfoRead::Refused(r2.refusal());
     };
     MismatchInfoRead::Took {
         value: mismatch_info { low, high },
-        next: n2,
+        next: at + mismatch_info::SIZE,
     }
 }
 

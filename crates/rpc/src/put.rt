@@ -1,5 +1,4 @@
 // Kinds laid at the front of a buffer that has room, field by field: each field's writer is lent the tail.
-ghost use mathlib.Core.Path.{_≡_};
 ghost use Prim.Native.Nat.{_≤_};
 ghost use lib.ListN.{length};
 ghost use Rattle.xdr.specs.Meaning.Public.{output};

@@ -52,72 +52,43 @@ use crate::reply::rejected_reply;
 use crate::reply::reply_body;
 use crate::reply::reply_stat;
 use xdr::Wrote;
-use xdr::inner::put_u32;
+use xdr::write_u32;
 
+// A closed enumeration is the word of its number.
 pub fn write_msg_type(m: msg_type, out: &mut [u8], at: usize) -> Wrote
     ensures { λ r. ⌜ Writes (exactly msg-type) [] m at (now (out .entry)) (viewWrote r) (now (out .exit)) ⌝ }
 {
-    let w = place(0, true, 4, out.len(), at);
-    let Wrote::Done(_) = w else {
-        return w;
-    };
-    put_u32(m.number(), &mut out[at..]);
-    w
+    write_u32(m.number(), out, at)
 }
 
 pub fn write_reply_stat(m: reply_stat, out: &mut [u8], at: usize) -> Wrote
     ensures { λ r. ⌜ Writes (exactly reply-stat) [] m at (now (out .entry)) (viewWrote r) (now (out .exit)) ⌝ }
 {
-    let w = place(0, true, 4, out.len(), at);
-    let Wrote::Done(_) = w else {
-        return w;
-    };
-    put_u32(m.number(), &mut out[at..]);
-    w
+    write_u32(m.number(), out, at)
 }
 
 pub fn write_accept_stat(m: accept_stat, out: &mut [u8], at: usize) -> Wrote
     ensures { λ r. ⌜ Writes (exactly accept-stat) [] m at (now (out .entry)) (viewWrote r) (now (out .exit)) ⌝ }
 {
-    let w = place(0, true, 4, out.len(), at);
-    let Wrote::Done(_) = w else {
-        return w;
-    };
-    put_u32(m.number(), &mut out[at..]);
-    w
+    write_u32(m.number(), out, at)
 }
 
 pub fn write_reject_stat(m: reject_stat, out: &mut [u8], at: usize) -> Wrote
     ensures { λ r. ⌜ Writes (exactly reject-stat) [] m at (now (out .entry)) (viewWrote r) (now (out .exit)) ⌝ }
 {
-    let w = place(0, true, 4, out.len(), at);
-    let Wrote::Done(_) = w else {
-        return w;
-    };
-    put_u32(m.number(), &mut out[at..]);
-    w
+    write_u32(m.number(), out, at)
 }
 
 pub fn write_auth_flavor(m: auth_flavor, out: &mut [u8], at: usize) -> Wrote
     ensures { λ r. ⌜ Writes (exactly auth-flavor) [] m at (now (out .entry)) (viewWrote r) (now (out .exit)) ⌝ }
 {
-    let w = place(0, true, 4, out.len(), at);
-    let Wrote::Done(_) = w else {
-        return w;
-    };
-    put_u32(m.number(), &mut out[at..]);
-    w
+    write_u32(m.number(), out, at)
 }
 
 pub fn write_auth_stat(m: auth_stat, out: &mut [u8], at: usize) -> Wrote
     ensures { λ r. ⌜ Writes (exactly auth-stat) [] m at (now (out .entry)) (viewWrote r) (now (out .exit)) ⌝ }
 {
-    let w = place(0, true, 4, out.len(), at);
-    let Wrote::Done(_) = w else {
-        return w;
-    };
-    put_u32(m.number(), &mut out[at..]);
-    w
+    write_u32(m.number(), out, at)
 }
 
 pub fn write_opaque_auth(src: &[u8], m: opaque_auth, out: &mut [u8], at: usize) -> Wrote

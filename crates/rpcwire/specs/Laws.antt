@@ -6,4 +6,3 @@ pub mod Turns
 pub mod Session
 pub mod Fragment
 pub mod Choice
-pub mod Worked

@@ -1,6 +1,6 @@
 // The choice of program: what the crate's `handle_rpc` does with a message up to the hand-over to a program.
 ghost use mathlib.Core.Path.{_≡_};
-ghost use Rattle.rpcwire.specs.Meaning.Choice.{outcome, replying, byVersion, Chooses};
+ghost use Rattle.rpcwire.specs.Meaning.Choice.{byVersion, outcome, replying, carriedOut, Chooses};
 ghost use Rattle.rpcwire.specs.Meaning.Views.{viewCaller, viewChoice};
 ghost use Rattle.rpcwire.specs.Laws.Choice.{Short};
 use rpc::AuthUnixRead;
@@ -69,7 +69,7 @@ fn by_version(
     arguments: usize,
     out: &mut [u8],
 ) -> Choice
-    ensures { λ r. ⌜ outcome (viewChoice r) (now (out .exit)) ≡ byVersion seen (now (out .entry)) xid call (viewCaller caller) arguments ⌝ }
+    ensures { λ r. ⌜ outcome (viewChoice r) (now (out .exit)) ≡ carriedOut (byVersion seen xid call (viewCaller caller) arguments) (now (out .entry)) ⌝ }
 {
     if call.rpcvers != 2 {
         return reply(message, rpc_vers_mismatch(xid), out);

@@ -3,18 +3,56 @@
 use mathlib.Core.Bool.{true, false}
 use mathlib.Core.List.{List, [], _∷_}
 use Prim.Native.Nat.{ℕ}
-use lib.IntN.{pos, negsuc}
+use lib.IntN.{negsuc}
 use Rattle.xdr.specs.Meaning.Answer.{took, refused}
 use Rattle.xdr.specs.Meaning.Items.{flag, int}
 use Rattle.xdr.specs.Meaning.Format.{exactly}
 use Rattle.xdr.specs.Meaning.Formats.{bytes}
-use Rattle.worked.specs.Row.{Row, reading}
+use Rattle.rpc.specs.Meaning.Messages.{RpcMsg, call, reply, accepted}
+use Rattle.rpc.specs.Meaning.Message.{rpc-msg}
+use Rattle.rpc.specs.Meaning.Makers.{versMismatch}
+use Rattle.rpc.specs.declared.auth.auth_flavor.the-variants.{«AUTH_NULL»}
+use Rattle.rpc.specs.declared.reply.accept_body.the-variants.{«GARBAGE_ARGS»}
+use Rattle.nfs.specs.Meaning.Set.{set-atime, sattr}
+use Rattle.nfs.specs.declared.set.set_mode3.the-variants as mode
+use Rattle.nfs.specs.declared.set.set_uid3.the-variants as uid
+use Rattle.nfs.specs.declared.set.set_gid3.the-variants as gid
+use Rattle.nfs.specs.declared.set.set_size3.the-variants as size
+use Rattle.nfs.specs.declared.set.set_atime.the-variants as atime
+use Rattle.nfs.specs.declared.set.set_mtime.the-variants as mtime
+use Rattle.rpcwire.specs.Meaning.Stream.{stand, more, complete, fresh, inFragment, halted}
+use Rattle.rpcwire.specs.Meaning.Stream as stream
+use Rattle.worked.specs.Row.{Row, reading, writing, feeding}
 
 abbrev hello : List ℕ
 hello = 0x68 ∷ 0x65 ∷ 0x6C ∷ 0x6C ∷ 0x6F ∷ []
 
-abbrev pub items : List Row
-items =
+-- a call of zeros, with nothing in it
+abbrev zeroCall : RpcMsg
+zeroCall =
+    record {
+      xid = 42;
+      body =
+          call
+          (record {
+            rpcvers = 0;
+            prog = 0;
+            vers = 0;
+            proc = 0;
+            cred = record { flavor = «AUTH_NULL»; body = [] };
+            verf = record { flavor = «AUTH_NULL»; body = [] };
+          });
+    }
+
+abbrev garbage : RpcMsg
+garbage =
+    record {
+      xid = 42;
+      body = reply (accepted (record { verf = record { flavor = «AUTH_NULL»; body = [] }; «reply_data» = «GARBAGE_ARGS» }));
+    }
+
+abbrev pub rows : List Row
+rows =
     -- a flag of 256 is true, not plain, and rewritten as 1
     reading (exactly flag) (0 ∷ 0 ∷ 1 ∷ 0 ∷ []) (took true 4 false) (0 ∷ 0 ∷ 0 ∷ 1 ∷ [])
     -- five opaque bytes and their padding
@@ -27,10 +65,32 @@ items =
     ∷ reading bytes (0 ∷ 0 ∷ 0 ∷ 0 ∷ []) (took [] 4 true) (0 ∷ 0 ∷ 0 ∷ 0 ∷ [])
     -- a pad byte is missing
     ∷ reading bytes (0 ∷ 0 ∷ 0 ∷ 1 ∷ 0xAA ∷ 0 ∷ 0 ∷ []) (refused 1 0) []
-    -- both ends of two's complement that are easy to get wrong
+    -- two's complement: -1, and the least number
     ∷ reading (exactly int) (0xFF ∷ 0xFF ∷ 0xFF ∷ 0xFF ∷ []) (took (negsuc 0) 4 true) (0xFF ∷ 0xFF ∷ 0xFF ∷ 0xFF ∷ [])
     ∷ reading (exactly int) (0x80 ∷ 0 ∷ 0 ∷ 0 ∷ []) (took (negsuc 2147483647) 4 true) (0x80 ∷ 0 ∷ 0 ∷ 0 ∷ [])
+    -- an undeclared tag of set_atime
+    ∷ reading (exactly set-atime) (0 ∷ 0 ∷ 0 ∷ 3 ∷ []) (refused 2 0) []
+    -- the truncation that was lost: the size set to 0 by a flag of FFFFFFFF
+    ∷ reading (exactly sattr)
+    (0 ∷ 0 ∷ 0 ∷ 0 ∷ 0 ∷ 0 ∷ 0 ∷ 0 ∷ 0 ∷ 0 ∷ 0 ∷ 0 ∷ 0xFF ∷ 0xFF ∷ 0xFF ∷ 0xFF ∷ 0 ∷ 0 ∷ 0 ∷ 0 ∷ 0 ∷ 0 ∷ 0 ∷ 0 ∷ 0 ∷ 0 ∷ 0 ∷ 0 ∷ 0 ∷ 0 ∷ 0 ∷ 0 ∷ [])
+    (took
+    (record { mode = mode.Void; uid = uid.Void; gid = gid.Void; size = size.size 0; atime = atime.«DONT_CHANGE»; mtime = mtime.«DONT_CHANGE» })
+    32
+    false)
+    (0 ∷ 0 ∷ 0 ∷ 0 ∷ 0 ∷ 0 ∷ 0 ∷ 0 ∷ 0 ∷ 0 ∷ 0 ∷ 0 ∷ 0 ∷ 0 ∷ 0 ∷ 1 ∷ 0 ∷ 0 ∷ 0 ∷ 0 ∷ 0 ∷ 0 ∷ 0 ∷ 0 ∷ 0 ∷ 0 ∷ 0 ∷ 0 ∷ 0 ∷ 0 ∷ 0 ∷ 0 ∷ [])
+    -- rpc_body tag 2: a CALL of zeros, and nothing more is read
+    ∷ reading rpc-msg (0 ∷ 0 ∷ 0 ∷ 0x2A ∷ 0 ∷ 0 ∷ 0 ∷ 2 ∷ []) (took zeroCall 8 false)
+    (0 ∷ 0 ∷ 0 ∷ 0x2A ∷ 0 ∷ 0 ∷ 0 ∷ 0 ∷ 0 ∷ 0 ∷ 0 ∷ 0 ∷ 0 ∷ 0 ∷ 0 ∷ 0 ∷ 0 ∷ 0 ∷ 0 ∷ 0 ∷ 0 ∷ 0 ∷ 0 ∷ 0 ∷ 0 ∷ 0 ∷ 0 ∷ 0 ∷ 0 ∷ 0 ∷ 0 ∷ 0 ∷ 0 ∷ 0 ∷ 0 ∷ 0 ∷ 0 ∷ 0 ∷ 0 ∷ 0 ∷ [])
+    -- accept_body tag 5: GARBAGE_ARGS
+    ∷ reading rpc-msg (0 ∷ 0 ∷ 0 ∷ 0x2A ∷ 0 ∷ 0 ∷ 0 ∷ 1 ∷ 0 ∷ 0 ∷ 0 ∷ 0 ∷ 0 ∷ 0 ∷ 0 ∷ 0 ∷ 0 ∷ 0 ∷ 0 ∷ 0 ∷ 0 ∷ 0 ∷ 0 ∷ 5 ∷ []) (took garbage 24 false)
+    (0 ∷ 0 ∷ 0 ∷ 0x2A ∷ 0 ∷ 0 ∷ 0 ∷ 1 ∷ 0 ∷ 0 ∷ 0 ∷ 0 ∷ 0 ∷ 0 ∷ 0 ∷ 0 ∷ 0 ∷ 0 ∷ 0 ∷ 0 ∷ 0 ∷ 0 ∷ 0 ∷ 4 ∷ [])
+    -- rpc_vers_mismatch(42)
+    ∷ writing rpc-msg (versMismatch 42) (0 ∷ 0 ∷ 0 ∷ 0x2A ∷ 0 ∷ 0 ∷ 0 ∷ 1 ∷ 0 ∷ 0 ∷ 0 ∷ 1 ∷ 0 ∷ 0 ∷ 0 ∷ 0 ∷ 0 ∷ 0 ∷ 0 ∷ 0 ∷ 0 ∷ 0 ∷ 0 ∷ 0 ∷ [])
+    -- an empty fragment, then a last one
+    ∷ feeding 3 (0 ∷ 0 ∷ 0 ∷ 0 ∷ 0x80 ∷ 0 ∷ 0 ∷ 2 ∷ 0xAB ∷ 0xCD ∷ []) (7 ∷ 7 ∷ 7 ∷ []) (stand (complete 2 (fresh 3) 10) (0xAB ∷ 0xCD ∷ 7 ∷ []))
+    -- an empty record
+    ∷ feeding 3 (0x80 ∷ 0 ∷ 0 ∷ 0 ∷ []) (7 ∷ 7 ∷ 7 ∷ []) (stand (complete 0 (fresh 3) 4) (7 ∷ 7 ∷ 7 ∷ []))
+    -- a fragment that would pass the end of a buffer of 3, and one that fits in 4
+    ∷ feeding 3 (0x80 ∷ 0 ∷ 0 ∷ 4 ∷ []) (7 ∷ 7 ∷ 7 ∷ []) (stand (stream.refused 7 (halted 3 0) 4) (7 ∷ 7 ∷ 7 ∷ []))
+    ∷ feeding 4 (0x80 ∷ 0 ∷ 0 ∷ 4 ∷ []) (7 ∷ 7 ∷ 7 ∷ 7 ∷ []) (stand (more (inFragment 4 0 4 true) 4) (7 ∷ 7 ∷ 7 ∷ 7 ∷ []))
     ∷ []
-
-abbrev pub rows : List Row
-rows = items

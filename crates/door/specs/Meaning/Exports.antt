@@ -12,7 +12,7 @@ use lib.Dec.{eqb}
 use Rattle.xdr.specs.Meaning.Answer.{Written, done, unwritten}
 use Rattle.rpc.specs.declared.auth.auth_unix.{«auth_unix»}
 use Rattle.rpcwire.specs.Meaning.Fragment.{WritesFragment}
-use Rattle.rpcwire.specs.Meaning.Choice.{Chosen, turned-away, replied, silence, handed, Chooses}
+use Rattle.rpcwire.specs.Meaning.Choice.{Chosen, turned-away, replied, silent, handed, Chooses}
 use Rattle.rpcwire.specs.Meaning.Stream.{Said, more, complete, refused, Feeds}
 use Rattle.rpcwire.specs.declared.assembler.Assembler.{Assembler}
 use Rattle.door.specs.Meaning.Copy.{Copy, unknown, unread, unmade, made}
@@ -65,7 +65,7 @@ pub record FragmentCalled (m : List ℕ) (start : ℕ) (o i : List ℕ) (r : ℕ
 abbrev pub chosenCode : Chosen → ℕ
 chosenCode (turned-away r q) = r
 chosenCode (replied n) = 101
-chosenCode silence = 102
+chosenCode silent = 102
 chosenCode (handed p v f a n) = 100
 
 abbrev pub handedFigures : (prog vers proc args : ℕ) → Option «auth_unix» → List ℕ
@@ -76,7 +76,7 @@ handedFigures p v f n (some a) =
 abbrev pub chosenFigures : Chosen → List ℕ
 chosenFigures (turned-away r q) = q ∷ 0 ∷ 0 ∷ 0 ∷ 0 ∷ 0 ∷ 0 ∷ 0 ∷ 0 ∷ 0 ∷ 0 ∷ 0 ∷ []
 chosenFigures (replied n) = n ∷ 0 ∷ 0 ∷ 0 ∷ 0 ∷ 0 ∷ 0 ∷ 0 ∷ 0 ∷ 0 ∷ 0 ∷ 0 ∷ []
-chosenFigures silence = 0 ∷ 0 ∷ 0 ∷ 0 ∷ 0 ∷ 0 ∷ 0 ∷ 0 ∷ 0 ∷ 0 ∷ 0 ∷ 0 ∷ []
+chosenFigures silent = 0 ∷ 0 ∷ 0 ∷ 0 ∷ 0 ∷ 0 ∷ 0 ∷ 0 ∷ 0 ∷ 0 ∷ 0 ∷ 0 ∷ []
 chosenFigures (handed p v f a n) = handedFigures p v f n a
 
 pub record ChooseTold (s : List ℕ) (seen : ℕ) (o i : List ℕ) (r : ℕ) (o′ i′ : List ℕ) : Type 0 where

@@ -6,10 +6,19 @@ use Prim.Native.Nat.{ℕ, zero, suc}
 use Rattle.xdr.specs.Meaning.Items.{word, hyper, flag, int, long}
 use Rattle.xdr.specs.Meaning.Format.{Branch, branch, exactly}
 use Rattle.xdr.specs.Meaning.Formats.{eightBytes, bytes, wordList}
+use Rattle.rpc.specs.Meaning.Closed.{msg-type, reply-stat, accept-stat, reject-stat, auth-stat, auth-flavor}
+use Rattle.rpc.specs.Meaning.Auth.{auth-unix, opaque-auth}
+use Rattle.rpc.specs.Meaning.Message.{rpc-msg, rpc-body, call-body}
+use Rattle.rpc.specs.Meaning.Reply.{reply-body, accepted-reply, accept-body, rejected-reply, mismatch-info}
+use Rattle.nfs.specs.Meaning.Stat.{nfsstat}
+use Rattle.nfs.specs.Meaning.Attr.{ftype, specdata, nfstime, fattr, fsinfo, wcc-attr, pre-op-attr, post-op-attr, wcc-data}
+use Rattle.nfs.specs.Meaning.Set.{time-how, set-mode, set-uid, set-gid, set-size, set-atime, set-mtime, sattr}
+use Rattle.nfs.specs.Meaning.Dir.{nfs-fh, post-op-fh, diropargs, symlinkdata}
 use Rattle.door.specs.Meaning.Copy.{Copy, unknown, Copies}
 
 abbrev pub kinds : List Branch
 kinds =
+    -- the items
     branch (exactly flag)
     ∷ branch (exactly int)
     ∷ branch (exactly long)
@@ -19,6 +28,48 @@ kinds =
     ∷ branch bytes
     ∷ branch bytes
     ∷ branch wordList
+    -- RFC 5531, closed enumerations
+    ∷ branch (exactly msg-type)
+    ∷ branch (exactly reply-stat)
+    ∷ branch (exactly accept-stat)
+    ∷ branch (exactly reject-stat)
+    ∷ branch (exactly auth-stat)
+    ∷ branch (exactly auth-flavor)
+    -- RFC 1813, closed enumerations
+    ∷ branch (exactly time-how)
+    ∷ branch (exactly nfsstat)
+    ∷ branch (exactly ftype)
+    -- RFC 5531
+    ∷ branch auth-unix
+    ∷ branch opaque-auth
+    ∷ branch rpc-msg
+    ∷ branch rpc-body
+    ∷ branch call-body
+    ∷ branch reply-body
+    ∷ branch accepted-reply
+    ∷ branch (exactly accept-body)
+    ∷ branch (exactly rejected-reply)
+    ∷ branch (exactly mismatch-info)
+    -- RFC 1813
+    ∷ branch (exactly specdata)
+    ∷ branch nfs-fh
+    ∷ branch (exactly nfstime)
+    ∷ branch (exactly fattr)
+    ∷ branch (exactly fsinfo)
+    ∷ branch (exactly wcc-attr)
+    ∷ branch (exactly pre-op-attr)
+    ∷ branch (exactly post-op-attr)
+    ∷ branch (exactly wcc-data)
+    ∷ branch post-op-fh
+    ∷ branch (exactly set-mode)
+    ∷ branch (exactly set-uid)
+    ∷ branch (exactly set-gid)
+    ∷ branch (exactly set-size)
+    ∷ branch (exactly set-atime)
+    ∷ branch (exactly set-mtime)
+    ∷ branch (exactly sattr)
+    ∷ branch diropargs
+    ∷ branch symlinkdata
     ∷ []
 
 -- the message of the k-th kind of a list, copied; past the list's end the kind is unknown

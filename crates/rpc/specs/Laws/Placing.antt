@@ -12,7 +12,7 @@ use borrow.Author.Tests.{le-leb, lt-leb, leb-true}
 use borrow.Rule.Slice.PartMut.{midOf, putMid}
 use Rattle.xdr.specs.Meaning.Answer.{most, Written, done, unwritten}
 use Rattle.xdr.specs.Meaning.Format.{Format}
-use Rattle.xdr.specs.Meaning.Public.{output, writing, leaving, Writes}
+use Rattle.xdr.specs.Meaning.Public.{output, writing, Writes}
 use Rattle.xdr.specs.Laws.Write.{Put, Ready, Done, was-done, writes-done, room-at}
 
 unfoldable pub placing : ℕ → Bool → ℕ → ℕ → ℕ → Written

@@ -4,10 +4,8 @@ use mathlib.Core.Path.{_≡_, sym, ap, _∙_}
 use mathlib.Core.List.{List, _++_}
 use Prim.Native.Nat.{ℕ}
 use lib.ListN.{drop}
-use Rattle.xdr.specs.Meaning.Items.{word}
 use Rattle.xdr.specs.Meaning.Public.{output}
 use Rattle.xdr.specs.Laws.Write.{Put, put-same}
-use Rattle.rpc.specs.Meaning.Closed.{authStatNumber}
 use Rattle.rpc.specs.Meaning.Reply.{accept-body, rejected-reply, reply-body}
 use Rattle.rpc.specs.Meaning.Message.{rpc-body}
 use Rattle.rpc.specs.Laws.Sizes.{acceptSize, acceptWritten, accept-is, rejectSize, rejectWritten, reject-is, replySize, replyWritten, reply-is, bodySize, bodyWritten, body-is}

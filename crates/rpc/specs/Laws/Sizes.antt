@@ -2,21 +2,20 @@
 -- Assumes nothing.
 use mathlib.Core.Path.{_≡_, refl, sym, ap, ap₂, _∙_}
 use mathlib.Core.Bool.{Bool, true, false, cond, _&&_, and-true}
-use mathlib.Core.List.{List, [], _∷_, _++_, append-assoc, append-nil}
+use mathlib.Core.List.{List, _++_, append-assoc, append-nil}
 use Prim.Native.Nat.{ℕ, _+_, _*_, _<_, _≤_}
 use native.Mathlib.Omega.{arith}
 use lib.Dec.{leb}
 use lib.ListN.{length, length-append}
 use borrow.Author.Tests.{le-leb, lt-leb, leb-true}
-use Rattle.xdr.specs.Meaning.Bytes.{Bytes, padding}
+use Rattle.xdr.specs.Meaning.Bytes.{Bytes}
 use Rattle.xdr.specs.Meaning.Answer.{most}
-use Rattle.xdr.specs.Meaning.Items.{word, opaque}
+use Rattle.xdr.specs.Meaning.Items.{word}
 use Rattle.xdr.specs.Meaning.Formats.{bytes, wordList, pieceHeld, wordsHeld}
 use Rattle.xdr.specs.Meaning.Pieces.{isInside, areInside, opaqueSize, sizeUpTo}
 use Rattle.xdr.specs.Meaning.Public.{output}
 use Rattle.xdr.specs.Laws.Marks.{and-left, and-right}
 use Rattle.xdr.specs.Laws.Padding.{word-length}
-use Rattle.xdr.specs.Laws.Pieces.{inside-le}
 use Rattle.xdr.specs.Laws.Words.{words-le}
 use Rattle.xdr.specs.Laws.LayPieces.{bytes-size, words-long}
 use Rattle.xdr.specs.Laws.Write.{Ready}
@@ -108,35 +107,32 @@ pub words-within : (n : ℕ) → n ≤ most → 4 + n * 4 ≡ wordsUpTo n
 unfolding wordsUpTo
 words-within n h = sym (simp (le-leb n most h))
 
--- the closed enumerations: the word of a number
-pub closed-written : (v : ℕ) → word .kind .write v ++ [] ≡ word .kind .write v
-closed-written v = append-nil (word .kind .write v)
-
-pub msg-type-written : (a : «msg_type») → word .kind .write (msgTypeNumber a) ≡ msg-type .kind .write a
+-- the closed enumerations have 4 bytes
+pub msg-type-length : (a : «msg_type») → length (msg-type .kind .write a) ≡ 4
 unfolding msg-type
-msg-type-written a = refl
+msg-type-length a = word-length (msgTypeNumber a)
 
-pub reply-stat-written : (a : «reply_stat») → word .kind .write (replyStatNumber a) ≡ reply-stat .kind .write a
+pub reply-stat-length : (a : «reply_stat») → length (reply-stat .kind .write a) ≡ 4
 unfolding reply-stat
-reply-stat-written a = refl
+reply-stat-length a = word-length (replyStatNumber a)
 
-pub accept-stat-written : (a : «accept_stat») → word .kind .write (acceptStatNumber a) ≡ accept-stat .kind .write a
+pub accept-stat-length : (a : «accept_stat») → length (accept-stat .kind .write a) ≡ 4
 unfolding accept-stat
-accept-stat-written a = refl
+accept-stat-length a = word-length (acceptStatNumber a)
 
-pub reject-stat-written : (a : «reject_stat») → word .kind .write (rejectStatNumber a) ≡ reject-stat .kind .write a
+pub reject-stat-length : (a : «reject_stat») → length (reject-stat .kind .write a) ≡ 4
 unfolding reject-stat
-reject-stat-written a = refl
+reject-stat-length a = word-length (rejectStatNumber a)
 
-pub auth-flavor-written : (a : «auth_flavor») → word .kind .write (flavorNumber a) ≡ auth-flavor .kind .write a
+pub auth-flavor-length : (a : «auth_flavor») → length (auth-flavor .kind .write a) ≡ 4
 unfolding auth-flavor
-auth-flavor-written a = refl
+auth-flavor-length a = word-length (flavorNumber a)
 
-pub auth-stat-written : (a : «auth_stat») → word .kind .write (authStatNumber a) ≡ auth-stat .kind .write a
+pub auth-stat-length : (a : «auth_stat») → length (auth-stat .kind .write a) ≡ 4
 unfolding auth-stat
-auth-stat-written a = refl
+auth-stat-length a = word-length (authStatNumber a)
 
--- mismatch_info
+-- and mismatch_info 8
 pub info-written : (m : «mismatch_info») → word .kind .write (m .low) ++ word .kind .write (m .high) ≡ mismatch-info .kind .write m
 unfolding mismatch-info
 info-written m = refl

@@ -1,16 +1,11 @@
 -- opaque_auth and auth_unix: their fields in order.
 -- Assumes nothing.
 use mathlib.Core.Path.{refl}
-use mathlib.Core.Bool.{Bool, cond}
-use mathlib.Core.List.{List, []}
-use Prim.Native.Nat.{ℕ, _+_}
-use lib.ListN.{take}
-use Rattle.xdr.specs.Meaning.Answer.{Answer, refused}
+use mathlib.Core.List.{[]}
 use Rattle.xdr.specs.Meaning.Items.{word}
 use Rattle.xdr.specs.Meaning.Format.{Format, exactly, _⨟_, named}
 use Rattle.xdr.specs.Meaning.Formats.{bytes, wordList}
-use Rattle.xdr.specs.Meaning.Pieces.{isInside, nothing}
-use Rattle.xdr.specs.declared.piece.Piece.{Piece}
+use Rattle.xdr.specs.Meaning.Pieces.{nothing}
 use Rattle.rpc.specs.Meaning.Closed.{auth-flavor}
 use Rattle.rpc.specs.Meaning.Messages.{OpaqueAuth, AuthUnix}
 use Rattle.rpc.specs.declared.auth.auth_flavor.the-variants.{«AUTH_NULL»}

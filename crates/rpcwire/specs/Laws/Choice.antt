@@ -30,7 +30,7 @@ use Rattle.rpc.specs.declared.message.rpc_body.{«rpc_body»}
 use Rattle.rpc.specs.declared.message.rpc_body.the-variants.{CALL, REPLY}
 use Rattle.rpc.specs.declared.reply.reply_body.{«reply_body»}
 use Rattle.rpc.specs.declared.message.rpc_msg.{«rpc_msg»}
-use Rattle.rpcwire.specs.Meaning.Choice.{Chosen, turned-away, replied, silence, handed, Outcome, outcome, served, replying, byProgram, byVersion, byUnix, byFlavor, byBody, byMessage, choosing, Chooses, Leaves, ChoicePromised}
+use Rattle.rpcwire.specs.Meaning.Choice.{Decision, refuse, reply, silence, hand-over, served, byProgram, byVersion, byUnix, byFlavor, byBody, byMessage, decided, Chosen, turned-away, replied, silent, handed, Outcome, outcome, replying, carriedOut, Chooses, Leaves, ChoicePromised}
 
 -- a message of 24 bytes that has no pieces
 pub record Short (m : «rpc_msg») : Type 0 where
@@ -73,21 +73,21 @@ module _ (m : «rpc_msg») (h : Short m) (o : List ℕ) where
 
 -- a call whose credential is read
 module _ (seen : Bool) (o : List ℕ) (x : ℕ) (c : «call_body») (a : Option «auth_unix») (n : ℕ) where
-  pub version-other : (c .rpcvers ≡ 2 → ⊥) → {r : Outcome} → r ≡ replying (versMismatch x) o → r ≡ byVersion seen o x c a n
+  pub version-other : (c .rpcvers ≡ 2 → ⊥) → {r : Outcome} → r ≡ replying (versMismatch x) o → r ≡ carriedOut (byVersion seen x c a n) o
   unfolding byVersion
   version-other h e = e ∙ sym (rw (ne-eqb (c .rpcvers) 2 h))
 
   module _ (h : c .rpcvers ≡ 2) where
-    pub version-seen : seen ≡ true → outcome silence o ≡ byVersion seen o x c a n
+    pub version-seen : seen ≡ true → outcome silent o ≡ carriedOut (byVersion seen x c a n) o
     unfolding byVersion
     version-seen e = sym (rw (eq-eqb (c .rpcvers) 2 h, e))
 
     module _ (e : seen ≡ false) where
-      pub program-served : served (c .prog) ≡ true → outcome (handed (c .prog) (c .vers) (c .proc) a n) o ≡ byVersion seen o x c a n
+      pub program-served : served (c .prog) ≡ true → outcome (handed (c .prog) (c .vers) (c .proc) a n) o ≡ carriedOut (byVersion seen x c a n) o
       unfolding byVersion byProgram
       program-served f = sym (rw (eq-eqb (c .rpcvers) 2 h, e, f))
 
-      pub program-other : served (c .prog) ≡ false → {r : Outcome} → r ≡ replying (progUnavail x) o → r ≡ byVersion seen o x c a n
+      pub program-other : served (c .prog) ≡ false → {r : Outcome} → r ≡ replying (progUnavail x) o → r ≡ carriedOut (byVersion seen x c a n) o
       unfolding byVersion byProgram
       program-other f g = g ∙ sym (rw (eq-eqb (c .rpcvers) 2 h, e, f))
 
@@ -99,93 +99,136 @@ not-served p h = simp (ne-eqb p 100003 (λ e. h (inr (inl e))), ne-eqb p 100000 
 
 -- what the choice is, as far as the message is read
 module _ (s : List ℕ) (seen : Bool) (o : List ℕ) where
-  pub not-taken : {r q : ℕ} → opened s 0 (rpc-msg .held .read s 0) ≡ refused r q → outcome (turned-away r q) o ≡ choosing s seen o
-  unfolding choosing
-  not-taken e = sym (ap (byMessage s seen o) e)
+  pub not-taken : {r q : ℕ} → opened s 0 (rpc-msg .held .read s 0) ≡ refused r q → outcome (turned-away r q) o ≡ carriedOut (decided s seen) o
+  unfolding decided
+  not-taken e = sym (ap (λ x. carriedOut (byMessage s seen x) o) e)
 
   module _ {m : «rpc_msg»} {n : ℕ} {b : Bool} (e : opened s 0 (rpc-msg .held .read s 0) ≡ took m n b) where
-    pub took-reply : {q : «reply_body»} → m .body ≡ REPLY q → outcome (turned-away 8 0) o ≡ choosing s seen o
-    unfolding choosing
-    took-reply f = sym (ap (byMessage s seen o) e ∙ ap (byBody s seen o (m .xid) n) f)
+    pub took-reply : {q : «reply_body»} → m .body ≡ REPLY q → outcome (turned-away 8 0) o ≡ carriedOut (decided s seen) o
+    unfolding decided
+    took-reply f = sym (ap (λ x. carriedOut (byMessage s seen x) o) e ∙ ap (λ y. carriedOut (byBody s seen (m .xid) n y) o) f)
 
-    pub took-call : {c : «call_body»} → m .body ≡ CALL c → {r : Outcome} → r ≡ byFlavor s seen o (m .xid) c n (c .cred .flavor) → r ≡ choosing s seen o
-    unfolding choosing
-    took-call f g = g ∙ sym (ap (byMessage s seen o) e ∙ ap (byBody s seen o (m .xid) n) f)
+    pub took-call : {c : «call_body»} → m .body ≡ CALL c → {r : Outcome} → r ≡ carriedOut (byFlavor s seen (m .xid) c n (c .cred .flavor)) o
+        → r ≡ carriedOut (decided s seen) o
+    unfolding decided
+    took-call f g = g ∙ sym (ap (λ x. carriedOut (byMessage s seen x) o) e ∙ ap (λ y. carriedOut (byBody s seen (m .xid) n y) o) f)
 
   module _ (x : ℕ) (c : «call_body») (n : ℕ) where
-    flavor-of : (f : «auth_flavor») → (flavorNumber f ≡ 1 → ⊥) → byFlavor s seen o x c n f ≡ byVersion seen o x c none n
+    flavor-of : (f : «auth_flavor») → (flavorNumber f ≡ 1 → ⊥) → byFlavor s seen x c n f ≡ byVersion seen x c none n
     flavor-of «AUTH_NULL» h = refl
     flavor-of «AUTH_UNIX» h = absurd (h refl)
     flavor-of «AUTH_SHORT» h = refl
     flavor-of «AUTH_DES» h = refl
 
     -- a credential of another flavor says nothing
-    pub flavor-other : (flavorNumber (c .cred .flavor) ≡ 1 → ⊥) → {r : Outcome} → r ≡ byVersion seen o x c none n → r ≡ byFlavor s seen o x c n (c .cred .flavor)
-    flavor-other h e = e ∙ sym (flavor-of (c .cred .flavor) h)
+    pub flavor-other : (flavorNumber (c .cred .flavor) ≡ 1 → ⊥) → {r : Outcome} → r ≡ carriedOut (byVersion seen x c none n) o
+        → r ≡ carriedOut (byFlavor s seen x c n (c .cred .flavor)) o
+    flavor-other h e = e ∙ sym (ap (λ d. carriedOut d o) (flavor-of (c .cred .flavor) h))
 
     module _ (h : c .cred .flavor ≡ «AUTH_UNIX») where
-      pub unix-refused : {r q : ℕ} → unixIn s (c .cred .body) ≡ refused r q → outcome (turned-away r q) o ≡ byFlavor s seen o x c n (c .cred .flavor)
-      unix-refused e = sym (ap (byFlavor s seen o x c n) h ∙ ap (byUnix s seen o x c n) e)
+      by-unix : {y : Answer «auth_unix»} → unixIn s (c .cred .body) ≡ y → byFlavor s seen x c n (c .cred .flavor) ≡ byUnix s seen x c n y
+      by-unix e = ap (byFlavor s seen x c n) h ∙ ap (byUnix s seen x c n) e
 
-      pub unix-took : {a : «auth_unix»} {k : ℕ} {b : Bool} → unixIn s (c .cred .body) ≡ took a k b → {r : Outcome} → r ≡ byVersion seen o x c (some a) n
-          → r ≡ byFlavor s seen o x c n (c .cred .flavor)
-      unix-took e g = g ∙ sym (ap (byFlavor s seen o x c n) h ∙ ap (byUnix s seen o x c n) e)
+      pub unix-refused : {r q : ℕ} → unixIn s (c .cred .body) ≡ refused r q
+          → outcome (turned-away r q) o ≡ carriedOut (byFlavor s seen x c n (c .cred .flavor)) o
+      unix-refused e = sym (ap (λ d. carriedOut d o) (by-unix e))
 
--- ---- what a choice leaves of the output
+      pub unix-took : {a : «auth_unix»} {k : ℕ} {b : Bool} → unixIn s (c .cred .body) ≡ took a k b → {r : Outcome} → r ≡ carriedOut (byVersion seen x c (some a) n) o
+          → r ≡ carriedOut (byFlavor s seen x c n (c .cred .flavor)) o
+      unix-took e g = g ∙ sym (ap (λ d. carriedOut d o) (by-unix e))
+
+-- ---- the promise
+
+-- each reply that is decided on is short
+abbrev Brief : Decision → Type 0
+Brief (refuse r q) = Unit {0}
+Brief (reply m) = Short m
+Brief silence = Unit {0}
+Brief (hand-over p v f a n) = Unit {0}
+
+brief-cond : (t : Bool) (d e : Decision) → Brief d → Brief e → Brief (cond t d e)
+brief-cond true d e f g = f
+brief-cond false d e f g = g
+
+module _ (s : List ℕ) (seen : Bool) where
+  brief-version : (x : ℕ) (c : «call_body») (a : Option «auth_unix») (n : ℕ) → Brief (byVersion seen x c a n)
+  unfolding byVersion byProgram
+  brief-version x c a n =
+      brief-cond (eqb (c .rpcvers) 2) _ _ (brief-cond seen _ _ tt (brief-cond (served (c .prog)) _ _ tt (unavail-short x))) (mismatch-short x)
+
+  brief-unix : (x : ℕ) (c : «call_body») (n : ℕ) (r : Answer «auth_unix») → Brief (byUnix s seen x c n r)
+  brief-unix x c n (took a k b) = brief-version x c (some a) n
+  brief-unix x c n (refused r q) = tt
+
+  brief-flavor : (x : ℕ) (c : «call_body») (n : ℕ) (f : «auth_flavor») → Brief (byFlavor s seen x c n f)
+  brief-flavor x c n «AUTH_NULL» = brief-version x c none n
+  brief-flavor x c n «AUTH_UNIX» = brief-unix x c n (unixIn s (c .cred .body))
+  brief-flavor x c n «AUTH_SHORT» = brief-version x c none n
+  brief-flavor x c n «AUTH_DES» = brief-version x c none n
+
+  brief-body : (x n : ℕ) (y : «rpc_body») → Brief (byBody s seen x n y)
+  brief-body x n (CALL c) = brief-flavor x c n (c .cred .flavor)
+  brief-body x n (REPLY r) = tt
+
+  brief-message : (r : Answer «rpc_msg») → Brief (byMessage s seen r)
+  brief-message (took m n b) = brief-body (m .xid) n (m .body)
+  brief-message (refused r q) = tt
+
+  brief-decided : Brief (decided s seen)
+  unfolding decided
+  brief-decided = brief-message (opened s 0 (rpc-msg .held .read s 0))
+
+-- a reply, by the room for it
+reply-room : (m : «rpc_msg») (o : List ℕ) → 24 ≤ length o → replying m o ≡ outcome (replied 24) (output rpc-msg [] m ++ drop 24 o)
+unfolding replying
+reply-room m o h = rw (le-leb 24 (length o) h)
+
+reply-short : (m : «rpc_msg») (o : List ℕ) → length o < 24 → replying m o ≡ outcome (turned-away 5 0) o
+unfolding replying
+reply-short m o h = rw (lt-leb 24 (length o) h)
 
 abbrev LeavesOf : List ℕ → Outcome → Type 0
 LeavesOf o r = Leaves (r .said) o (r .held)
 
 leaves-reply : (m : «rpc_msg») → Short m → (o : List ℕ) (t : Bool) → leb 24 (length o) ≡ t → LeavesOf o (replying m o)
-unfolding replying
 leaves-reply m h o true e =
     let k : 24 ≤ length o = leb-true 24 (length o) e in
-    rw e (
+    subst (LeavesOf o) (sym (reply-room m o k)) (
       refl,
       k,
       drop-at (output rpc-msg [] m) (drop 24 o) 24 (h .long),
       length-append (output rpc-msg [] m) (drop 24 o) ∙ omega (arith, h .long, length-drop 24 o),
     )
-leaves-reply m h o false e = rw e refl
+leaves-reply m h o false e = subst (LeavesOf o) (sym (reply-short m o (leb-false 24 (length o) e))) refl
 
-leaves-cond : (o : List ℕ) (t : Bool) (a b : Outcome) → LeavesOf o a → LeavesOf o b → LeavesOf o (cond t a b)
-leaves-cond o true a b f g = f
-leaves-cond o false a b f g = g
+leaves-decision : (d : Decision) (o : List ℕ) → Brief d → LeavesOf o (carriedOut d o)
+leaves-decision (refuse r q) o h = refl
+leaves-decision (reply m) o h = leaves-reply m h o (leb 24 (length o)) refl
+leaves-decision silence o h = refl
+leaves-decision (hand-over p v f a n) o h = refl
 
-module _ (s : List ℕ) (seen : Bool) (o : List ℕ) where
-  leaves-version : (x : ℕ) (c : «call_body») (a : Option «auth_unix») (n : ℕ) → LeavesOf o (byVersion seen o x c a n)
-  unfolding byVersion byProgram
-  leaves-version x c a n =
-      leaves-cond o (eqb (c .rpcvers) 2) _ _
-      (leaves-cond o seen _ _ refl
-      (leaves-cond o (served (c .prog)) _ _ refl (leaves-reply (progUnavail x) (unavail-short x) o (leb 24 (length o)) refl)))
-      (leaves-reply (versMismatch x) (mismatch-short x) o (leb 24 (length o)) refl)
+pub said-held : {r t : Outcome} → r ≡ t → (r .said ≡ t .said) × (r .held ≡ t .held)
+said-held e = (ap (λ (r : Outcome). r .said) e, ap (λ (r : Outcome). r .held) e)
 
-  leaves-unix : (x : ℕ) (c : «call_body») (n : ℕ) (r : Answer «auth_unix») → LeavesOf o (byUnix s seen o x c n r)
-  leaves-unix x c n (took a k b) = leaves-version x c (some a) n
-  leaves-unix x c n (refused r q) = refl
+-- a reply of 24 bytes is no refusal
+not-five : (m : «rpc_msg») (o : List ℕ) (t : Bool) → leb 24 (length o) ≡ t → replying m o .said ≡ turned-away 5 0 → length o < 24
+not-five m o true e f =
+    let k = said-held (reply-room m o (leb-true 24 (length o) e)) .0 in
+    let z : _≡_ {A = ℕ} 0 1 = cc in absurd (omega arith)
+not-five m o false e f = leb-false 24 (length o) e
 
-  leaves-flavor : (x : ℕ) (c : «call_body») (n : ℕ) (f : «auth_flavor») → LeavesOf o (byFlavor s seen o x c n f)
-  leaves-flavor x c n «AUTH_NULL» = leaves-version x c none n
-  leaves-flavor x c n «AUTH_UNIX» = leaves-unix x c n (unixIn s (c .cred .body))
-  leaves-flavor x c n «AUTH_SHORT» = leaves-version x c none n
-  leaves-flavor x c n «AUTH_DES» = leaves-version x c none n
+module _ (s : List ℕ) (seen : Bool) (o : List ℕ) {c : Chosen} {o′ : List ℕ} (h : Chooses s seen o c o′) where
+  due : {m : «rpc_msg»} → decided s seen ≡ reply m → outcome c o′ ≡ replying m o
+  due e = h .is ∙ ap (λ d. carriedOut d o) e
 
-  leaves-body : (x n : ℕ) (y : «rpc_body») → LeavesOf o (byBody s seen o x n y)
-  leaves-body x n (CALL c) = leaves-flavor x c n (c .cred .flavor)
-  leaves-body x n (REPLY r) = refl
-
-  leaves-message : (r : Answer «rpc_msg») → LeavesOf o (byMessage s seen o r)
-  leaves-message (took m n b) = leaves-body (m .xid) n (m .body)
-  leaves-message (refused r q) = refl
-
-  leaves-choosing : LeavesOf o (choosing s seen o)
-  unfolding choosing
-  leaves-choosing = leaves-message (opened s 0 (rpc-msg .held .read s 0))
-
-  pub choice-promised : {c : Chosen} {o′ : List ℕ} → Chooses s seen o c o′ → ChoicePromised s seen o c o′
-  choice-promised h =
+  pub choice-promised : ChoicePromised s seen o c o′
+  choice-promised =
       record {
-        one = λ g. (ap (λ (r : Outcome). r .said) (h .is ∙ sym (g .is)), ap (λ (r : Outcome). r .held) (h .is ∙ sym (g .is)));
-        leaves = subst (LeavesOf o) (sym (h .is)) leaves-choosing;
+        one = λ g. said-held (h .is ∙ sym (g .is));
+        leaves = subst (LeavesOf o) (sym (h .is)) (leaves-decision (decided s seen) o (brief-decided s seen));
+        five-iff = λ {m} e. (
+          λ f. not-five m o (leb 24 (length o)) refl (sym (said-held (due e) .0) ∙ f),
+          λ f. said-held (due e ∙ reply-short m o f) .0,
+        );
+        replies = λ {m} e f. said-held (due e ∙ reply-room m o f);
       }

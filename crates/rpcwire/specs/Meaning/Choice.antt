@@ -1,10 +1,11 @@
--- Choosing the program (document 01): what is answered to a message, and what the output buffer then holds. Read it from the end.
+-- Choosing the program (document 01): what a message calls for, what is then answered, and what the output buffer holds.
 -- Assumes nothing.
 use mathlib.Core.Path.{_≡_}
+use mathlib.Core.Logic.{_↔_}
 use mathlib.Core.Bool.{Bool, cond, _||_}
 use mathlib.Core.Option.{Option, none, some}
 use mathlib.Core.List.{List, [], _++_}
-use Prim.Native.Nat.{ℕ, _≤_}
+use Prim.Native.Nat.{ℕ, _≤_, _<_}
 use lib.Dec.{eqb, leb}
 use lib.ListN.{length, drop}
 use Rattle.xdr.specs.Meaning.Bytes.{Bytes}
@@ -21,12 +22,57 @@ use Rattle.rpc.specs.declared.message.rpc_body.{«rpc_body»}
 use Rattle.rpc.specs.declared.message.rpc_body.the-variants.{CALL, REPLY}
 use Rattle.rpc.specs.declared.message.rpc_msg.{«rpc_msg»}
 
--- what is chosen: a refusal by document 01's number and place; a reply of so many bytes, at the front of the output; silence; or the
--- hand-over, with program, version, procedure, the auth_unix or none, and the place where the arguments begin
+-- What a message calls for, whatever the output is: a refusal by document 01's number and place; a reply; silence; or the hand-over, with
+-- program, version, procedure, the auth_unix or none, and the place where the arguments begin.
+pub data Decision : Type 0 where
+  refuse : ℕ → ℕ → Decision
+  reply : «rpc_msg» → Decision
+  silence : Decision
+  hand-over : (prog vers proc : ℕ) → Option «auth_unix» → (args : ℕ) → Decision
+
+-- nfs, portmap and mount
+abbrev pub served : ℕ → Bool
+served p = eqb p 100003 || (eqb p 100000 || eqb p 100005)
+
+module _ (seen : Bool) (xid : ℕ) (c : «call_body») (a : Option «auth_unix») (args : ℕ) where
+  unfoldable pub byProgram : Decision
+  byProgram = cond (served (c .prog)) (hand-over (c .prog) (c .vers) (c .proc) a args) (reply (progUnavail xid))
+
+  -- a call whose credential is read
+  unfoldable pub byVersion : Decision
+  unfolding byProgram
+  byVersion = cond (eqb (c .rpcvers) 2) (cond seen silence byProgram) (reply (versMismatch xid))
+
+module _ (s : List ℕ) (seen : Bool) where
+  -- the auth_unix of an AUTH_UNIX credential, with the body's end as the end
+  abbrev pub byUnix : (xid : ℕ) → «call_body» → (args : ℕ) → Answer «auth_unix» → Decision
+  byUnix xid c args (took a n b) = byVersion seen xid c (some a) args
+  byUnix xid c args (refused r q) = refuse r q
+
+  abbrev pub byFlavor : (xid : ℕ) → «call_body» → (args : ℕ) → «auth_flavor» → Decision
+  byFlavor xid c args «AUTH_UNIX» = byUnix xid c args (unixIn s (c .cred .body))
+  byFlavor xid c args «AUTH_NULL» = byVersion seen xid c none args
+  byFlavor xid c args «AUTH_SHORT» = byVersion seen xid c none args
+  byFlavor xid c args «AUTH_DES» = byVersion seen xid c none args
+
+  abbrev pub byBody : (xid args : ℕ) → «rpc_body» → Decision
+  byBody xid args (CALL c) = byFlavor xid c args (c .cred .flavor)
+  byBody xid args (REPLY r) = refuse 8 0
+
+  -- the rpc_msg at the message's start, with refusals 3, 1 and 2; the arguments begin behind it
+  abbrev pub byMessage : Answer «rpc_msg» → Decision
+  byMessage (took m n b) = byBody (m .xid) n (m .body)
+  byMessage (refused r q) = refuse r q
+
+  unfoldable pub decided : Decision
+  unfolding byVersion
+  decided = byMessage (opened s 0 (rpc-msg .held .read s 0))
+
+-- What is answered: a refusal, a reply of so many bytes at the front of the output, silence, or the hand-over.
 pub data Chosen : Type 0 where
   turned-away : ℕ → ℕ → Chosen
   replied : ℕ → Chosen
-  silence : Chosen
+  silent : Chosen
   handed : (prog vers proc : ℕ) → Option «auth_unix» → (args : ℕ) → Chosen
 
 pub record Outcome : Type 0 where
@@ -36,65 +82,35 @@ pub record Outcome : Type 0 where
 abbrev pub outcome : Chosen → List ℕ → Outcome
 outcome c o = record { said = c; held = o }
 
--- the programs that are served: nfs, portmap and mount
-abbrev pub served : ℕ → Bool
-served p = eqb p 100003 || (eqb p 100000 || eqb p 100005)
-
 -- a reply is 24 bytes, written from place 0; refusal 5 where the output is shorter. (The two replies have no pieces, so no source.)
 unfoldable pub replying : «rpc_msg» → List ℕ → Outcome
 replying m o = cond (leb 24 (length o)) (outcome (replied 24) (output rpc-msg [] m ++ drop 24 o)) (outcome (turned-away 5 0) o)
 
-module _ (seen : Bool) (o : List ℕ) where
-  -- a call by version 2 that was not seen before
-  unfoldable pub byProgram : (xid : ℕ) → «call_body» → Option «auth_unix» → (args : ℕ) → Outcome
-  unfolding replying
-  byProgram xid c a args =
-      cond (served (c .prog)) (outcome (handed (c .prog) (c .vers) (c .proc) a args) o) (replying (progUnavail xid) o)
+-- a decision carried out on the output o
+abbrev pub carriedOut : Decision → List ℕ → Outcome
+carriedOut (refuse r q) o = outcome (turned-away r q) o
+carriedOut (reply m) o = replying m o
+carriedOut silence o = outcome silent o
+carriedOut (hand-over p v f a n) o = outcome (handed p v f a n) o
 
-  -- a call whose credential is read
-  unfoldable pub byVersion : (xid : ℕ) → «call_body» → Option «auth_unix» → (args : ℕ) → Outcome
-  unfolding replying byProgram
-  byVersion xid c a args =
-      cond (eqb (c .rpcvers) 2) (cond seen (outcome silence o) (byProgram xid c a args)) (replying (versMismatch xid) o)
+-- the contract of `choose`: its answer c to the message s, and the output o′ that it leaves of o; and the message is bytes
+pub record Chooses (s : List ℕ) (seen : Bool) (o : List ℕ) (c : Chosen) (o′ : List ℕ) : Type 0 where
+  pub is : outcome c o′ ≡ carriedOut (decided s seen) o
+  pub bytes : Bytes s
 
-module _ (s : List ℕ) (seen : Bool) (o : List ℕ) where
-  -- the auth_unix of an AUTH_UNIX credential, with the body's end as the end
-  abbrev pub byUnix : (xid : ℕ) → «call_body» → (args : ℕ) → Answer «auth_unix» → Outcome
-  byUnix xid c args (took a n b) = byVersion seen o xid c (some a) args
-  byUnix xid c args (refused r q) = outcome (turned-away r q) o
-
-  abbrev pub byFlavor : (xid : ℕ) → «call_body» → (args : ℕ) → «auth_flavor» → Outcome
-  byFlavor xid c args «AUTH_UNIX» = byUnix xid c args (unixIn s (c .cred .body))
-  byFlavor xid c args «AUTH_NULL» = byVersion seen o xid c none args
-  byFlavor xid c args «AUTH_SHORT» = byVersion seen o xid c none args
-  byFlavor xid c args «AUTH_DES» = byVersion seen o xid c none args
-
-  abbrev pub byBody : (xid args : ℕ) → «rpc_body» → Outcome
-  byBody xid args (CALL c) = byFlavor xid c args (c .cred .flavor)
-  byBody xid args (REPLY r) = outcome (turned-away 8 0) o
-
-  -- the rpc_msg at the message's start, with refusals 3, 1 and 2; the arguments begin behind it
-  abbrev pub byMessage : Answer «rpc_msg» → Outcome
-  byMessage (took m n b) = byBody (m .xid) n (m .body)
-  byMessage (refused r q) = outcome (turned-away r q) o
-
-  unfoldable pub choosing : Outcome
-  unfolding byVersion
-  choosing = byMessage (opened s 0 (rpc-msg .held .read s 0))
-
-  -- the contract of `choose`: its answer, and the output o′ that it leaves of o; and the message is bytes
-  pub record Chooses (c : Chosen) (o′ : List ℕ) : Type 0 where
-    pub is : outcome c o′ ≡ choosing
-    pub bytes : Bytes s
-
--- what a choice leaves of the output: a reply changes the first 24 bytes, and nothing else changes any
+-- what is left of the output: a reply changes the first 24 bytes, and nothing else changes any
 abbrev pub Leaves : Chosen → List ℕ → List ℕ → Type 0
 Leaves (turned-away r q) o o′ = o′ ≡ o
 Leaves (replied n) o o′ = (n ≡ 24) × (24 ≤ length o) × (drop 24 o′ ≡ drop 24 o) × (length o′ ≡ length o)
-Leaves silence o o′ = o′ ≡ o
+Leaves silent o o′ = o′ ≡ o
 Leaves (handed p v f a n) o o′ = o′ ≡ o
 
--- of an answer and an output that the contract permits: any other that it permits is the same, and all but a reply's bytes stay
+-- of an answer and an output that the contract permits
 pub record ChoicePromised (s : List ℕ) (seen : Bool) (o : List ℕ) (c : Chosen) (o′ : List ℕ) : Type 0 where
+  -- any other that it permits is the same
   pub one : {d : Chosen} {e : List ℕ} → Chooses s seen o d e → (c ≡ d) × (o′ ≡ e)
+  -- all but a reply's bytes stay
   pub leaves : Leaves c o o′
+  -- where a reply is due, 5 is given exactly if the output is shorter, and else the reply
+  pub five-iff : {m : «rpc_msg»} → decided s seen ≡ reply m → (c ≡ turned-away 5 0) ↔ (length o < 24)
+  pub replies : {m : «rpc_msg»} → decided s seen ≡ reply m → 24 ≤ length o → (c ≡ replied 24) × (o′ ≡ output rpc-msg [] m ++ drop 24 o)

@@ -3,7 +3,7 @@
 use mathlib.Core.Option.{Option, none, some}
 use Rattle.xdr.specs.Meaning.Views.{numberOf, placeOf}
 use Rattle.rpcwire.specs.Meaning.Stream.{Said, more, complete, refused, Made, made, unmade}
-use Rattle.rpcwire.specs.Meaning.Choice.{Chosen, turned-away, replied, silence, handed}
+use Rattle.rpcwire.specs.Meaning.Choice.{Chosen, turned-away, replied, silent, handed}
 use Rattle.rpc.specs.declared.auth.auth_unix.{«auth_unix»}
 use Rattle.rpcwire.specs.declared.assembler.AssemblerMade.{AssemblerMade}
 use Rattle.rpcwire.specs.declared.assembler.AssemblerMade.the-variants as Asked
@@ -30,5 +30,5 @@ viewCaller (Caller.Unix a) = some a
 abbrev pub viewChoice : Choice → Chosen
 viewChoice (Choice.Refused r) = turned-away (numberOf r) (placeOf r)
 viewChoice (Choice.Replied n) = replied n
-viewChoice Choice.Silent = silence
+viewChoice Choice.Silent = silent
 viewChoice (Choice.HandOver p v f c n) = handed p v f (viewCaller c) n

@@ -1,5 +1,4 @@
 use borrow.Author.Needs.{needs}
-use mathlib.Core.Path.{ap}
 use Rattle.rpc.proofs.makers.accepted_with.Statement.{statement}
 use Rattle.rpc.proofs.makers.accepted_with.Tie as tie
 

@@ -1,6 +1,6 @@
 use borrow.Author.Needs.{needs}
 use native.Mathlib.Omega.{arith}
-use mathlib.Core.Path.{sym, ap, _∙_}
+use mathlib.Core.Path.{sym}
 use denote.Ref.{now}
 use Rattle.xdr.specs.Laws.Write.{put-same, field, room}
 use Rattle.rpc.specs.Laws.Sizes.{acceptSize, accepted-written, accepted-verf}

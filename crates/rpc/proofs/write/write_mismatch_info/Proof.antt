@@ -1,7 +1,6 @@
 use borrow.Author.Needs.{needs}
 use mathlib.Core.Path.{ap}
 use mathlib.Core.List.{[]}
-use lib.ListN.{length}
 use denote.Ref.{now}
 use Rattle.xdr.specs.Meaning.Format.{exactly}
 use Rattle.xdr.specs.Meaning.Views.{viewWrote}

@@ -1,0 +1,229 @@
+-- Ranges: every value of a declared type means a message in range. `Is the-row m vs` is what owning a parameter m of the type tells: of a
+-- struct `p .1 .1` is the fields' own facts, a tuple in their order; of an enum at a constructor `p .1 .1 .1 .1` is those of its fields. A
+-- number's `.1` is its range.
+-- Assumes nothing.
+use mathlib.Core.List.{List}
+use mathlib.Core.Bool.{true, false}
+use Prim.Native.Nat.{ℕ, _≤_}
+use native.Mathlib.Omega.{arith}
+use lib.ListN.{length}
+use mir.Val.{Val}
+use denote.Laws.{Is}
+use Rattle.xdr.specs.Meaning.Answer.{most}
+use Rattle.xdr.specs.Meaning.Bytes.{Bytes}
+use Rattle.xdr.specs.Meaning.Formats.{pieceHeld}
+use Rattle.xdr.specs.Laws.Pieces.{piece-good}
+use Rattle.xdr.specs.Laws.Ranges.{word-good, hyper-good, flag-good}
+use Rattle.nfs.specs.Meaning.Stat.{nfsstat}
+use Rattle.nfs.specs.Meaning.Attr.{ftype, specdata, nfstime, ids, sizes, times, fattr, wcc-attr, pre-op-attr, post-op-attr, wcc-data, transfer, limits, fsinfo}
+use Rattle.nfs.specs.Meaning.Set.{time-how, set-mode, set-uid, set-gid, set-size, set-time, set-atime, set-mtime, sattr}
+use Rattle.nfs.specs.Meaning.Dir.{nfs-fh, post-op-fh, diropargs, symlinkdata}
+use Rattle.nfs.specs.declared.stat.nfsfail3.{nfsfail3}
+use Rattle.nfs.specs.declared.stat.nfsstat3.{nfsstat3}
+use Rattle.nfs.specs.declared.attr.ftype3.{ftype3}
+use Rattle.nfs.specs.declared.attr.specdata3.{specdata3}
+use Rattle.nfs.specs.declared.attr.nfstime3.{nfstime3}
+use Rattle.nfs.specs.declared.attr.fattr3.{fattr3}
+use Rattle.nfs.specs.declared.attr.wcc_attr.{«wcc_attr»}
+use Rattle.nfs.specs.declared.attr.pre_op_attr.{«pre_op_attr»}
+use Rattle.nfs.specs.declared.attr.post_op_attr.{«post_op_attr»}
+use Rattle.nfs.specs.declared.attr.wcc_data.{«wcc_data»}
+use Rattle.nfs.specs.declared.attr.fsinfo3.{fsinfo3}
+use Rattle.nfs.specs.declared.set._time_how.{«_time_how»}
+use Rattle.nfs.specs.declared.set.set_mode3.{«set_mode3»}
+use Rattle.nfs.specs.declared.set.set_uid3.{«set_uid3»}
+use Rattle.nfs.specs.declared.set.set_gid3.{«set_gid3»}
+use Rattle.nfs.specs.declared.set.set_size3.{«set_size3»}
+use Rattle.nfs.specs.declared.set.set_atime.{«set_atime»}
+use Rattle.nfs.specs.declared.set.set_mtime.{«set_mtime»}
+use Rattle.nfs.specs.declared.set.sattr3.{sattr3}
+use Rattle.nfs.specs.declared.dir.nfs_fh3.{«nfs_fh3»}
+use Rattle.nfs.specs.declared.dir.post_op_fh3.{«post_op_fh3»}
+use Rattle.nfs.specs.declared.dir.diropargs3.{diropargs3}
+use Rattle.nfs.specs.declared.dir.symlinkdata3.{symlinkdata3}
+use Rattle.nfs.specs.declared.stat.nfsfail3.the-variants.{«NFS3ERR_PERM», «NFS3ERR_NOENT», «NFS3ERR_IO», «NFS3ERR_NXIO», «NFS3ERR_ACCES», «NFS3ERR_EXIST», «NFS3ERR_XDEV», «NFS3ERR_NODEV», «NFS3ERR_NOTDIR», «NFS3ERR_ISDIR», «NFS3ERR_INVAL», «NFS3ERR_FBIG», «NFS3ERR_NOSPC», «NFS3ERR_ROFS», «NFS3ERR_MLINK», «NFS3ERR_NAMETOOLONG», «NFS3ERR_NOTEMPTY», «NFS3ERR_DQUOT», «NFS3ERR_STALE», «NFS3ERR_REMOTE», «NFS3ERR_BADHANDLE», «NFS3ERR_NOT_SYNC», «NFS3ERR_BAD_COOKIE», «NFS3ERR_NOTSUPP», «NFS3ERR_TOOSMALL», «NFS3ERR_SERVERFAULT», «NFS3ERR_BADTYPE», «NFS3ERR_JUKEBOX»}
+use Rattle.nfs.specs.declared.stat.nfsstat3.the-variants.{«NFS3_OK», Failed}
+use Rattle.nfs.specs.declared.attr.ftype3.the-variants.{NF3REG, NF3DIR, NF3BLK, NF3CHR, NF3LNK, NF3SOCK, NF3FIFO}
+use Rattle.nfs.specs.declared.set._time_how.the-variants as how
+use Rattle.nfs.specs.declared.attr.pre_op_attr.the-variants as pre
+use Rattle.nfs.specs.declared.attr.post_op_attr.the-variants as post
+use Rattle.nfs.specs.declared.dir.post_op_fh3.the-variants as fh
+use Rattle.nfs.specs.declared.set.set_mode3.the-variants as mode
+use Rattle.nfs.specs.declared.set.set_uid3.the-variants as uid
+use Rattle.nfs.specs.declared.set.set_gid3.the-variants as gid
+use Rattle.nfs.specs.declared.set.set_size3.the-variants as size
+use Rattle.nfs.specs.declared.set.set_atime.the-variants as atime
+use Rattle.nfs.specs.declared.set.set_mtime.the-variants as mtime
+use Rattle.nfs.proofs.attr.specdata3 as specdata3·
+use Rattle.nfs.proofs.attr.nfstime3 as nfstime3·
+use Rattle.nfs.proofs.attr.fattr3 as fattr3·
+use Rattle.nfs.proofs.attr.wcc_attr as wcc-attr·
+use Rattle.nfs.proofs.attr.pre_op_attr as pre-op-attr·
+use Rattle.nfs.proofs.attr.post_op_attr as post-op-attr·
+use Rattle.nfs.proofs.attr.wcc_data as wcc-data·
+use Rattle.nfs.proofs.attr.fsinfo3 as fsinfo3·
+use Rattle.nfs.proofs.set.set_mode3 as set-mode3·
+use Rattle.nfs.proofs.set.set_uid3 as set-uid3·
+use Rattle.nfs.proofs.set.set_gid3 as set-gid3·
+use Rattle.nfs.proofs.set.set_size3 as set-size3·
+use Rattle.nfs.proofs.set.set_atime as set-atime·
+use Rattle.nfs.proofs.set.set_mtime as set-mtime·
+use Rattle.nfs.proofs.set.sattr3 as sattr3·
+use Rattle.nfs.proofs.dir.symlinkdata3 as symlinkdata3·
+
+-- with no number of the source's in them
+fail-good : (a : nfsfail3) → nfsstat .kind .Good (Failed a)
+unfolding nfsstat
+fail-good «NFS3ERR_PERM» = word-good _ (omega arith)
+fail-good «NFS3ERR_NOENT» = word-good _ (omega arith)
+fail-good «NFS3ERR_IO» = word-good _ (omega arith)
+fail-good «NFS3ERR_NXIO» = word-good _ (omega arith)
+fail-good «NFS3ERR_ACCES» = word-good _ (omega arith)
+fail-good «NFS3ERR_EXIST» = word-good _ (omega arith)
+fail-good «NFS3ERR_XDEV» = word-good _ (omega arith)
+fail-good «NFS3ERR_NODEV» = word-good _ (omega arith)
+fail-good «NFS3ERR_NOTDIR» = word-good _ (omega arith)
+fail-good «NFS3ERR_ISDIR» = word-good _ (omega arith)
+fail-good «NFS3ERR_INVAL» = word-good _ (omega arith)
+fail-good «NFS3ERR_FBIG» = word-good _ (omega arith)
+fail-good «NFS3ERR_NOSPC» = word-good _ (omega arith)
+fail-good «NFS3ERR_ROFS» = word-good _ (omega arith)
+fail-good «NFS3ERR_MLINK» = word-good _ (omega arith)
+fail-good «NFS3ERR_NAMETOOLONG» = word-good _ (omega arith)
+fail-good «NFS3ERR_NOTEMPTY» = word-good _ (omega arith)
+fail-good «NFS3ERR_DQUOT» = word-good _ (omega arith)
+fail-good «NFS3ERR_STALE» = word-good _ (omega arith)
+fail-good «NFS3ERR_REMOTE» = word-good _ (omega arith)
+fail-good «NFS3ERR_BADHANDLE» = word-good _ (omega arith)
+fail-good «NFS3ERR_NOT_SYNC» = word-good _ (omega arith)
+fail-good «NFS3ERR_BAD_COOKIE» = word-good _ (omega arith)
+fail-good «NFS3ERR_NOTSUPP» = word-good _ (omega arith)
+fail-good «NFS3ERR_TOOSMALL» = word-good _ (omega arith)
+fail-good «NFS3ERR_SERVERFAULT» = word-good _ (omega arith)
+fail-good «NFS3ERR_BADTYPE» = word-good _ (omega arith)
+fail-good «NFS3ERR_JUKEBOX» = word-good _ (omega arith)
+
+pub nfsstat-good : (a : nfsstat3) → nfsstat .kind .Good a
+unfolding nfsstat
+nfsstat-good «NFS3_OK» = word-good 0 (omega arith)
+nfsstat-good (Failed a) = fail-good a
+
+pub ftype-good : (a : ftype3) → ftype .kind .Good a
+unfolding ftype
+ftype-good NF3REG = word-good _ (omega arith)
+ftype-good NF3DIR = word-good _ (omega arith)
+ftype-good NF3BLK = word-good _ (omega arith)
+ftype-good NF3CHR = word-good _ (omega arith)
+ftype-good NF3LNK = word-good _ (omega arith)
+ftype-good NF3SOCK = word-good _ (omega arith)
+ftype-good NF3FIFO = word-good _ (omega arith)
+
+pub time-how-good : (a : «_time_how») → time-how .kind .Good a
+unfolding time-how
+time-how-good how.«DONT_CHANGE» = word-good _ (omega arith)
+time-how-good how.«SET_TO_SERVER_TIME» = word-good _ (omega arith)
+time-how-good how.«SET_TO_CLIENT_TIME» = word-good _ (omega arith)
+
+-- structs and enums of numbers
+pub specdata-good : (m : specdata3) {vs : List Val} → Is specdata3·.the-row m vs → specdata .kind .Good m
+unfolding specdata
+specdata-good m p =
+    let f = p .1 .1 in
+    (word-good _ (f .0 .1), word-good _ (f .1 .0 .1))
+
+pub nfstime-good : (m : nfstime3) {vs : List Val} → Is nfstime3·.the-row m vs → nfstime .kind .Good m
+unfolding nfstime
+nfstime-good m p =
+    let f = p .1 .1 in
+    (word-good _ (f .0 .1), word-good _ (f .1 .0 .1))
+
+pub fattr-good : (m : fattr3) {vs : List Val} → Is fattr3·.the-row m vs → fattr .kind .Good m
+unfolding fattr ids sizes times
+fattr-good m p =
+    let f = p .1 .1 in
+    ((ftype-good (m .ftype), (word-good _ (f .1 .0 .1), (word-good _ (f .1 .1 .0 .1), (word-good _ (f .1 .1 .1 .0 .1), word-good _ (f .1 .1 .1 .1 .0 .1))))), ((hyper-good _ (f .1 .1 .1 .1 .1 .0 .1), (hyper-good _ (f .1 .1 .1 .1 .1 .1 .0 .1), (specdata-good (m .rdev) (f .1 .1 .1 .1 .1 .1 .1 .0), (hyper-good _ (f .1 .1 .1 .1 .1 .1 .1 .1 .0 .1), hyper-good _ (f .1 .1 .1 .1 .1 .1 .1 .1 .1 .0 .1))))), (nfstime-good (m .atime) (f .1 .1 .1 .1 .1 .1 .1 .1 .1 .1 .0), (nfstime-good (m .mtime) (f .1 .1 .1 .1 .1 .1 .1 .1 .1 .1 .1 .0), nfstime-good (m .ctime) (f .1 .1 .1 .1 .1 .1 .1 .1 .1 .1 .1 .1 .0)))))
+
+pub wcc-attr-good : (m : «wcc_attr») {vs : List Val} → Is wcc-attr·.the-row m vs → wcc-attr .kind .Good m
+unfolding wcc-attr
+wcc-attr-good m p =
+    let f = p .1 .1 in
+    (hyper-good _ (f .0 .1), (nfstime-good (m .mtime) (f .1 .0), nfstime-good (m .ctime) (f .1 .1 .0)))
+
+pub pre-op-attr-good : (m : «pre_op_attr») {vs : List Val} → Is pre-op-attr·.the-row m vs → pre-op-attr .kind .Good m
+unfolding pre-op-attr
+pre-op-attr-good pre.Void p = (flag-good false, tt)
+pre-op-attr-good (pre.attributes v) p = (flag-good true, wcc-attr-good v (p .1 .1 .1 .1 .0))
+
+pub post-op-attr-good : (m : «post_op_attr») {vs : List Val} → Is post-op-attr·.the-row m vs → post-op-attr .kind .Good m
+unfolding post-op-attr
+post-op-attr-good post.Void p = (flag-good false, tt)
+post-op-attr-good (post.attributes v) p = (flag-good true, fattr-good v (p .1 .1 .1 .1 .0))
+
+pub wcc-data-good : (m : «wcc_data») {vs : List Val} → Is wcc-data·.the-row m vs → wcc-data .kind .Good m
+unfolding wcc-data
+wcc-data-good m p =
+    let f = p .1 .1 in
+    (pre-op-attr-good (m .before) (f .0), post-op-attr-good (m .after) (f .1 .0))
+
+pub fsinfo-good : (m : fsinfo3) {vs : List Val} → Is fsinfo3·.the-row m vs → fsinfo .kind .Good m
+unfolding fsinfo transfer limits
+fsinfo-good m p =
+    let f = p .1 .1 in
+    (post-op-attr-good (m .«obj_attributes») (f .0), ((word-good _ (f .1 .0 .1), (word-good _ (f .1 .1 .0 .1), word-good _ (f .1 .1 .1 .0 .1))), ((word-good _ (f .1 .1 .1 .1 .0 .1), (word-good _ (f .1 .1 .1 .1 .1 .0 .1), word-good _ (f .1 .1 .1 .1 .1 .1 .0 .1))), (word-good _ (f .1 .1 .1 .1 .1 .1 .1 .0 .1), (hyper-good _ (f .1 .1 .1 .1 .1 .1 .1 .1 .0 .1), (nfstime-good (m .«time_delta») (f .1 .1 .1 .1 .1 .1 .1 .1 .1 .0), word-good _ (f .1 .1 .1 .1 .1 .1 .1 .1 .1 .1 .0 .1)))))))
+
+pub set-mode-good : (m : «set_mode3») {vs : List Val} → Is set-mode3·.the-row m vs → set-mode .kind .Good m
+unfolding set-mode
+set-mode-good mode.Void p = (flag-good false, tt)
+set-mode-good (mode.mode v) p = (flag-good true, word-good _ (p .1 .1 .1 .1 .0 .1))
+
+pub set-uid-good : (m : «set_uid3») {vs : List Val} → Is set-uid3·.the-row m vs → set-uid .kind .Good m
+unfolding set-uid
+set-uid-good uid.Void p = (flag-good false, tt)
+set-uid-good (uid.uid v) p = (flag-good true, word-good _ (p .1 .1 .1 .1 .0 .1))
+
+pub set-gid-good : (m : «set_gid3») {vs : List Val} → Is set-gid3·.the-row m vs → set-gid .kind .Good m
+unfolding set-gid
+set-gid-good gid.Void p = (flag-good false, tt)
+set-gid-good (gid.gid v) p = (flag-good true, word-good _ (p .1 .1 .1 .1 .0 .1))
+
+pub set-size-good : (m : «set_size3») {vs : List Val} → Is set-size3·.the-row m vs → set-size .kind .Good m
+unfolding set-size
+set-size-good size.Void p = (flag-good false, tt)
+set-size-good (size.size v) p = (flag-good true, hyper-good _ (p .1 .1 .1 .1 .0 .1))
+
+pub set-atime-good : (m : «set_atime») {vs : List Val} → Is set-atime·.the-row m vs → set-atime .kind .Good m
+unfolding set-atime set-time
+set-atime-good atime.«DONT_CHANGE» p = (word-good 0 (omega arith), tt)
+set-atime-good atime.«SET_TO_SERVER_TIME» p = (word-good 1 (omega arith), tt)
+set-atime-good (atime.«SET_TO_CLIENT_TIME» v) p = (word-good 2 (omega arith), nfstime-good v (p .1 .1 .1 .1 .0))
+
+pub set-mtime-good : (m : «set_mtime») {vs : List Val} → Is set-mtime·.the-row m vs → set-mtime .kind .Good m
+unfolding set-mtime set-time
+set-mtime-good mtime.«DONT_CHANGE» p = (word-good 0 (omega arith), tt)
+set-mtime-good mtime.«SET_TO_SERVER_TIME» p = (word-good 1 (omega arith), tt)
+set-mtime-good (mtime.«SET_TO_CLIENT_TIME» v) p = (word-good 2 (omega arith), nfstime-good v (p .1 .1 .1 .1 .0))
+
+pub sattr-good : (m : sattr3) {vs : List Val} → Is sattr3·.the-row m vs → sattr .kind .Good m
+unfolding sattr
+sattr-good m p =
+    let f = p .1 .1 in
+    (set-mode-good (m .mode) (f .0), (set-uid-good (m .uid) (f .1 .0), (set-gid-good (m .gid) (f .1 .1 .0), (set-size-good (m .size) (f .1 .1 .1 .0), (set-atime-good (m .atime) (f .1 .1 .1 .1 .0), set-mtime-good (m .mtime) (f .1 .1 .1 .1 .1 .0))))))
+
+-- with pieces of a source of bytes that is not too long
+module _ (s : List ℕ) (h : Bytes s) (k : length s ≤ most) where
+  handle-good : (m : «nfs_fh3») → nfs-fh .codec .kind .Good (nfs-fh .held .mean s m)
+  unfolding nfs-fh pieceHeld
+  handle-good m = piece-good s (m .«data») h k
+
+  pub fh-good : (m : «post_op_fh3») → post-op-fh .codec .kind .Good (post-op-fh .held .mean s m)
+  unfolding post-op-fh
+  fh-good fh.Void = (flag-good false, tt)
+  fh-good (fh.handle m) = (flag-good true, handle-good m)
+
+  pub entry-good : (m : diropargs3) → diropargs .codec .kind .Good (diropargs .held .mean s m)
+  unfolding diropargs pieceHeld
+  entry-good m = (handle-good (m .dir), piece-good s (m .name) h k)
+
+  pub link-good : (m : symlinkdata3) {vs : List Val} → Is symlinkdata3·.the-row m vs → symlinkdata .codec .kind .Good (symlinkdata .held .mean s m)
+  unfolding symlinkdata pieceHeld
+  link-good m p = (sattr-good (m .«symlink_attributes») (p .1 .1 .0), piece-good s (m .«symlink_data») h k)

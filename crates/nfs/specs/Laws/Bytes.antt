@@ -1,0 +1,202 @@
+-- Records are written as their fields in order; and the ranges of those that have no constant size.
+-- Assumes nothing.
+use mathlib.Core.Path.{_≡_, refl, sym, ap, ap₂, _∙_}
+use mathlib.Core.Option.{none, some}
+use mathlib.Core.List.{List, _++_, append-assoc}
+use Prim.Native.Nat.{ℕ, _+_, _≤_}
+use native.Mathlib.Omega.{arith}
+use lib.ListN.{length, length-append}
+use Rattle.xdr.specs.Meaning.Items.{word, hyper}
+use Rattle.nfs.specs.Meaning.Attr.{ftype, specdata, nfstime, ids, sizes, times, fattr, wcc-attr, pre-op-attr, preCases, post-op-attr, postCases, wcc-data, transfer, limits, fsinfo}
+use Rattle.nfs.specs.Meaning.Set.{set-mode, modeCases, set-uid, uidCases, set-gid, gidCases, set-size, sizeCases, set-atime, atimeCases, set-mtime, mtimeCases, sattr}
+use Rattle.nfs.specs.Laws.Fixed.{word-fixed, hyper-fixed}
+use Rattle.nfs.specs.Laws.Sizes.{fattr-fixed, wcc-attr-fixed, transfer-fixed, limits-fixed}
+use Rattle.nfs.specs.Laws.Write.{Between, maybe-length, maybe-between, time-between}
+use Rattle.nfs.specs.declared.attr.specdata3.{specdata3}
+use Rattle.nfs.specs.declared.attr.nfstime3.{nfstime3}
+use Rattle.nfs.specs.declared.inner.attr.Ids.{Ids}
+use Rattle.nfs.specs.declared.inner.attr.Sizes.{Sizes}
+use Rattle.nfs.specs.declared.inner.attr.Times.{Times}
+use Rattle.nfs.specs.declared.attr.wcc_attr.{«wcc_attr»}
+use Rattle.nfs.specs.declared.attr.wcc_data.{«wcc_data»}
+use Rattle.nfs.specs.declared.inner.attr.Transfer.{Transfer}
+use Rattle.nfs.specs.declared.inner.attr.Limits.{Limits}
+use Rattle.nfs.specs.declared.set.sattr3.{sattr3}
+use Rattle.nfs.specs.declared.attr.fattr3.{fattr3}
+use Rattle.nfs.specs.declared.attr.fsinfo3.{fsinfo3}
+use Rattle.nfs.specs.declared.attr.pre_op_attr.{«pre_op_attr»}
+use Rattle.nfs.specs.declared.attr.post_op_attr.{«post_op_attr»}
+use Rattle.nfs.specs.declared.attr.post_op_attr.the-variants as post
+use Rattle.nfs.specs.declared.set.set_mode3.{«set_mode3»}
+use Rattle.nfs.specs.declared.set.set_uid3.{«set_uid3»}
+use Rattle.nfs.specs.declared.set.set_gid3.{«set_gid3»}
+use Rattle.nfs.specs.declared.set.set_size3.{«set_size3»}
+use Rattle.nfs.specs.declared.set.set_atime.{«set_atime»}
+use Rattle.nfs.specs.declared.set.set_mtime.{«set_mtime»}
+
+pub specdata-bytes : (m : specdata3)
+    → word .kind .write (m .specdata1) ++ word .kind .write (m .specdata2) ≡ specdata .kind .write m
+unfolding specdata
+specdata-bytes m = refl
+
+pub nfstime-bytes : (m : nfstime3)
+    → word .kind .write (m .seconds) ++ word .kind .write (m .nseconds) ≡ nfstime .kind .write m
+unfolding nfstime
+nfstime-bytes m = refl
+
+pub ids-bytes : (m : Ids)
+    → (((ftype .kind .write (m .ftype) ++ word .kind .write (m .mode)) ++ word .kind .write (m .nlink)) ++ word .kind .write (m .uid)) ++ word .kind .write (m .gid) ≡ ids .kind .write m
+unfolding ids
+ids-bytes m = simp append-assoc
+
+pub sizes-bytes : (m : Sizes)
+    → (((hyper .kind .write (m .size) ++ hyper .kind .write (m .used)) ++ specdata .kind .write (m .rdev)) ++ hyper .kind .write (m .fsid)) ++ hyper .kind .write (m .fileid) ≡ sizes .kind .write m
+unfolding sizes
+sizes-bytes m = simp append-assoc
+
+pub times-bytes : (m : Times)
+    → (nfstime .kind .write (m .atime) ++ nfstime .kind .write (m .mtime)) ++ nfstime .kind .write (m .ctime) ≡ times .kind .write m
+unfolding times
+times-bytes m = simp append-assoc
+
+pub wcc-attr-bytes : (m : «wcc_attr»)
+    → (hyper .kind .write (m .size) ++ nfstime .kind .write (m .mtime)) ++ nfstime .kind .write (m .ctime) ≡ wcc-attr .kind .write m
+unfolding wcc-attr
+wcc-attr-bytes m = simp append-assoc
+
+pub wcc-data-bytes : (m : «wcc_data»)
+    → pre-op-attr .kind .write (m .before) ++ post-op-attr .kind .write (m .after) ≡ wcc-data .kind .write m
+unfolding wcc-data
+wcc-data-bytes m = refl
+
+pub transfer-bytes : (m : Transfer)
+    → (word .kind .write (m .max) ++ word .kind .write (m .pref)) ++ word .kind .write (m .mult) ≡ transfer .kind .write m
+unfolding transfer
+transfer-bytes m = simp append-assoc
+
+pub limits-bytes : (m : Limits)
+    → ((word .kind .write (m .dtpref) ++ hyper .kind .write (m .maxfilesize)) ++ nfstime .kind .write (m .«time_delta»)) ++ word .kind .write (m .properties) ≡ limits .kind .write m
+unfolding limits
+limits-bytes m = simp append-assoc
+
+pub fattr-bytes : (m : fattr3)
+    → (ids .kind .write (record { ftype = m .ftype; mode = m .mode; nlink = m .nlink; uid = m .uid; gid = m .gid }) ++ sizes .kind .write (record { size = m .size; used = m .used; rdev = m .rdev; fsid = m .fsid; fileid = m .fileid })) ++ times .kind .write (record { atime = m .atime; mtime = m .mtime; ctime = m .ctime })
+    ≡ fattr .kind .write m
+unfolding fattr
+fattr-bytes m = simp append-assoc
+
+pub fsinfo-bytes : (m : fsinfo3)
+    → ((post-op-attr .kind .write (m .«obj_attributes») ++ transfer .kind .write (record { max = m .rtmax; pref = m .rtpref; mult = m .rtmult })) ++ transfer .kind .write (record { max = m .wtmax; pref = m .wtpref; mult = m .wtmult })) ++ limits .kind .write (record { dtpref = m .dtpref; maxfilesize = m .maxfilesize; «time_delta» = m .«time_delta»; properties = m .properties })
+    ≡ fsinfo .kind .write m
+unfolding fsinfo
+fsinfo-bytes m = simp append-assoc
+
+-- ranges
+pub pre-op-attr-between : (v : «pre_op_attr») → Between 4 28 (length (pre-op-attr .kind .write v))
+unfolding pre-op-attr
+pre-op-attr-between v = maybe-between wcc-attr preCases wcc-attr-fixed v
+
+pub post-op-attr-between : (v : «post_op_attr») → Between 4 88 (length (post-op-attr .kind .write v))
+unfolding post-op-attr
+post-op-attr-between v = maybe-between fattr postCases fattr-fixed v
+
+pub set-mode-between : (v : «set_mode3») → Between 4 8 (length (set-mode .kind .write v))
+unfolding set-mode
+set-mode-between v = maybe-between word modeCases word-fixed v
+
+pub set-uid-between : (v : «set_uid3») → Between 4 8 (length (set-uid .kind .write v))
+unfolding set-uid
+set-uid-between v = maybe-between word uidCases word-fixed v
+
+pub set-gid-between : (v : «set_gid3») → Between 4 8 (length (set-gid .kind .write v))
+unfolding set-gid
+set-gid-between v = maybe-between word gidCases word-fixed v
+
+pub set-size-between : (v : «set_size3») → Between 4 12 (length (set-size .kind .write v))
+unfolding set-size
+set-size-between v = maybe-between hyper sizeCases hyper-fixed v
+
+pub set-atime-between : (v : «set_atime») → Between 4 12 (length (set-atime .kind .write v))
+unfolding set-atime
+set-atime-between v = time-between atimeCases v
+
+pub set-mtime-between : (v : «set_mtime») → Between 4 12 (length (set-mtime .kind .write v))
+unfolding set-mtime
+set-mtime-between v = time-between mtimeCases v
+
+pub wcc-data-length : (m : «wcc_data»)
+    → length (wcc-data .kind .write m) ≡ length (pre-op-attr .kind .write (m .before)) + length (post-op-attr .kind .write (m .after))
+wcc-data-length m = ap length (sym (wcc-data-bytes m)) ∙ length-append (pre-op-attr .kind .write (m .before)) (post-op-attr .kind .write (m .after))
+
+pub wcc-data-between : (m : «wcc_data») → Between 8 116 (length (wcc-data .kind .write m))
+wcc-data-between m =
+    let a = pre-op-attr-between (m .before) in
+    let b = post-op-attr-between (m .after) in
+    record { least = omega (arith, wcc-data-length m); greatest = omega (arith, wcc-data-length m) }
+
+pub fsinfo-length : (m : fsinfo3) → length (fsinfo .kind .write m) ≡ length (post-op-attr .kind .write (m .«obj_attributes»)) + 12 + 12 + 24
+fsinfo-length m = ap length (sym (fsinfo-bytes m)) ∙ simp (length-append, transfer-fixed .writes, limits-fixed .writes)
+
+-- sattr3, in two halves
+module _ (mode : «set_mode3») (uid : «set_uid3») (gid : «set_gid3») where
+  unfoldable pub ownerBytes : List ℕ
+  ownerBytes = (set-mode .kind .write mode ++ set-uid .kind .write uid) ++ set-gid .kind .write gid
+
+  pub owner-bytes : (set-mode .kind .write mode ++ set-uid .kind .write uid) ++ set-gid .kind .write gid ≡ ownerBytes
+  unfolding ownerBytes
+  owner-bytes = refl
+
+  pub owner-length : length ownerBytes ≡ length (set-mode .kind .write mode) + length (set-uid .kind .write uid) + length (set-gid .kind .write gid)
+  unfolding ownerBytes
+  owner-length = simp length-append
+
+  pub owner-between : Between 12 24 (length ownerBytes)
+  owner-between =
+      let a = set-mode-between mode in
+      let b = set-uid-between uid in
+      let c = set-gid-between gid in
+      record { least = omega (arith, owner-length); greatest = omega (arith, owner-length) }
+
+module _ (size : «set_size3») (atime : «set_atime») (mtime : «set_mtime») where
+  unfoldable pub changeBytes : List ℕ
+  changeBytes = (set-size .kind .write size ++ set-atime .kind .write atime) ++ set-mtime .kind .write mtime
+
+  pub change-bytes : (set-size .kind .write size ++ set-atime .kind .write atime) ++ set-mtime .kind .write mtime ≡ changeBytes
+  unfolding changeBytes
+  change-bytes = refl
+
+  pub change-length : length changeBytes
+      ≡ length (set-size .kind .write size) + length (set-atime .kind .write atime) + length (set-mtime .kind .write mtime)
+  unfolding changeBytes
+  change-length = simp length-append
+
+  pub change-between : Between 12 36 (length changeBytes)
+  change-between =
+      let a = set-size-between size in
+      let b = set-atime-between atime in
+      let c = set-mtime-between mtime in
+      record { least = omega (arith, change-length); greatest = omega (arith, change-length) }
+
+pub sattr-bytes : (m : sattr3) → ownerBytes (m .mode) (m .uid) (m .gid) ++ changeBytes (m .size) (m .atime) (m .mtime) ≡ sattr .kind .write m
+unfolding sattr ownerBytes changeBytes
+sattr-bytes m = simp append-assoc
+
+pub sattr-length : (m : sattr3)
+    → length (sattr .kind .write m) ≡ length (ownerBytes (m .mode) (m .uid) (m .gid)) + length (changeBytes (m .size) (m .atime) (m .mtime))
+sattr-length m =
+    ap length (sym (sattr-bytes m)) ∙ length-append (ownerBytes (m .mode) (m .uid) (m .gid)) (changeBytes (m .size) (m .atime) (m .mtime))
+
+pub sattr-between : (m : sattr3) → Between 24 60 (length (sattr .kind .write m))
+sattr-between m =
+    let a = owner-between (m .mode) (m .uid) (m .gid) in
+    let b = change-between (m .size) (m .atime) (m .mtime) in
+    record { least = omega (arith, sattr-length m); greatest = omega (arith, sattr-length m) }
+
+-- fsinfo3 is 52 bytes without attributes, and 136 with them
+pub fsinfo-void : (m : fsinfo3) → m .«obj_attributes» ≡ post.Void → length (fsinfo .kind .write m) ≡ 52
+unfolding post-op-attr
+fsinfo-void m e = omega (arith, fsinfo-length m, maybe-length fattr postCases fattr-fixed none e)
+
+pub fsinfo-attributes : (m : fsinfo3) {a : fattr3} → m .«obj_attributes» ≡ post.attributes a → length (fsinfo .kind .write m) ≡ 136
+unfolding post-op-attr
+fsinfo-attributes m {a} e = omega (arith, fsinfo-length m, maybe-length fattr postCases fattr-fixed (some a) e)

@@ -1,0 +1,271 @@
+// Attributes.
+ghost use mathlib.Core.Path.{_≡_};
+ghost use lib.ListN.{length};
+ghost use Rattle.nfs.specs.Meaning.Attr.{ftype, specdata, nfstime, ids, sizes, times, fattr, wcc-attr, pre-op-attr, post-op-attr, wcc-data, transfer, limits, fsinfo};
+ghost use Rattle.xdr.specs.Meaning.Public.{laid};
+use crate::attr::fattr3;
+use crate::attr::fsinfo3;
+use crate::attr::ftype3;
+use crate::attr::nfstime3;
+use crate::attr::post_op_attr;
+use crate::attr::pre_op_attr;
+use crate::attr::specdata3;
+use crate::attr::wcc_attr;
+use crate::attr::wcc_data;
+use crate::inner::attr::Ids;
+use crate::inner::attr::Limits;
+use crate::inner::attr::Sizes;
+use crate::inner::attr::Times;
+use crate::inner::attr::Transfer;
+use xdr::inner::put_bool;
+use xdr::inner::put_u32;
+use xdr::inner::put_u64;
+
+pub fn put_ftype3(v: ftype3, out: &mut [u8])
+    ensures { λ _. ⌜ now (out .exit) ≡ laid (ftype .kind .write v) (now (out .entry)) ⌝ }
+{
+    put_u32(v.number(), out);
+}
+
+pub fn put_specdata3(v: specdata3, out: &mut [u8])
+    ensures { λ _. ⌜ now (out .exit) ≡ laid (specdata .kind .write v) (now (out .entry)) ⌝ }
+{
+    if out.len() < specdata3::SIZE {
+        return;
+    }
+    put_u32(v.specdata1, &mut out[0..]);
+    put_u32(v.specdata2, &mut out[4..]);
+}
+
+pub fn put_nfstime3(v: nfstime3, out: &mut [u8])
+    ensures { λ _. ⌜ now (out .exit) ≡ laid (nfstime .kind .write v) (now (out .entry)) ⌝ }
+{
+    if out.len() < nfstime3::SIZE {
+        return;
+    }
+    put_u32(v.seconds, &mut out[0..]);
+    put_u32(v.nseconds, &mut out[4..]);
+}
+
+pub fn put_ids(v: Ids, out: &mut [u8])
+    ensures { λ _. ⌜ now (out .exit) ≡ laid (ids .kind .write v) (now (out .entry)) ⌝ }
+{
+    if out.len() < Ids::SIZE {
+        return;
+    }
+    let ftype = v.ftype;
+    put_ftype3(ftype, &mut out[0..]);
+    put_u32(v.mode, &mut out[4..]);
+    put_u32(v.nlink, &mut out[8..]);
+    put_u32(v.uid, &mut out[12..]);
+    put_u32(v.gid, &mut out[16..]);
+}
+
+pub fn put_sizes(v: Sizes, out: &mut [u8])
+    ensures { λ _. ⌜ now (out .exit) ≡ laid (sizes .kind .write v) (now (out .entry)) ⌝ }
+{
+    if out.len() < Sizes::SIZE {
+        return;
+    }
+    let rdev = v.rdev;
+    put_u64(v.size, &mut out[0..]);
+    put_u64(v.used, &mut out[8..]);
+    put_specdata3(rdev, &mut out[16..]);
+    put_u64(v.fsid, &mut out[24..]);
+    put_u64(v.fileid, &mut out[32..]);
+}
+
+pub fn put_times(v: Times, out: &mut [u8])
+    ensures { λ _. ⌜ now (out .exit) ≡ laid (times .kind .write v) (now (out .entry)) ⌝ }
+{
+    if out.len() < Times::SIZE {
+        return;
+    }
+    let atime = v.atime;
+    let mtime = v.mtime;
+    let ctime = v.ctime;
+    put_nfstime3(atime, &mut out[0..]);
+    put_nfstime3(mtime, &mut out[8..]);
+    put_nfstime3(ctime, &mut out[16..]);
+}
+
+pub fn put_fattr3(v: fattr3, out: &mut [u8])
+    ensures { λ _. ⌜ now (out .exit) ≡ laid (fattr .kind .write v) (now (out .entry)) ⌝ }
+{
+    if out.len() < fattr3::SIZE {
+        return;
+    }
+    let ftype = v.ftype;
+    let rdev = v.rdev;
+    let atime = v.atime;
+    let mtime = v.mtime;
+    let ctime = v.ctime;
+    let ids = Ids {
+        ftype,
+        mode: v.mode,
+        nlink: v.nlink,
+        uid: v.uid,
+        gid: v.gid,
+    };
+    let sizes = Sizes {
+        size: v.size,
+        used: v.used,
+        rdev,
+        fsid: v.fsid,
+        fileid: v.fileid,
+    };
+    let times = Times {
+        atime,
+        mtime,
+        ctime,
+    };
+    put_ids(ids, &mut out[0..]);
+    put_sizes(sizes, &mut out[20..]);
+    put_times(times, &mut out[60..]);
+}
+
+pub fn put_wcc_attr(v: wcc_attr, out: &mut [u8])
+    ensures { λ _. ⌜ now (out .exit) ≡ laid (wcc-attr .kind .write v) (now (out .entry)) ⌝ }
+{
+    if out.len() < wcc_attr::SIZE {
+        return;
+    }
+    let mtime = v.mtime;
+    let ctime = v.ctime;
+    put_u64(v.size, &mut out[0..]);
+    put_nfstime3(mtime, &mut out[8..]);
+    put_nfstime3(ctime, &mut out[16..]);
+}
+
+pub fn put_pre_op_attr(v: pre_op_attr, out: &mut [u8])
+    ensures { λ _. ⌜ now (out .exit) ≡ laid (pre-op-attr .kind .write v) (now (out .entry)) ⌝ }
+{
+    match v {
+        pre_op_attr::Void => put_bool(false, out),
+        pre_op_attr::attributes(x) => {
+            if out.len() < 4 + wcc_attr::SIZE {
+                return;
+            }
+            put_bool(true, &mut out[0..]);
+            put_wcc_attr(x, &mut out[4..]);
+        }
+    }
+}
+
+pub fn pre_op_attr_size(v: pre_op_attr) -> usize
+    ensures { λ r. ⌜ r ≡ length (pre-op-attr .kind .write v) ⌝ }
+{
+    match v {
+        pre_op_attr::Void => 4,
+        pre_op_attr::attributes(_) => 4 + wcc_attr::SIZE,
+    }
+}
+
+pub fn put_post_op_attr(v: post_op_attr, out: &mut [u8])
+    ensures { λ _. ⌜ now (out .exit) ≡ laid (post-op-attr .kind .write v) (now (out .entry)) ⌝ }
+{
+    match v {
+        post_op_attr::Void => put_bool(false, out),
+        post_op_attr::attributes(x) => {
+            if out.len() < 4 + fattr3::SIZE {
+                return;
+            }
+            put_bool(true, &mut out[0..]);
+            put_fattr3(x, &mut out[4..]);
+        }
+    }
+}
+
+pub fn post_op_attr_size(v: post_op_attr) -> usize
+    ensures { λ r. ⌜ r ≡ length (post-op-attr .kind .write v) ⌝ }
+{
+    match v {
+        post_op_attr::Void => 4,
+        post_op_attr::attributes(_) => 4 + fattr3::SIZE,
+    }
+}
+
+pub fn put_wcc_data(v: wcc_data, out: &mut [u8])
+    ensures { λ _. ⌜ now (out .exit) ≡ laid (wcc-data .kind .write v) (now (out .entry)) ⌝ }
+{
+    let before = v.before;
+    let after = v.after;
+    let n = pre_op_attr_size(before);
+    if out.len() < n + post_op_attr_size(after) {
+        return;
+    }
+    put_pre_op_attr(before, &mut out[0..]);
+    put_post_op_attr(after, &mut out[n..]);
+}
+
+pub fn wcc_data_size(v: wcc_data) -> usize
+    ensures { λ r. ⌜ r ≡ length (wcc-data .kind .write v) ⌝ }
+{
+    let before = v.before;
+    let after = v.after;
+    pre_op_attr_size(before) + post_op_attr_size(after)
+}
+
+pub fn put_transfer(v: Transfer, out: &mut [u8])
+    ensures { λ _. ⌜ now (out .exit) ≡ laid (transfer .kind .write v) (now (out .entry)) ⌝ }
+{
+    if out.len() < Transfer::SIZE {
+        return;
+    }
+    put_u32(v.max, &mut out[0..]);
+    put_u32(v.pref, &mut out[4..]);
+    put_u32(v.mult, &mut out[8..]);
+}
+
+pub fn put_limits(v: Limits, out: &mut [u8])
+    ensures { λ _. ⌜ now (out .exit) ≡ laid (limits .kind .write v) (now (out .entry)) ⌝ }
+{
+    if out.len() < Limits::SIZE {
+        return;
+    }
+    let time_delta = v.time_delta;
+    put_u32(v.dtpref, &mut out[0..]);
+    put_u64(v.maxfilesize, &mut out[4..]);
+    put_nfstime3(time_delta, &mut out[12..]);
+    put_u32(v.properties, &mut out[20..]);
+}
+
+pub fn put_fsinfo3(v: fsinfo3, out: &mut [u8])
+    ensures { λ _. ⌜ now (out .exit) ≡ laid (fsinfo .kind .write v) (now (out .entry)) ⌝ }
+{
+    let attributes = v.obj_attributes;
+    let time_delta = v.time_delta;
+    let rt = Transfer {
+        max: v.rtmax,
+        pref: v.rtpref,
+        mult: v.rtmult,
+    };
+    let wt = Transfer {
+        max: v.wtmax,
+        pref: v.wtpref,
+        mult: v.wtmult,
+    };
+    let rest = Limits {
+        dtpref: v.dtpref,
+        maxfilesize: v.maxfilesize,
+        time_delta,
+        properties: v.properties,
+    };
+    let n1 = post_op_attr_size(attributes);
+    let n2 = n1 + Transfer::SIZE;
+    let n3 = n2 + Transfer::SIZE;
+    if out.len() < n3 + Limits::SIZE {
+        return;
+    }
+    put_post_op_attr(attributes, &mut out[0..]);
+    put_transfer(rt, &mut out[n1..]);
+    put_transfer(wt, &mut out[n2..]);
+    put_limits(rest, &mut out[n3..]);
+}
+
+pub fn fsinfo3_size(v: fsinfo3) -> usize
+    ensures { λ r. ⌜ r ≡ length (fsinfo .kind .write v) ⌝ }
+{
+    let attributes = v.obj_attributes;
+    post_op_attr_size(attributes) + Transfer::SIZE + Transfer::SIZE + Limits::SIZE
+}

@@ -1,0 +1,76 @@
+-- The promise, kind by kind: demands 2 and 3 of what is read and of the answers of the public reader, and that whatever the public writer
+-- wrote reads back as itself. The writer's contract says that what it wrote is in range, so this holds of every value of the code's type.
+-- Assumes nothing.
+use mathlib.Core.Path.{_≡_}
+use mathlib.Core.List.{List}
+use Prim.Native.Nat.{ℕ}
+use Rattle.xdr.specs.Meaning.Answer.{Written, done}
+use Rattle.xdr.specs.Meaning.Promise.{Promise}
+use Rattle.xdr.specs.Meaning.Format.{Format, exactly}
+use Rattle.xdr.specs.Meaning.Public.{Writes, Back, Kept}
+use Rattle.xdr.specs.Laws.Promise.{keeps}
+use Rattle.xdr.specs.Laws.Public.{kept}
+use Rattle.xdr.specs.Laws.Write.{wrote-back, one-writing}
+use Rattle.rpc.specs.Meaning.Closed.{msg-type, reply-stat, accept-stat, reject-stat, auth-flavor, auth-stat}
+use Rattle.rpc.specs.Meaning.Auth.{opaque-auth, auth-unix}
+use Rattle.rpc.specs.Meaning.Reply.{mismatch-info, accept-body, accepted-reply, rejected-reply, reply-body}
+use Rattle.rpc.specs.Meaning.Message.{call-body, rpc-body, rpc-msg}
+
+pub record Owed {M S : Type 0} (F : Format M S) : Type 0 where
+  pub promise : Promise (F .codec .kind)
+  pub answers : Kept F
+  pub back : (s : List ℕ) (x : S) (at : ℕ) (o : List ℕ) {n : ℕ} {o′ : List ℕ} → Writes F s x at o (done n) o′ → Back F s x at n o′
+  -- what the writer's contract permits is one answer and one buffer
+  pub one : (s : List ℕ) (x : S) (at : ℕ) (o : List ℕ) {v w : Written} {p q : List ℕ} → Writes F s x at o v p → Writes F s x at o w q
+      → (v ≡ w) × (p ≡ q)
+
+owed : {M S : Type 0} (F : Format M S) → Owed F
+owed F = record { promise = keeps (F .codec); answers = kept F; back = wrote-back F; one = one-writing F }
+
+pub msg-type-owed : Owed (exactly msg-type)
+msg-type-owed = owed (exactly msg-type)
+
+pub reply-stat-owed : Owed (exactly reply-stat)
+reply-stat-owed = owed (exactly reply-stat)
+
+pub accept-stat-owed : Owed (exactly accept-stat)
+accept-stat-owed = owed (exactly accept-stat)
+
+pub reject-stat-owed : Owed (exactly reject-stat)
+reject-stat-owed = owed (exactly reject-stat)
+
+pub auth-flavor-owed : Owed (exactly auth-flavor)
+auth-flavor-owed = owed (exactly auth-flavor)
+
+pub auth-stat-owed : Owed (exactly auth-stat)
+auth-stat-owed = owed (exactly auth-stat)
+
+pub opaque-auth-owed : Owed opaque-auth
+opaque-auth-owed = owed opaque-auth
+
+pub auth-unix-owed : Owed auth-unix
+auth-unix-owed = owed auth-unix
+
+pub mismatch-info-owed : Owed (exactly mismatch-info)
+mismatch-info-owed = owed (exactly mismatch-info)
+
+pub call-body-owed : Owed call-body
+call-body-owed = owed call-body
+
+pub accept-body-owed : Owed (exactly accept-body)
+accept-body-owed = owed (exactly accept-body)
+
+pub accepted-reply-owed : Owed accepted-reply
+accepted-reply-owed = owed accepted-reply
+
+pub rejected-reply-owed : Owed (exactly rejected-reply)
+rejected-reply-owed = owed (exactly rejected-reply)
+
+pub reply-body-owed : Owed reply-body
+reply-body-owed = owed reply-body
+
+pub rpc-body-owed : Owed rpc-body
+rpc-body-owed = owed rpc-body
+
+pub rpc-msg-owed : Owed rpc-msg
+rpc-msg-owed = owed rpc-msg
