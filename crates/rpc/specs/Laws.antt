@@ -7,6 +7,7 @@ pub mod Sizes
 pub mod UnixIn
 pub mod Tags
 pub mod Info
+pub mod Fields
 pub mod Placing
 pub mod Puts
 pub mod ClosedWrites

@@ -1,6 +1,5 @@
 -- How many bytes each fixed kind has.
 -- Assumes nothing.
-use Prim.Native.Nat.{ℕ}
 use Rattle.nfs.specs.Meaning.Stat.{nfsstat}
 use Rattle.nfs.specs.Meaning.Attr.{ftype, specdata, nfstime, ids, sizes, times, fattr, wcc-attr, transfer, limits}
 use Rattle.nfs.specs.Meaning.Set.{time-how}

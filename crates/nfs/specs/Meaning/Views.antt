@@ -1,9 +1,8 @@
 -- What the code's own types say, in the terms of `Meaning`: each answer as an `Answer`.
 -- Assumes nothing.
-use mathlib.Core.Bool.{Bool, true}
+use mathlib.Core.Bool.{true}
 use mathlib.Core.List.{[]}
-use Prim.Native.Nat.{ℕ}
-use Rattle.xdr.specs.Meaning.Answer.{Answer, took, refused}
+use Rattle.xdr.specs.Meaning.Answer.{Answer, took}
 use Rattle.xdr.specs.Meaning.Combinators.{Seen, means, undeclared}
 use Rattle.xdr.specs.Meaning.Views.{refusal}
 use Rattle.xdr.specs.declared.refusal.Refusal.{Refusal}

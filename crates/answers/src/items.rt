@@ -1,0 +1,229 @@
+// The lines about one message: `read`, `write`, `part` and `words`.
+use crate::buffer::fill;
+use crate::kinds::KindAt;
+use crate::kinds::kind_at;
+use crate::print;
+use crate::words::NumberAt;
+use crate::words::bytes_at;
+use crate::words::is_end;
+use crate::words::number_at;
+use door::Copied;
+use xdr::Piece;
+use xdr::Refusal;
+
+// A refusal: its number, and its place where it has one.
+pub(crate) fn refusal(out: &mut [u8], at: usize, r: Refusal) -> usize {
+    let n = print::say(out, at, b"refused");
+    match r {
+        Refusal::Ended(place) => {
+            let m = print::number(out, n, 1);
+            print::number(out, m, place)
+        }
+        Refusal::Undeclared(place) => {
+            let m = print::number(out, n, 2);
+            print::number(out, m, place)
+        }
+        _ => print::number(out, n, r.number() as usize),
+    }
+}
+
+// What was read, and what it is written as, which is at the front of the buffer.
+fn took(out: &mut [u8], at: usize, next: usize, plain: bool, rewriting: &[u8]) -> usize {
+    let n = print::say(out, at, b"took");
+    let m = print::number(out, n, next);
+    if plain {
+        let k = print::say(out, m, b" plain");
+        return print::hex(out, k, rewriting);
+    }
+    let k = print::say(out, m, b" loose");
+    print::hex(out, k, rewriting)
+}
+
+// read KIND AT HEX
+pub(crate) fn read(
+    line: &[u8],
+    start: usize,
+    message: &mut [u8],
+    room: &mut [u8],
+    out: &mut [u8],
+    at: usize,
+) -> usize {
+    let k = kind_at(line, start);
+    let KindAt::Is { kind, next: s } = k else {
+        return print::unknown(out, at);
+    };
+    let p = number_at(line, s);
+    let NumberAt::Is {
+        value: place,
+        next: s,
+    } = p
+    else {
+        return print::unknown(out, at);
+    };
+    let b = bytes_at(line, s, message);
+    if !b.good {
+        return print::unknown(out, at);
+    }
+    if !is_end(line, b.next) {
+        return print::unknown(out, at);
+    }
+    let n = b.count;
+    let c = door::copy_kind(kind, &message[0..n], place, room, 0);
+    match c {
+        Copied::Unknown => print::unknown(out, at),
+        Copied::Unread(r) => refusal(out, at, r),
+        Copied::Unwritten(r) => refusal(out, at, r),
+        Copied::Done { next, plain, end } => took(
+            out,
+            at,
+            next,
+            plain,
+            xdr::part(room, Piece { at: 0, count: end }),
+        ),
+    }
+}
+
+// What a writing left in a buffer.
+pub(crate) fn wrote(out: &mut [u8], at: usize, next: usize, buf: &[u8]) -> usize {
+    let n = print::say(out, at, b"wrote");
+    let m = print::number(out, n, next);
+    print::hex(out, m, buf)
+}
+
+// A refusal, and the buffer as it then is.
+pub(crate) fn refused(out: &mut [u8], at: usize, r: Refusal, buf: &[u8]) -> usize {
+    let n = refusal(out, at, r);
+    print::hex(out, n, buf)
+}
+
+fn write_into(
+    kind: u32,
+    message: &[u8],
+    place: usize,
+    buf: &mut [u8],
+    start: usize,
+    out: &mut [u8],
+    at: usize,
+) -> usize {
+    fill(buf);
+    let c = door::copy_kind(kind, message, place, buf, start);
+    match c {
+        Copied::Unknown => print::unknown(out, at),
+        Copied::Unread(r) => refusal(out, at, r),
+        Copied::Unwritten(r) => refused(out, at, r, buf),
+        Copied::Done {
+            next: _,
+            plain: _,
+            end,
+        } => wrote(out, at, end, buf),
+    }
+}
+
+// write KIND AT HEX ROOM START
+pub(crate) fn write(
+    line: &[u8],
+    start: usize,
+    message: &mut [u8],
+    room: &mut [u8],
+    out: &mut [u8],
+    at: usize,
+) -> usize {
+    let k = kind_at(line, start);
+    let KindAt::Is { kind, next: s } = k else {
+        return print::unknown(out, at);
+    };
+    let p = number_at(line, s);
+    let NumberAt::Is {
+        value: place,
+        next: s,
+    } = p
+    else {
+        return print::unknown(out, at);
+    };
+    let b = bytes_at(line, s, message);
+    if !b.good {
+        return print::unknown(out, at);
+    }
+    let l = number_at(line, b.next);
+    let NumberAt::Is {
+        value: length,
+        next: s,
+    } = l
+    else {
+        return print::unknown(out, at);
+    };
+    let f = number_at(line, s);
+    let NumberAt::Is {
+        value: from,
+        next: s,
+    } = f
+    else {
+        return print::unknown(out, at);
+    };
+    if !is_end(line, s) {
+        return print::unknown(out, at);
+    }
+    if room.len() < length {
+        return print::unknown(out, at);
+    }
+    let n = b.count;
+    write_into(
+        kind,
+        &message[0..n],
+        place,
+        &mut room[0..length],
+        from,
+        out,
+        at,
+    )
+}
+
+fn inside(out: &mut [u8], at: usize, is_inside: bool, bytes: &[u8]) -> usize {
+    if is_inside {
+        let n = print::say(out, at, b"inside");
+        return print::hex(out, n, bytes);
+    }
+    let n = print::say(out, at, b"outside");
+    print::hex(out, n, bytes)
+}
+
+// part HEX PLACE COUNT, and words HEX PLACE COUNT
+pub(crate) fn part(
+    line: &[u8],
+    start: usize,
+    are_words: bool,
+    message: &mut [u8],
+    out: &mut [u8],
+    at: usize,
+) -> usize {
+    let b = bytes_at(line, start, message);
+    if !b.good {
+        return print::unknown(out, at);
+    }
+    let p = number_at(line, b.next);
+    let NumberAt::Is {
+        value: place,
+        next: s,
+    } = p
+    else {
+        return print::unknown(out, at);
+    };
+    let c = number_at(line, s);
+    let NumberAt::Is {
+        value: count,
+        next: s,
+    } = c
+    else {
+        return print::unknown(out, at);
+    };
+    if !is_end(line, s) {
+        return print::unknown(out, at);
+    }
+    let n = b.count;
+    let src = &message[0..n];
+    let x = Piece { at: place, count };
+    if are_words {
+        return inside(out, at, xdr::words_inside(src, x), xdr::words_part(src, x));
+    }
+    inside(out, at, xdr::inside(src, x), xdr::part(src, x))
+}

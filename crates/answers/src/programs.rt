@@ -1,0 +1,121 @@
+// The line about the choice of program: `choose`.
+use crate::buffer::fill;
+use crate::items::refusal;
+use crate::print;
+use crate::words::MarkAt;
+use crate::words::NumberAt;
+use crate::words::bytes_at;
+use crate::words::is_end;
+use crate::words::mark_at;
+use crate::words::number_at;
+use rpc::auth::auth_unix;
+use rpcwire::Caller;
+use rpcwire::Choice;
+use xdr::Piece;
+
+fn piece(out: &mut [u8], at: usize, x: Piece) -> usize {
+    let n = print::number(out, at, x.at);
+    print::number(out, n, x.count)
+}
+
+fn unix(out: &mut [u8], at: usize, a: auth_unix) -> usize {
+    let name = a.machinename;
+    let gids = a.gids;
+    let n = print::number(out, at, a.stamp as usize);
+    let n = piece(out, n, name);
+    let n = print::number(out, n, a.uid as usize);
+    let n = print::number(out, n, a.gid as usize);
+    piece(out, n, gids)
+}
+
+fn caller_words(out: &mut [u8], at: usize, caller: Caller) -> usize {
+    match caller {
+        Caller::Unnamed => print::say(out, at, b" none"),
+        Caller::Unix(a) => {
+            let n = print::say(out, at, b" unix");
+            unix(out, n, a)
+        }
+    }
+}
+
+fn call_words(
+    out: &mut [u8],
+    at: usize,
+    prog: u32,
+    vers: u32,
+    proc: u32,
+    arguments: usize,
+) -> usize {
+    let n = print::say(out, at, b"handover");
+    let n = print::number(out, n, prog as usize);
+    let n = print::number(out, n, vers as usize);
+    let n = print::number(out, n, proc as usize);
+    print::number(out, n, arguments)
+}
+
+fn choice_words(out: &mut [u8], at: usize, c: Choice) -> usize {
+    match c {
+        Choice::Refused(r) => refusal(out, at, r),
+        Choice::Replied(length) => {
+            let n = print::say(out, at, b"reply");
+            print::number(out, n, length)
+        }
+        Choice::Silent => print::say(out, at, b"silence"),
+        Choice::HandOver {
+            prog,
+            vers,
+            proc,
+            caller,
+            arguments,
+        } => {
+            let n = call_words(out, at, prog, vers, proc, arguments);
+            caller_words(out, n, caller)
+        }
+    }
+}
+
+fn choose_into(seen: bool, message: &[u8], buf: &mut [u8], out: &mut [u8], at: usize) -> usize {
+    fill(buf);
+    let c = rpcwire::choose(message, seen, buf);
+    let n = choice_words(out, at, c);
+    print::hex(out, n, buf)
+}
+
+// choose SEEN ROOM HEX
+pub(crate) fn choose(
+    line: &[u8],
+    start: usize,
+    message: &mut [u8],
+    room: &mut [u8],
+    out: &mut [u8],
+    at: usize,
+) -> usize {
+    let w = mark_at(line, start);
+    let MarkAt::Is {
+        value: seen,
+        next: s,
+    } = w
+    else {
+        return print::unknown(out, at);
+    };
+    let w = number_at(line, s);
+    let NumberAt::Is {
+        value: length,
+        next: s,
+    } = w
+    else {
+        return print::unknown(out, at);
+    };
+    let b = bytes_at(line, s, message);
+    if !b.good {
+        return print::unknown(out, at);
+    }
+    if !is_end(line, b.next) {
+        return print::unknown(out, at);
+    }
+    if room.len() < length {
+        return print::unknown(out, at);
+    }
+    let n = b.count;
+    choose_into(seen, &message[0..n], &mut room[0..length], out, at)
+}

@@ -1,0 +1,38 @@
+-- Bytes in hex: two digits a byte, the high one first, and `-` for none.
+-- Assumes nothing.
+use mathlib.Core.Path.{_≡_}
+use mathlib.Core.List.{List, [], _∷_}
+use mathlib.Core.Bool.{true, false, cond}
+use mathlib.Core.Logic.{_⊎_}
+use Prim.Native.Nat.{ℕ, _+_, _-_, _*_, _≤_, _<_}
+use lib.Dec.{leb, ltb}
+use lib.ListN.{length, take}
+use Rattle.text.specs.declared.hex.Unhexed.{Unhexed}
+
+-- the ASCII character of a digit below 16: `0` to `9`, then `a` to `f`
+abbrev pub glyphOf : ℕ → ℕ
+glyphOf d = cond (ltb d 10) (d + 48) (d + 87)
+
+-- what a digit stands for, in either case; 16 for any other character
+unfoldable pub digitOf : ℕ → ℕ
+digitOf c =
+    cond (ltb c 48) 16
+    (cond (leb c 57) (c - 48)
+    (cond (ltb c 65) 16
+    (cond (leb c 70) (c - 65 + 10)
+    (cond (ltb c 97) 16
+    (cond (leb c 102) (c - 97 + 10) 16)))))
+
+pub data Spells : List ℕ → List ℕ → Type 0 where
+  none : Spells [] []
+  byte : {h l : ℕ} {word bytes : List ℕ} → digitOf h < 16 → digitOf l < 16 → Spells word bytes → Spells (h ∷ l ∷ word) ((digitOf h * 16 + digitOf l) ∷ bytes)
+
+-- a word that stands for bytes: `-` for none of them, and else their digits
+abbrev pub Hex : List ℕ → List ℕ → Type 0
+Hex word bytes = ((word ≡ 45 ∷ []) × (bytes ≡ [])) ⊎ ((0 < length word) × Spells word bytes)
+
+-- the contract of `unhex`: what it says of a word, and what the buffer then holds. No bytes are missed that fit the buffer
+pub record Unhexes (word : List ℕ) (r : Unhexed) (out : List ℕ) : Type 0 where
+  pub within : r .count ≤ length out
+  pub yes : r .good ≡ true → Hex word (take (r .count) out)
+  pub no : r .good ≡ false → (bytes : List ℕ) → length bytes ≤ length out → Hex word bytes → ⊥
