@@ -1,3 +1,5 @@
+pub mod EveryKind
+pub mod Idle
 pub mod Row
 pub mod Table
 pub mod Worked
