@@ -1,7 +1,10 @@
 //! A chosen list of lines: some of every kind and of every sort of line, each answer and each limit among them.
 use std::collections::HashSet;
+use std::io;
+use std::path::Path;
 
 use crate::answers::State;
+use crate::captured;
 use crate::cases::{append_call, append_message, cuts, damage, state, stream, Case, Room, Style};
 use crate::lines::hex;
 use crate::random::Random;
@@ -13,8 +16,8 @@ const SEED: u64 = 4506;
 /// Most messages of the list are short, so that a person can read them.
 const SHORT: usize = 160;
 
-/// All lines, none of them twice.
-pub fn lines() -> Vec<String> {
+/// All lines, none of them twice; those of the captures below a folder are the last.
+pub fn lines(captures: &Path) -> io::Result<Vec<String>> {
     let random = &mut Random::of(SEED, 0);
     let mut list: Vec<String> = WORKED.iter().chain(ODD_LINES).map(|line| String::from(*line)).collect();
     for kind in 0..KINDS.len() {
@@ -25,9 +28,11 @@ pub fn lines() -> Vec<String> {
     choices(random, &mut list);
     streams(random, &mut list);
     pieces(random, &mut list);
+    example(&mut list);
+    list.extend(captured::lines(captures)?);
     let mut met = HashSet::new();
     list.retain(|line| met.insert(line.clone()));
-    list
+    Ok(list)
 }
 
 /// The worked bytes of document 01, and what it names as traps.
@@ -240,5 +245,18 @@ fn pieces(random: &mut Random, list: &mut Vec<String>) {
                 list.push(format!("words {text} {place} {count}"));
             }
         }
+    }
+}
+
+/// The file "sillyprog" of RFC 4506, section 7, item by item: its name, its kind, the interpreter, the owner and the data.
+/// (RFC 5531 and RFC 1813 have no example in bytes.)
+const EXAMPLE: &str = "0000000973696c6c7970726f6700000000000002000000046c697370000000046a6f686e000000062871756974290000";
+
+fn example(list: &mut Vec<String>) {
+    for (name, at) in [("nfsstring", 0), ("u32", 16), ("i32", 16), ("nfsstring", 20), ("nfsstring", 28), ("opaque", 36)] {
+        list.push(format!("read {name} {at} {EXAMPLE}"));
+    }
+    for (place, count) in [(4, 9), (24, 4), (32, 4), (40, 6)] {
+        list.push(format!("part {EXAMPLE} {place} {count}"));
     }
 }

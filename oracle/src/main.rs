@@ -1,7 +1,9 @@
 //! The differential oracle: the proved library and nfsserve 0.11.0, asked the same and compared. See README.md.
 mod answers;
+mod captured;
 mod cases;
 mod compare;
+mod limits;
 mod lines;
 mod list;
 mod model;
@@ -14,6 +16,7 @@ mod tally;
 mod truth;
 
 use std::io::{BufWriter, Write};
+use std::path::Path;
 use std::process::ExitCode;
 
 fn main() -> ExitCode {
@@ -25,7 +28,14 @@ fn main() -> ExitCode {
             _ => usage(),
         },
         ["faults"] => print(model::Fault::ALL.iter().map(|(_, name)| String::from(*name))),
-        ["list"] => print(list::lines().into_iter()),
+        ["list", captures] => match list::lines(Path::new(captures)) {
+            Ok(lines) => print(lines.into_iter()),
+            Err(error) => {
+                eprintln!("oracle: the captures in {captures} cannot be read: {error}");
+                ExitCode::FAILURE
+            },
+        },
+        ["limits"] => print(limits::lines().into_iter()),
         ["answer"] => {
             let mut truth = truth::Truth::new();
             let lines = std::io::stdin().lines().map_while(Result::ok);
@@ -48,7 +58,8 @@ fn usage() -> ExitCode {
     eprintln!(
         "oracle compare COUNT SEED    compare that many cases\n\
          oracle faults                print the names of the faults that can be planted in the model\n\
-         oracle list                  print the chosen lines\n\
+         oracle list CAPTURES         print the chosen lines, those of the captures in that folder among them\n\
+         oracle limits                print what the program `limits` must print\n\
          oracle answer                answer the lines of standard input from the crate and the model"
     );
     ExitCode::from(2)

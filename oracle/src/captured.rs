@@ -1,0 +1,124 @@
+//! Lines from what clients and servers really sent. A capture is a folder of streams: `NAME-c2s.bin` is what the client of a
+//! connection sent and `NAME-s2c.bin` what its server did, fragment headers and all.
+use std::collections::HashMap;
+use std::fs;
+use std::io;
+use std::path::{Path, PathBuf};
+
+use crate::answers::{Choice, BOUND};
+use crate::cases::{Case, Room};
+use crate::shapes::kind;
+use crate::truth::Truth;
+
+/// What stands behind the `rpc_msg`, by program, version and procedure: the kinds of a call's arguments, and those of its
+/// results.
+type Body = ([u32; 3], &'static [&'static str], &'static [&'static str]);
+
+const BODIES: &[Body] = &[
+    // portmap: GETADDR
+    ([100_000, 4, 3], &["u32", "u32", "nfsstring", "nfsstring", "nfsstring"], &["nfsstring"]),
+    // nfs: NULL, GETATTR, LOOKUP, and a WRITE that is refused
+    ([100_003, 3, 0], &[], &[]),
+    ([100_003, 3, 1], &["nfs_fh3"], &["nfsstat3", "fattr3"]),
+    ([100_003, 3, 3], &["diropargs3"], &["nfsstat3", "nfs_fh3", "post_op_attr", "post_op_attr"]),
+    ([100_003, 3, 7], &["nfs_fh3", "u64", "u32", "u32", "opaque"], &["nfsstat3", "wcc_data"]),
+    // mount: NULL, and a DUMP of nothing
+    ([100_005, 3, 0], &[], &[]),
+    ([100_005, 3, 2], &[], &["bool"]),
+];
+
+/// The lines of all captures below a folder.
+pub fn lines(folder: &Path) -> io::Result<Vec<String>> {
+    let mut list = Vec::new();
+    for capture in sorted(folder)? {
+        for client in sorted(&capture)? {
+            let Some(name) = client.to_str().and_then(|path| path.strip_suffix("-c2s.bin")) else { continue };
+            connection(&fs::read(&client)?, &fs::read(format!("{name}-s2c.bin"))?, &mut list);
+        }
+    }
+    Ok(list)
+}
+
+fn sorted(folder: &Path) -> io::Result<Vec<PathBuf>> {
+    let mut paths = fs::read_dir(folder)?.map(|entry| Ok(entry?.path())).collect::<io::Result<Vec<PathBuf>>>()?;
+    paths.sort();
+    Ok(paths)
+}
+
+/// Both streams of one connection. What a reply answers is known by the call of the same `xid`.
+fn connection(sent: &[u8], answered: &[u8], list: &mut Vec<String>) {
+    let mut truth = Truth::new();
+    let mut calls = HashMap::new();
+    for call in stream(&truth, sent, list) {
+        let arguments = judged(&mut truth, &call, list);
+        for (seen, room) in [(false, 24), (true, 24), (false, 0)] {
+            list.push(Case::Choose { seen, room, message: call.clone() }.line());
+        }
+        if let Choice::HandOver { program, version, procedure, .. } = truth.choose(&call, false, &mut [0; 24]) {
+            if let Some(body) = BODIES.iter().find(|body| body.0 == [program, version, procedure]) {
+                all_of(&mut truth, &call, arguments, body.1, list);
+                calls.insert(call[..4].to_vec(), body);
+            }
+        }
+    }
+    for reply in stream(&truth, answered, list) {
+        let results = judged(&mut truth, &reply, list);
+        list.push(Case::Choose { seen: false, room: 24, message: reply.clone() }.line());
+        if let Some(body) = calls.get(&reply[..4]) {
+            all_of(&mut truth, &reply, results, body.2, list);
+        }
+    }
+}
+
+/// A stream fed whole, in runs of several lengths, byte by byte, and into a buffer that is one byte too short. Gives its
+/// records: the crate's.
+fn stream(truth: &Truth, bytes: &[u8], list: &mut Vec<String>) -> Vec<Vec<u8>> {
+    let (records, too_long) = truth.records(bytes, BOUND);
+    assert_eq!(too_long, None, "a captured record is not too long");
+    let records: Vec<Vec<u8>> = records.complete.into_iter().map(|(record, _)| record).collect();
+    let longest = records.iter().map(Vec::len).max().expect("a captured stream has a record");
+    for lengths in [&[bytes.len()][..], &[1], &[3], &[5, 1, 64, 2, 7], &[97, 4, 1]] {
+        list.push(Case::Feed { capacity: longest, runs: runs(bytes, lengths) }.line());
+    }
+    list.push(Case::Feed { capacity: longest - 1, runs: vec![bytes.to_vec()] }.line());
+    records
+}
+
+/// The bytes cut into runs of these lengths, in turn.
+fn runs(mut bytes: &[u8], lengths: &[usize]) -> Vec<Vec<u8>> {
+    let mut runs = Vec::new();
+    for length in lengths.iter().cycle() {
+        if bytes.is_empty() {
+            break;
+        }
+        let (run, rest) = bytes.split_at(bytes.len().min(*length));
+        runs.push(run.to_vec());
+        bytes = rest;
+    }
+    runs
+}
+
+/// A record, read as an `rpc_msg` and written as a fragment again. Gives the place behind the `rpc_msg`.
+fn judged(truth: &mut Truth, record: &[u8], list: &mut Vec<String>) -> usize {
+    let next = read(truth, record, 0, "rpc_msg", list);
+    list.push(Case::Fragment { message: record.to_vec(), room: record.len() + 4, start: 0 }.line());
+    next
+}
+
+/// These kinds, one after another; they are the rest of the record.
+fn all_of(truth: &mut Truth, record: &[u8], place: usize, kinds: &[&str], list: &mut Vec<String>) {
+    let mut at = place;
+    for name in kinds {
+        at = read(truth, record, at, name, list);
+    }
+    assert_eq!(at, record.len(), "nothing stands behind what a captured call or reply says");
+}
+
+/// One kind at a place; real peers send the published form. Gives the next place.
+fn read(truth: &mut Truth, record: &[u8], at: usize, name: &str, list: &mut Vec<String>) -> usize {
+    let kind = kind(name).expect("the kind is known");
+    let took = truth.read(kind, record, at).expect("what was captured is taken");
+    assert!(took.plain, "what was captured is in published form");
+    list.push(Case::Read { kind, at, message: record.to_vec(), room: Room::Ample }.line());
+    took.next
+}
