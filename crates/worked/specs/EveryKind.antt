@@ -2,7 +2,6 @@
 -- 00000001 again and again, and takes another message from the word 00000002, or from zeros.
 -- Assumes nothing.
 use mathlib.Core.Path.{_≡_, refl, sym, ap, _∙_}
-use mathlib.Core.Logic.{_⊎_, inl, inr}
 use mathlib.Core.Bool.{Bool, true, false, _&&_}
 use mathlib.Core.List.{List, [], _∷_}
 use Prim.Native.Nat.{ℕ, zero, suc, _<_}
@@ -11,7 +10,7 @@ use lib.Dec.{leb, ltb, eqb}
 use lib.ListN.{length}
 use borrow.Author.Tests.{leb-true, ltb-true, eq-eqb}
 use Rattle.xdr.specs.Meaning.Bytes.{Bytes}
-use Rattle.xdr.specs.Meaning.Answer.{Answer, took, refused, most, opened}
+use Rattle.xdr.specs.Meaning.Answer.{Answer, took, refused, Taken, most, opened}
 use Rattle.xdr.specs.Meaning.Items.{number, word, hyper, flag, int, long, eight, opaque, words}
 use Rattle.xdr.specs.Meaning.Format.{Format, Branch}
 use Rattle.xdr.specs.Meaning.Formats.{eightHeld, pieceHeld, wordsHeld}
@@ -27,7 +26,7 @@ use Rattle.nfs.specs.Meaning.Attr.{ftype, specdata, nfstime, ids, sizes, times,
 use Rattle.nfs.specs.Meaning.Set.{time-how, set-mode, set-uid, set-gid, set-size, set-time, set-atime, set-mtime, sattr}
 use Rattle.nfs.specs.Meaning.Dir.{nfs-fh, post-op-fh, diropargs, symlinkdata}
 use Rattle.door.specs.Meaning.Kinds.{kinds}
-use Rattle.worked.specs.Idle.{Sample}
+use Rattle.worked.specs.Idle.{Sample, Reads, Refuses, refuses-all, one-for-all}
 
 -- a word below 256, n times
 abbrev again : ℕ → ℕ → List ℕ
@@ -113,3 +112,24 @@ pub every-kind : Each kinds
 unfolding opened number word hyper flag int long eight opaque words eightHeld pieceHeld wordsHeld partOf wordsPartOf msg-type reply-stat accept-stat reject-stat auth-stat auth-flavor auth-unix opaque-auth rpc-msg rpc-body call-body reply-body accepted-reply accept-body rejected-reply mismatch-info nfsstat ftype specdata nfstime ids sizes times fattr transfer limits fsinfo wcc-attr pre-op-attr post-op-attr wcc-data time-how set-mode set-uid set-gid set-size set-time set-atime set-mtime sattr nfs-fh post-op-fh diropargs symlinkdata
 every-kind =
     (by-zero _ refl refl refl, (by-two _ refl refl refl, (by-two _ refl refl refl, (by-two _ refl refl refl, (by-two _ refl refl refl, (by-two _ refl refl refl, (by-two _ refl refl refl, (by-two _ refl refl refl, (by-two _ refl refl refl, (by-zero _ refl refl refl, (by-zero _ refl refl refl, (by-two _ refl refl refl, (by-zero _ refl refl refl, (by-two _ refl refl refl, (by-two _ refl refl refl, (by-two _ refl refl refl, (by-two _ refl refl refl, (by-two _ refl refl refl, (by-two _ refl refl refl, (by-two _ refl refl refl, (by-two _ refl refl refl, (by-two _ refl refl refl, (by-two _ refl refl refl, (by-two _ refl refl refl, (by-two _ refl refl refl, (by-two _ refl refl refl, (by-two _ refl refl refl, (by-two _ refl refl refl, (by-two _ refl refl refl, (by-two _ refl refl refl, (by-two _ refl refl refl, (by-two _ refl refl refl, (by-two _ refl refl refl, (by-two _ refl refl refl, (by-two _ refl refl refl, (by-two _ refl refl refl, (by-two _ refl refl refl, (by-two _ refl refl refl, (by-two _ refl refl refl, (by-two _ refl refl refl, (by-two _ refl refl refl, (by-two _ refl refl refl, (by-two _ refl refl refl, (by-two _ refl refl refl, (by-two _ refl refl refl, (by-two _ refl refl refl, (by-two _ refl refl refl, tt)))))))))))))))))))))))))))))))))))))))))))))))
+
+-- So no function that keeps the contract of a reader of one of them refuses all, or gives one message for all.
+abbrev pub Useful : {M S : Type 0} → Format M S → Type 0
+Useful {M} {S} F =
+    (f : List ℕ → ℕ → Answer S) → Reads F f
+    → (((s : List ℕ) (p : ℕ) → Bytes s → Refuses F (f s p)) → ⊥)
+    × ((c : M) → ((s : List ℕ) (p : ℕ) → Bytes s → Taken (λ x. F .held .mean s x ≡ c) (f s p)) → ⊥)
+
+useful : {M S : Type 0} (F : Format M S) → Different F → Useful F
+useful F d f k = (refuses-all F f k (d .0), one-for-all F f k (d .0) (d .1) (d .2))
+
+abbrev pub EachUseful : List Branch → Type 0
+EachUseful [] = Unit {0}
+EachUseful (b ∷ l) = Useful (b .format) × EachUseful l
+
+each : (l : List Branch) → Each l → EachUseful l
+each [] h = tt
+each (b ∷ l) h = (useful (b .format) (h .0), each l (h .1))
+
+pub every-reader : EachUseful kinds
+every-reader = each kinds every-kind

@@ -1,7 +1,7 @@
 -- The numbers of a public reading's refusals: 1, 2, 3 and 9, of each of the door's 47 kinds. The combinators refuse with 1 and 2 alone, and
 -- `opened` adds 3 and 9.
 -- Assumes nothing.
-use mathlib.Core.Path.{_≡_, refl, sym, ap, subst, _∙_}
+use mathlib.Core.Path.{_≡_, refl, sym, subst}
 use mathlib.Core.Logic.{_⊎_, inl, inr}
 use mathlib.Core.Bool.{Bool, true, false, cond}
 use mathlib.Core.List.{List, [], _∷_}
