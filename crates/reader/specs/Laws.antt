@@ -1,0 +1,3 @@
+-- What follows: steps in order are one reading, and facts that callers cite.
+pub mod Step
+pub mod Call
