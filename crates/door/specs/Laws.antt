@@ -1,2 +1,5 @@
 pub mod Copy
 pub mod Exports
+pub mod Values
+pub mod Given
+pub mod One

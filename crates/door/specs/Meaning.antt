@@ -1,3 +1,5 @@
 pub mod Copy
 pub mod Kinds
 pub mod Exports
+pub mod Values
+pub mod Given

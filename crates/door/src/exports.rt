@@ -246,7 +246,7 @@ pub extern "C" fn yugerzat_choose(
     tell_chosen(c, info)
 }
 
-fn bit(b: bool) -> u64
+pub(crate) fn bit(b: bool) -> u64
     ensures { λ r. ⌜ r ≡ cond b 1 0 ⌝ }
 {
     if b { 1 } else { 0 }
@@ -268,7 +268,7 @@ fn put_state(s: Assembler, list: &mut [u64])
     list[6] = stopped;
 }
 
-fn put_two(a: u64, b: u64, info: &mut [u64])
+pub(crate) fn put_two(a: u64, b: u64, info: &mut [u64])
     requires { ⌜ 2 ≤ length (now info) ⌝ }
     ensures { λ _. ⌜ now (info .exit) ≡ sets (now (info .entry)) 0 (a ∷ b ∷ []) ⌝ }
 {

@@ -5,6 +5,8 @@ mod files;
 mod items;
 mod kinds;
 mod messages;
+pub mod values_read;
+pub mod values_write;
 
 pub use copy::Copied;
 pub use kinds::copy_kind;

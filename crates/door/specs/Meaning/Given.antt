@@ -1,0 +1,187 @@
+-- What the exported writers of single values take and answer. The figures are those that the readers give, and they are a value where each
+-- fits its field.
+-- Assumes nothing.
+use mathlib.Core.Path.{_≡_}
+use mathlib.Core.Bool.{Bool, true, cond, _&&_, _||_}
+use mathlib.Core.List.{List, [], _∷_}
+use mathlib.Core.Option.{Option, none, some}
+use mathlib.Core.Logic.{_⊎_}
+use Prim.Native.Nat.{ℕ, _≤_, _<_}
+use lib.Dec.{ltb, eqb}
+use lib.ListN.{length, getD}
+use lib.Seq.{sets}
+use Rattle.xdr.specs.Meaning.Answer.{Written}
+use Rattle.xdr.specs.Meaning.Combinators.{Seen, means, undeclared, among}
+use Rattle.xdr.specs.Meaning.Format.{exactly}
+use Rattle.xdr.specs.Meaning.Public.{Writes}
+use Rattle.xdr.specs.declared.piece.Piece.{Piece}
+use Rattle.nfs.specs.Meaning.Attr.{ftypeNumber, ftypes, fattr}
+use Rattle.nfs.specs.Meaning.Set.{SetTime, dont-change, server-time, client-time, modeTo, uidTo, gidTo, sizeTo, atimeTo, mtimeTo, sattr}
+use Rattle.nfs.specs.Meaning.Dir.{diropargs}
+use Rattle.nfs.specs.declared.attr.ftype3.{ftype3}
+use Rattle.nfs.specs.declared.attr.fattr3.{fattr3}
+use Rattle.nfs.specs.declared.set.sattr3.{sattr3}
+use Rattle.nfs.specs.declared.dir.diropargs3.{diropargs3}
+use Rattle.rpc.specs.Meaning.Closed.{flavorNumber, flavors}
+use Rattle.rpc.specs.Meaning.Message.{rpc-msg}
+use Rattle.rpc.specs.declared.auth.auth_flavor.{«auth_flavor»}
+use Rattle.rpc.specs.declared.message.rpc_body.the-variants.{CALL}
+use Rattle.rpc.specs.declared.message.rpc_msg.{«rpc_msg»}
+use Rattle.door.specs.Meaning.Exports.{wroteCode, wroteFigure}
+use Rattle.door.specs.declared.values_write.GivenFattr3.{GivenFattr3}
+use Rattle.door.specs.declared.values_write.GivenFattr3.the-variants as fattr3·
+use Rattle.door.specs.declared.values_write.GivenCall.{GivenCall}
+use Rattle.door.specs.declared.values_write.GivenCall.the-variants as call·
+use Rattle.door.specs.declared.values_write.FlavorFound.{FlavorFound}
+use Rattle.door.specs.declared.values_write.FlavorFound.the-variants as flavor·
+
+-- a value's writing told, where `Wrote x w o′` is that writing x answers w and leaves o′: as a fragment's is
+module _ {S : Type 0} (Wrote : S → Written → List ℕ → Type 0) where
+  pub record WrittenTold (x : S) (i : List ℕ) (r : ℕ) (o′ i′ : List ℕ) : Type 0 where
+    pub answer : Written
+    pub writes : Wrote x answer o′
+    pub number : r ≡ wroteCode answer
+    pub list : i′ ≡ sets i 0 (wroteFigure answer ∷ [])
+
+  -- 253 where a number does not fit
+  abbrev pub GivenTold : Option S → (o i : List ℕ) (r : ℕ) (o′ i′ : List ℕ) → Type 0
+  GivenTold none o i r o′ i′ = (r ≡ 253) × (o′ ≡ o) × (i′ ≡ i)
+  GivenTold (some x) o i r o′ i′ = WrittenTold x i r o′ i′
+
+  -- and 254 where a list is too short
+  pub record WriteCalled (k : ℕ) (given : List ℕ → Option S) (l o i : List ℕ) (r : ℕ) (o′ i′ : List ℕ) : Type 0 where
+    pub room : k ≤ length l → 1 ≤ length i → GivenTold (given l) o i r o′ i′
+    pub short : (length l < k) ⊎ (length i < 1) → (r ≡ 254) × (o′ ≡ o) × (i′ ≡ i)
+
+-- the numbers at some places of a list are words
+abbrev pub isWord : ℕ → Bool
+isWord n = ltb n 4294967296
+
+abbrev pub areWords : List ℕ → List ℕ → Bool
+areWords [] l = true
+areWords (p ∷ ps) l = isWord (getD l p 0) && areWords ps l
+
+-- a declared number, or none
+abbrev pub seenOr : {A B : Type 0} → (A → Option B) → Seen A → Option B
+seenOr f (means a w) = f a
+seenOr f undeclared = none
+
+-- `yugerzat_write_fattr3`
+abbrev pub fattr3Words : List ℕ
+fattr3Words = 0 ∷ 1 ∷ 2 ∷ 3 ∷ 4 ∷ 7 ∷ 8 ∷ 11 ∷ 12 ∷ 13 ∷ 14 ∷ 15 ∷ 16 ∷ []
+
+abbrev pub fattr3Of : List ℕ → ftype3 → fattr3
+fattr3Of l t =
+    record {
+      ftype = t;
+      mode = getD l 1 0;
+      nlink = getD l 2 0;
+      uid = getD l 3 0;
+      gid = getD l 4 0;
+      size = getD l 5 0;
+      used = getD l 6 0;
+      rdev = record { specdata1 = getD l 7 0; specdata2 = getD l 8 0 };
+      fsid = getD l 9 0;
+      fileid = getD l 10 0;
+      atime = record { seconds = getD l 11 0; nseconds = getD l 12 0 };
+      mtime = record { seconds = getD l 13 0; nseconds = getD l 14 0 };
+      ctime = record { seconds = getD l 15 0; nseconds = getD l 16 0 };
+    }
+
+abbrev pub fattr3Given : List ℕ → Option fattr3
+fattr3Given l =
+    cond (areWords fattr3Words l) (seenOr (λ t. some (fattr3Of l t)) (among ftypeNumber ftypes (getD l 0 0))) none
+
+abbrev pub viewGivenFattr3 : GivenFattr3 → Option fattr3
+viewGivenFattr3 fattr3·.Wide = none
+viewGivenFattr3 (fattr3·.Is v) = some v
+
+abbrev pub WriteFattr3Called : (l o : List ℕ) (start : ℕ) (i : List ℕ) (r : ℕ) (o′ i′ : List ℕ) → Type 0
+WriteFattr3Called l o start i r o′ i′ =
+    WriteCalled (λ x w o′. Writes (exactly fattr) [] x start o w o′) 17 fattr3Given l o i r o′ i′
+
+-- `yugerzat_write_diropargs3`: every number is a place or a count
+abbrev pub pieceOf : List ℕ → ℕ → ℕ → Piece
+pieceOf l p n = record { at = getD l p 0; count = getD l n 0 }
+
+abbrev pub diropargs3Given : List ℕ → Option diropargs3
+diropargs3Given l = some (record { dir = record { «data» = pieceOf l 0 1 }; name = pieceOf l 2 3 })
+
+abbrev pub WriteDiropargs3Called : (s l o : List ℕ) (start : ℕ) (i : List ℕ) (r : ℕ) (o′ i′ : List ℕ) → Type 0
+WriteDiropargs3Called s l o start i r o′ i′ =
+    WriteCalled (λ x w o′. Writes diropargs s x start o w o′) 4 diropargs3Given l o i r o′ i′
+
+-- `yugerzat_write_sattr3`: what stands behind a flag of 0 is nothing, whatever it is; so is what stands behind a tag of 0 or 1
+abbrev pub optionFits : ℕ → ℕ → Bool
+optionFits flag v = eqb flag 0 || isWord v
+
+abbrev pub timeFits : ℕ → ℕ → ℕ → Bool
+timeFits tag s n = ltb tag 2 || (eqb tag 2 && (isWord s && isWord n))
+
+abbrev pub sattr3Fits : List ℕ → Bool
+sattr3Fits l =
+    optionFits (getD l 0 0) (getD l 1 0) && optionFits (getD l 2 0) (getD l 3 0) && optionFits (getD l 4 0) (getD l 5 0)
+    && timeFits (getD l 8 0) (getD l 9 0) (getD l 10 0) && timeFits (getD l 11 0) (getD l 12 0) (getD l 13 0)
+
+abbrev pub optionOf : ℕ → ℕ → Option ℕ
+optionOf flag v = cond (eqb flag 0) none (some v)
+
+abbrev pub timeOf : ℕ → ℕ → ℕ → SetTime
+timeOf tag s n =
+    cond (eqb tag 0) dont-change (cond (eqb tag 1) server-time (client-time (record { seconds = s; nseconds = n })))
+
+abbrev pub sattr3Of : List ℕ → sattr3
+sattr3Of l =
+    record {
+      mode = modeTo (optionOf (getD l 0 0) (getD l 1 0));
+      uid = uidTo (optionOf (getD l 2 0) (getD l 3 0));
+      gid = gidTo (optionOf (getD l 4 0) (getD l 5 0));
+      size = sizeTo (optionOf (getD l 6 0) (getD l 7 0));
+      atime = atimeTo (timeOf (getD l 8 0) (getD l 9 0) (getD l 10 0));
+      mtime = mtimeTo (timeOf (getD l 11 0) (getD l 12 0) (getD l 13 0));
+    }
+
+abbrev pub sattr3Given : List ℕ → Option sattr3
+sattr3Given l = cond (sattr3Fits l) (some (sattr3Of l)) none
+
+abbrev pub WriteSattr3Called : (l o : List ℕ) (start : ℕ) (i : List ℕ) (r : ℕ) (o′ i′ : List ℕ) → Type 0
+WriteSattr3Called l o start i r o′ i′ =
+    WriteCalled (λ x w o′. Writes (exactly sattr) [] x start o w o′) 14 sattr3Given l o i r o′ i′
+
+-- `yugerzat_write_call`
+abbrev pub foundFlavor : FlavorFound → Seen «auth_flavor»
+foundFlavor flavor·.None = undeclared
+foundFlavor (flavor·.Is a) = means a []
+
+abbrev pub callWords : List ℕ
+callWords = 0 ∷ 1 ∷ 2 ∷ 3 ∷ 4 ∷ []
+
+abbrev pub callOf : List ℕ → «auth_flavor» → «auth_flavor» → «rpc_msg»
+callOf l a b =
+    record {
+      xid = getD l 0 0;
+      body =
+          CALL
+          (record {
+            rpcvers = getD l 1 0;
+            prog = getD l 2 0;
+            vers = getD l 3 0;
+            proc = getD l 4 0;
+            cred = record { flavor = a; body = pieceOf l 6 7 };
+            verf = record { flavor = b; body = pieceOf l 9 10 };
+          });
+    }
+
+abbrev pub callGiven : List ℕ → Option «rpc_msg»
+callGiven l =
+    cond (areWords callWords l)
+    (seenOr (λ a. seenOr (λ b. some (callOf l a b)) (among flavorNumber flavors (getD l 8 0))) (among flavorNumber flavors (getD l 5 0)))
+    none
+
+abbrev pub viewGivenCall : GivenCall → Option «rpc_msg»
+viewGivenCall call·.Wide = none
+viewGivenCall (call·.Is m) = some m
+
+abbrev pub WriteCallCalled : (s l o : List ℕ) (start : ℕ) (i : List ℕ) (r : ℕ) (o′ i′ : List ℕ) → Type 0
+WriteCallCalled s l o start i r o′ i′ =
+    WriteCalled (λ x w o′. Writes rpc-msg s x start o w o′) 11 callGiven l o i r o′ i′

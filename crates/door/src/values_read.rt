@@ -1,0 +1,591 @@
+// The exported readers of single values. Each takes a list for its figures: 254 where it is too short, and then nothing is touched. 0: the
+// list holds the place after the value, 1 if it was in published form and else 0, and the value's figures. A refusal: its place and zeros.
+ghost use mathlib.Core.Path.{_≡_};
+ghost use mathlib.Core.Bool.{cond};
+ghost use mathlib.Core.List.{[], _∷_};
+ghost use Prim.Native.Nat.{_+_, _≤_};
+ghost use lib.ListN.{length, replicate};
+ghost use lib.Seq.{sets};
+ghost use Rattle.xdr.specs.Meaning.Views.{numberOf, placeOf};
+ghost use Rattle.nfs.specs.Meaning.Set.{modeFrom, uidFrom, gidFrom, sizeFrom, atimeFrom, mtimeFrom};
+ghost use Rattle.rpc.specs.declared.message.rpc_body.the-variants.{CALL, REPLY};
+ghost use Rattle.rpc.specs.declared.reply.reply_body.the-variants.{«MSG_ACCEPTED», «MSG_DENIED»};
+ghost use Rattle.door.specs.Meaning.Values.{diropargs3Figures, Diropargs3Called, fattr3Figures, Fattr3Called, optionFigures, timeFigures, sattr3Figures, Sattr3Called, acceptFigures, bodyFigures, messageFigures, JudgeCalled, unixFigures, UnixCalled, PartCalled};
+use crate::exports::SHORT_LIST;
+use crate::exports::bit;
+use crate::exports::put_two;
+use nfs::Diropargs3Read;
+use nfs::Fattr3Read;
+use nfs::Sattr3Read;
+use nfs::diropargs3;
+use nfs::fattr3;
+use nfs::read_diropargs3;
+use nfs::read_fattr3;
+use nfs::read_sattr3;
+use nfs::sattr3;
+use nfs::set_atime;
+use nfs::set_gid3;
+use nfs::set_mode3;
+use nfs::set_mtime;
+use nfs::set_size3;
+use nfs::set_uid3;
+use rpc::AuthUnixRead;
+use rpc::RpcMsgRead;
+use rpc::accept_body;
+use rpc::accepted_reply;
+use rpc::auth_unix;
+use rpc::call_body;
+use rpc::read_auth_unix_in;
+use rpc::read_rpc_msg;
+use rpc::rejected_reply;
+use rpc::reply_body;
+use rpc::rpc_body;
+use rpc::rpc_msg;
+use xdr::Piece;
+use xdr::Refusal;
+use xdr::inside;
+
+// Whether a piece lies inside a message: 0 and the piece, or 4 and the empty piece at the start.
+#[no_mangle]
+pub extern "C" fn yugerzat_part(message: &[u8], at: usize, count: usize, info: &mut [u64]) -> u32
+    ensures { λ r. ⌜ PartCalled (now (message .entry)) (record { at = at; count = count }) (now (info .entry)) r (now (info .exit)) ⌝ }
+{
+    if info.len() < 2 {
+        return SHORT_LIST;
+    }
+    if inside(message, Piece { at, count }) {
+        put_two(at as u64, count as u64, info);
+        return 0;
+    }
+    put_two(0, 0, info);
+    4
+}
+
+// Zeros behind the first figure.
+fn put_zeros(count: usize, info: &mut [u64])
+    requires { ⌜ 1 + count ≤ length (now info) ⌝ }
+    ensures { λ _. ⌜ now (info .exit) ≡ sets (now (info .entry)) 1 (replicate count 0) ⌝ }
+{
+    let mut i = 0;
+    while i < count {
+        info[1 + i] = 0;
+        i += 1;
+    }
+}
+
+// A refusal's number; its place, and zeros for a value of `count` figures.
+fn tell_refused(r: Refusal, count: usize, info: &mut [u64]) -> u32
+    requires { ⌜ 2 + count ≤ length (now info) ⌝ }
+    ensures { λ n. ⌜ (n ≡ numberOf r) × (now (info .exit) ≡ sets (now (info .entry)) 0 (placeOf r ∷ 0 ∷ replicate count 0)) ⌝ }
+{
+    info[0] = r.place() as u64;
+    put_zeros(count + 1, info);
+    r.number()
+}
+
+fn put_diropargs3(v: diropargs3, next: usize, plain: bool, info: &mut [u64])
+    requires { ⌜ 6 ≤ length (now info) ⌝ }
+    ensures { λ _. ⌜ now (info .exit) ≡ sets (now (info .entry)) 0 (next ∷ cond plain 1 0 ∷ diropargs3Figures v) ⌝ }
+{
+    let dir = v.dir;
+    let data = dir.data;
+    let name = v.name;
+    let plain = bit(plain);
+    info[0] = next as u64;
+    info[1] = plain;
+    info[2] = data.at as u64;
+    info[3] = data.count as u64;
+    info[4] = name.at as u64;
+    info[5] = name.count as u64;
+}
+
+// The figures of a diropargs3: place and count of the handle, place and count of the name.
+#[no_mangle]
+pub extern "C" fn yugerzat_read_diropargs3(src: &[u8], at: usize, info: &mut [u64]) -> u32
+    ensures { λ r. ⌜ Diropargs3Called (now (src .entry)) at (now (info .entry)) r (now (info .exit)) ⌝ }
+{
+    if info.len() < 6 {
+        return SHORT_LIST;
+    }
+    let v = read_diropargs3(src, at);
+    match v {
+        Diropargs3Read::Refused(r) => tell_refused(r, 4, info),
+        Diropargs3Read::Took { value, next, plain } => {
+            put_diropargs3(value, next, plain, info);
+            0
+        }
+    }
+}
+
+fn put_fattr3(v: fattr3, next: usize, info: &mut [u64])
+    requires { ⌜ 19 ≤ length (now info) ⌝ }
+    ensures { λ _. ⌜ now (info .exit) ≡ sets (now (info .entry)) 0 (next ∷ 1 ∷ fattr3Figures v) ⌝ }
+{
+    let ftype = v.ftype;
+    let number = ftype.number();
+    let rdev = v.rdev;
+    let atime = v.atime;
+    let mtime = v.mtime;
+    let ctime = v.ctime;
+    info[0] = next as u64;
+    info[1] = 1;
+    info[2] = number as u64;
+    info[3] = v.mode as u64;
+    info[4] = v.nlink as u64;
+    info[5] = v.uid as u64;
+    info[6] = v.gid as u64;
+    info[7] = v.size;
+    info[8] = v.used;
+    info[9] = rdev.specdata1 as u64;
+    info[10] = rdev.specdata2 as u64;
+    info[11] = v.fsid;
+    info[12] = v.fileid;
+    info[13] = atime.seconds as u64;
+    info[14] = atime.nseconds as u64;
+    info[15] = mtime.seconds as u64;
+    info[16] = mtime.nseconds as u64;
+    info[17] = ctime.seconds as u64;
+    info[18] = ctime.nseconds as u64;
+}
+
+// The figures of a fattr3, which is always in published form: the number of its type, mode, nlink, uid, gid, size, used, the two numbers of
+// rdev, fsid, fileid, then seconds and nanoseconds of atime, mtime and ctime.
+#[no_mangle]
+pub extern "C" fn yugerzat_read_fattr3(src: &[u8], at: usize, info: &mut [u64]) -> u32
+    ensures { λ r. ⌜ Fattr3Called (now (src .entry)) at (now (info .entry)) r (now (info .exit)) ⌝ }
+{
+    if info.len() < 19 {
+        return SHORT_LIST;
+    }
+    let v = read_fattr3(src, at);
+    match v {
+        Fattr3Read::Refused(r) => tell_refused(r, 17, info),
+        Fattr3Read::Took { value, next } => {
+            put_fattr3(value, next, info);
+            0
+        }
+    }
+}
+
+fn put_fourteen(
+    a: u64,
+    b: u64,
+    c: u64,
+    d: u64,
+    e: u64,
+    f: u64,
+    g: u64,
+    h: u64,
+    i: u64,
+    j: u64,
+    k: u64,
+    l: u64,
+    m: u64,
+    n: u64,
+    info: &mut [u64],
+)
+    requires { ⌜ 14 ≤ length (now info) ⌝ }
+    ensures { λ _. ⌜ now (info .exit) ≡ sets (now (info .entry)) 0 (a ∷ b ∷ c ∷ d ∷ e ∷ f ∷ g ∷ h ∷ i ∷ j ∷ k ∷ l ∷ m ∷ n ∷ []) ⌝ }
+{
+    info[0] = a;
+    info[1] = b;
+    info[2] = c;
+    info[3] = d;
+    info[4] = e;
+    info[5] = f;
+    info[6] = g;
+    info[7] = h;
+    info[8] = i;
+    info[9] = j;
+    info[10] = k;
+    info[11] = l;
+    info[12] = m;
+    info[13] = n;
+}
+
+fn put_call(m: call_body, xid: u32, next: usize, plain: bool, info: &mut [u64])
+    requires { ⌜ 14 ≤ length (now info) ⌝ }
+    ensures { λ _. ⌜ now (info .exit) ≡ sets (now (info .entry)) 0 (next ∷ cond plain 1 0 ∷ xid ∷ bodyFigures (CALL m)) ⌝ }
+{
+    let cred = m.cred;
+    let verf = m.verf;
+    let cred_flavor = cred.flavor;
+    let verf_flavor = verf.flavor;
+    let cred_body = cred.body;
+    let verf_body = verf.body;
+    put_fourteen(
+        next as u64,
+        bit(plain),
+        xid as u64,
+        0,
+        m.rpcvers as u64,
+        m.prog as u64,
+        m.vers as u64,
+        m.proc as u64,
+        cred_flavor.number() as u64,
+        cred_body.at as u64,
+        cred_body.count as u64,
+        verf_flavor.number() as u64,
+        verf_body.at as u64,
+        verf_body.count as u64,
+        info,
+    );
+}
+
+// accept_stat's number, and the two versions of PROG_MISMATCH.
+fn accept_figures(b: accept_body) -> Three
+    ensures { λ r. ⌜ (r .first ∷ r .second ∷ r .third ∷ []) ≡ acceptFigures b ⌝ }
+{
+    match b {
+        accept_body::SUCCESS => Three {
+            first: 0,
+            second: 0,
+            third: 0,
+        },
+        accept_body::PROG_UNAVAIL => Three {
+            first: 1,
+            second: 0,
+            third: 0,
+        },
+        accept_body::PROG_MISMATCH(v) => Three {
+            first: 2,
+            second: v.low as u64,
+            third: v.high as u64,
+        },
+        accept_body::PROC_UNAVAIL => Three {
+            first: 3,
+            second: 0,
+            third: 0,
+        },
+        accept_body::GARBAGE_ARGS => Three {
+            first: 4,
+            second: 0,
+            third: 0,
+        },
+    }
+}
+
+fn put_reply(m: reply_body, xid: u32, next: usize, plain: bool, info: &mut [u64])
+    requires { ⌜ 14 ≤ length (now info) ⌝ }
+    ensures { λ _. ⌜ now (info .exit) ≡ sets (now (info .entry)) 0 (next ∷ cond plain 1 0 ∷ xid ∷ bodyFigures (REPLY m)) ⌝ }
+{
+    match m {
+        reply_body::MSG_ACCEPTED(a) => put_accepted(a, xid, next, plain, info),
+        reply_body::MSG_DENIED(d) => put_denied(d, xid, next, plain, info),
+    }
+}
+
+fn put_accepted(m: accepted_reply, xid: u32, next: usize, plain: bool, info: &mut [u64])
+    requires { ⌜ 14 ≤ length (now info) ⌝ }
+    ensures { λ _. ⌜ now (info .exit) ≡ sets (now (info .entry)) 0 (next ∷ cond plain 1 0 ∷ xid ∷ bodyFigures (REPLY («MSG_ACCEPTED» m))) ⌝ }
+{
+    let verf = m.verf;
+    let flavor = verf.flavor;
+    let body = verf.body;
+    let data = m.reply_data;
+    let told = accept_figures(data);
+    put_fourteen(
+        next as u64,
+        bit(plain),
+        xid as u64,
+        1,
+        flavor.number() as u64,
+        body.at as u64,
+        body.count as u64,
+        told.first,
+        told.second,
+        told.third,
+        0,
+        0,
+        0,
+        0,
+        info,
+    );
+}
+
+fn put_denied(m: rejected_reply, xid: u32, next: usize, plain: bool, info: &mut [u64])
+    requires { ⌜ 14 ≤ length (now info) ⌝ }
+    ensures { λ _. ⌜ now (info .exit) ≡ sets (now (info .entry)) 0 (next ∷ cond plain 1 0 ∷ xid ∷ bodyFigures (REPLY («MSG_DENIED» m))) ⌝ }
+{
+    let p = bit(plain);
+    match m {
+        rejected_reply::RPC_MISMATCH(v) => put_fourteen(
+            next as u64,
+            p,
+            xid as u64,
+            2,
+            v.low as u64,
+            v.high as u64,
+            0,
+            0,
+            0,
+            0,
+            0,
+            0,
+            0,
+            0,
+            info,
+        ),
+        rejected_reply::AUTH_ERROR(s) => put_fourteen(
+            next as u64,
+            p,
+            xid as u64,
+            3,
+            s.number() as u64,
+            0,
+            0,
+            0,
+            0,
+            0,
+            0,
+            0,
+            0,
+            0,
+            info,
+        ),
+    }
+}
+
+fn put_message(m: rpc_msg, next: usize, plain: bool, info: &mut [u64])
+    requires { ⌜ 14 ≤ length (now info) ⌝ }
+    ensures { λ _. ⌜ now (info .exit) ≡ sets (now (info .entry)) 0 (next ∷ cond plain 1 0 ∷ messageFigures m) ⌝ }
+{
+    let xid = m.xid;
+    let body = m.body;
+    match body {
+        rpc_body::CALL(c) => put_call(c, xid, next, plain, info),
+        rpc_body::REPLY(r) => put_reply(r, xid, next, plain, info),
+    }
+}
+
+// The figures of a message: xid, a tag and ten more, zeros where there are fewer. 0, a call: rpcvers, prog, vers, proc, then flavor, place and
+// count of the credential and of the verifier. 1, an accepted reply: the verifier's three, the number of its accept_stat and the two versions of
+// PROG_MISMATCH. 2, denied by the version: the two versions. 3, denied by authentication: the number of its auth_stat.
+#[no_mangle]
+pub extern "C" fn yugerzat_judge(message: &[u8], at: usize, info: &mut [u64]) -> u32
+    ensures { λ r. ⌜ JudgeCalled (now (message .entry)) at (now (info .entry)) r (now (info .exit)) ⌝ }
+{
+    if info.len() < 14 {
+        return SHORT_LIST;
+    }
+    let v = read_rpc_msg(message, at);
+    match v {
+        RpcMsgRead::Refused(r) => tell_refused(r, 12, info),
+        RpcMsgRead::Took { value, next, plain } => {
+            put_message(value, next, plain, info);
+            0
+        }
+    }
+}
+
+fn put_unix(v: auth_unix, next: usize, plain: bool, info: &mut [u64])
+    requires { ⌜ 9 ≤ length (now info) ⌝ }
+    ensures { λ _. ⌜ now (info .exit) ≡ sets (now (info .entry)) 0 (next ∷ cond plain 1 0 ∷ unixFigures v) ⌝ }
+{
+    let name = v.machinename;
+    let gids = v.gids;
+    let p = bit(plain);
+    info[0] = next as u64;
+    info[1] = p;
+    info[2] = v.stamp as u64;
+    info[3] = name.at as u64;
+    info[4] = name.count as u64;
+    info[5] = v.uid as u64;
+    info[6] = v.gid as u64;
+    info[7] = gids.at as u64;
+    info[8] = gids.count as u64;
+}
+
+// The figures of the auth_unix in a credential's body, which is given by place and count: stamp, place and count of the name, uid, gid, place
+// and count of the gids.
+#[no_mangle]
+pub extern "C" fn yugerzat_read_auth_unix(
+    message: &[u8],
+    at: usize,
+    count: usize,
+    info: &mut [u64],
+) -> u32
+    ensures { λ r. ⌜ UnixCalled (now (message .entry)) at count (now (info .entry)) r (now (info .exit)) ⌝ }
+{
+    if info.len() < 9 {
+        return SHORT_LIST;
+    }
+    let v = read_auth_unix_in(message, Piece { at, count });
+    match v {
+        AuthUnixRead::Refused(r) => tell_refused(r, 7, info),
+        AuthUnixRead::Took { value, next, plain } => {
+            put_unix(value, next, plain, info);
+            0
+        }
+    }
+}
+
+// Two and three figures that a part of a value has.
+struct Two {
+    first: u64,
+    second: u64,
+}
+
+struct Three {
+    first: u64,
+    second: u64,
+    third: u64,
+}
+
+fn mode_figures(m: set_mode3) -> Two
+    ensures { λ r. ⌜ (r .first ∷ r .second ∷ []) ≡ optionFigures (modeFrom m) ⌝ }
+{
+    match m {
+        set_mode3::Void => Two {
+            first: 0,
+            second: 0,
+        },
+        set_mode3::mode(v) => Two {
+            first: 1,
+            second: v as u64,
+        },
+    }
+}
+
+fn uid_figures(m: set_uid3) -> Two
+    ensures { λ r. ⌜ (r .first ∷ r .second ∷ []) ≡ optionFigures (uidFrom m) ⌝ }
+{
+    match m {
+        set_uid3::Void => Two {
+            first: 0,
+            second: 0,
+        },
+        set_uid3::uid(v) => Two {
+            first: 1,
+            second: v as u64,
+        },
+    }
+}
+
+fn gid_figures(m: set_gid3) -> Two
+    ensures { λ r. ⌜ (r .first ∷ r .second ∷ []) ≡ optionFigures (gidFrom m) ⌝ }
+{
+    match m {
+        set_gid3::Void => Two {
+            first: 0,
+            second: 0,
+        },
+        set_gid3::gid(v) => Two {
+            first: 1,
+            second: v as u64,
+        },
+    }
+}
+
+fn size_figures(m: set_size3) -> Two
+    ensures { λ r. ⌜ (r .first ∷ r .second ∷ []) ≡ optionFigures (sizeFrom m) ⌝ }
+{
+    match m {
+        set_size3::Void => Two {
+            first: 0,
+            second: 0,
+        },
+        set_size3::size(v) => Two {
+            first: 1,
+            second: v,
+        },
+    }
+}
+
+fn atime_figures(m: set_atime) -> Three
+    ensures { λ r. ⌜ (r .first ∷ r .second ∷ r .third ∷ []) ≡ timeFigures (atimeFrom m) ⌝ }
+{
+    match m {
+        set_atime::DONT_CHANGE => Three {
+            first: 0,
+            second: 0,
+            third: 0,
+        },
+        set_atime::SET_TO_SERVER_TIME => Three {
+            first: 1,
+            second: 0,
+            third: 0,
+        },
+        set_atime::SET_TO_CLIENT_TIME(t) => Three {
+            first: 2,
+            second: t.seconds as u64,
+            third: t.nseconds as u64,
+        },
+    }
+}
+
+fn mtime_figures(m: set_mtime) -> Three
+    ensures { λ r. ⌜ (r .first ∷ r .second ∷ r .third ∷ []) ≡ timeFigures (mtimeFrom m) ⌝ }
+{
+    match m {
+        set_mtime::DONT_CHANGE => Three {
+            first: 0,
+            second: 0,
+            third: 0,
+        },
+        set_mtime::SET_TO_SERVER_TIME => Three {
+            first: 1,
+            second: 0,
+            third: 0,
+        },
+        set_mtime::SET_TO_CLIENT_TIME(t) => Three {
+            first: 2,
+            second: t.seconds as u64,
+            third: t.nseconds as u64,
+        },
+    }
+}
+
+fn put_sattr3(v: sattr3, next: usize, plain: bool, info: &mut [u64])
+    requires { ⌜ 16 ≤ length (now info) ⌝ }
+    ensures { λ _. ⌜ now (info .exit) ≡ sets (now (info .entry)) 0 (next ∷ cond plain 1 0 ∷ sattr3Figures v) ⌝ }
+{
+    let mode = v.mode;
+    let uid = v.uid;
+    let gid = v.gid;
+    let size = v.size;
+    let atime = v.atime;
+    let mtime = v.mtime;
+    let p = bit(plain);
+    let mode = mode_figures(mode);
+    let uid = uid_figures(uid);
+    let gid = gid_figures(gid);
+    let size = size_figures(size);
+    let atime = atime_figures(atime);
+    let mtime = mtime_figures(mtime);
+    info[0] = next as u64;
+    info[1] = p;
+    info[2] = mode.first;
+    info[3] = mode.second;
+    info[4] = uid.first;
+    info[5] = uid.second;
+    info[6] = gid.first;
+    info[7] = gid.second;
+    info[8] = size.first;
+    info[9] = size.second;
+    info[10] = atime.first;
+    info[11] = atime.second;
+    info[12] = atime.third;
+    info[13] = mtime.first;
+    info[14] = mtime.second;
+    info[15] = mtime.third;
+}
+
+// The figures of a sattr3: for mode, uid, gid and size 1 and the number that is set, or zeros; for atime and mtime the tag, then seconds and
+// nanoseconds where the client sets them.
+#[no_mangle]
+pub extern "C" fn yugerzat_read_sattr3(src: &[u8], at: usize, info: &mut [u64]) -> u32
+    ensures { λ r. ⌜ Sattr3Called (now (src .entry)) at (now (info .entry)) r (now (info .exit)) ⌝ }
+{
+    if info.len() < 16 {
+        return SHORT_LIST;
+    }
+    let v = read_sattr3(src, at);
+    match v {
+        Sattr3Read::Refused(r) => tell_refused(r, 14, info),
+        Sattr3Read::Took { value, next, plain } => {
+            put_sattr3(value, next, plain, info);
+            0
+        }
+    }
+}

@@ -1,0 +1,420 @@
+// The exported writers of single values. Each takes the figures that the reader of its kind gives, without the first two, and writes from
+// place `start` of out. 0: info holds the place after the value. A refusal: 0. Where a list is too short the answer is 254, and where a
+// number does not fit its field 253; then nothing is touched.
+ghost use mathlib.Core.Path.{_≡_};
+ghost use mathlib.Core.Bool.{true};
+ghost use mathlib.Core.List.{[], _∷_};
+ghost use Prim.Native.Nat.{_≤_};
+ghost use lib.ListN.{length};
+ghost use lib.Seq.{sets};
+ghost use Rattle.xdr.specs.Meaning.Combinators.{among};
+ghost use Rattle.xdr.specs.Meaning.Views.{viewWrote};
+ghost use Rattle.nfs.specs.Meaning.Set.{modeTo, uidTo, gidTo, sizeTo, atimeTo, mtimeTo};
+ghost use Rattle.rpc.specs.Meaning.Closed.{flavorNumber, flavors};
+ghost use Rattle.door.specs.Meaning.Exports.{wroteCode, wroteFigure};
+ghost use Rattle.door.specs.Meaning.Given.{areWords, fattr3Words, fattr3Given, viewGivenFattr3, WriteFattr3Called, WriteDiropargs3Called, optionFits, timeFits, sattr3Fits, optionOf, timeOf, sattr3Of, WriteSattr3Called, foundFlavor, callWords, callGiven, viewGivenCall, WriteCallCalled};
+use crate::exports::SHORT_LIST;
+use nfs::attr::FtypeFound;
+use nfs::diropargs3;
+use nfs::fattr3;
+use nfs::ftype3;
+use nfs::nfs_fh3;
+use nfs::nfstime3;
+use nfs::sattr3;
+use nfs::set_atime;
+use nfs::set_gid3;
+use nfs::set_mode3;
+use nfs::set_mtime;
+use nfs::set_size3;
+use nfs::set_uid3;
+use nfs::specdata3;
+use nfs::write_diropargs3;
+use nfs::write_fattr3;
+use nfs::write_sattr3;
+use rpc::auth_flavor;
+use rpc::call_body;
+use rpc::opaque_auth;
+use rpc::rpc_body;
+use rpc::rpc_msg;
+use rpc::write_rpc_msg;
+use xdr::Piece;
+use xdr::Wrote;
+
+// A number of a list does not fit its field.
+pub const WIDE_NUMBER: u32 = 253;
+
+// The number of a writer's answer, and its figure.
+fn tell_wrote(w: Wrote, info: &mut [u64]) -> u32
+    requires { ⌜ 1 ≤ length (now info) ⌝ }
+    ensures { λ r. ⌜ (r ≡ wroteCode (viewWrote w)) × (now (info .exit) ≡ sets (now (info .entry)) 0 (wroteFigure (viewWrote w) ∷ [])) ⌝ }
+{
+    match w {
+        Wrote::Done(n) => {
+            info[0] = n as u64;
+            0
+        }
+        Wrote::Refused(r) => {
+            info[0] = 0;
+            r.number()
+        }
+    }
+}
+
+// What a list's numbers are: a fattr3, or not.
+pub enum GivenFattr3 {
+    Wide,
+    Is(fattr3),
+}
+
+fn fattr3_words(fields: &[u64]) -> bool
+    requires { ⌜ 17 ≤ length (now fields) ⌝ }
+    ensures { λ r. ⌜ r ≡ areWords fattr3Words (now (fields .entry)) ⌝ }
+{
+    (fields[0] < 4294967296)
+        & (fields[1] < 4294967296)
+        & (fields[2] < 4294967296)
+        & (fields[3] < 4294967296)
+        & (fields[4] < 4294967296)
+        & (fields[7] < 4294967296)
+        & (fields[8] < 4294967296)
+        & (fields[11] < 4294967296)
+        & (fields[12] < 4294967296)
+        & (fields[13] < 4294967296)
+        & (fields[14] < 4294967296)
+        & (fields[15] < 4294967296)
+        & (fields[16] < 4294967296)
+}
+
+fn given_fattr3(fields: &[u64]) -> GivenFattr3
+    requires { ⌜ 17 ≤ length (now fields) ⌝ }
+    ensures { λ r. ⌜ viewGivenFattr3 r ≡ fattr3Given (now (fields .entry)) ⌝ }
+{
+    if !fattr3_words(fields) {
+        return GivenFattr3::Wide;
+    }
+    let found = ftype3::of(fields[0] as u32);
+    let FtypeFound::Is(ftype) = found else {
+        return GivenFattr3::Wide;
+    };
+    GivenFattr3::Is(fattr3 {
+        ftype,
+        mode: fields[1] as u32,
+        nlink: fields[2] as u32,
+        uid: fields[3] as u32,
+        gid: fields[4] as u32,
+        size: fields[5],
+        used: fields[6],
+        rdev: specdata3 {
+            specdata1: fields[7] as u32,
+            specdata2: fields[8] as u32,
+        },
+        fsid: fields[9],
+        fileid: fields[10],
+        atime: nfstime3 {
+            seconds: fields[11] as u32,
+            nseconds: fields[12] as u32,
+        },
+        mtime: nfstime3 {
+            seconds: fields[13] as u32,
+            nseconds: fields[14] as u32,
+        },
+        ctime: nfstime3 {
+            seconds: fields[15] as u32,
+            nseconds: fields[16] as u32,
+        },
+    })
+}
+
+#[no_mangle]
+pub extern "C" fn yugerzat_write_fattr3(
+    fields: &[u64],
+    out: &mut [u8],
+    start: usize,
+    info: &mut [u64],
+) -> u32
+    ensures { λ r. ⌜ WriteFattr3Called (now (fields .entry)) (now (out .entry)) start (now (info .entry)) r (now (out .exit)) (now (info .exit)) ⌝ }
+{
+    if fields.len() < 17 {
+        return SHORT_LIST;
+    }
+    if info.len() < 1 {
+        return SHORT_LIST;
+    }
+    let given = given_fattr3(fields);
+    let GivenFattr3::Is(v) = given else {
+        return WIDE_NUMBER;
+    };
+    let w = write_fattr3(v, out, start);
+    tell_wrote(w, info)
+}
+
+// The pieces are of source.
+#[no_mangle]
+pub extern "C" fn yugerzat_write_diropargs3(
+    source: &[u8],
+    fields: &[u64],
+    out: &mut [u8],
+    start: usize,
+    info: &mut [u64],
+) -> u32
+    ensures { λ r. ⌜ WriteDiropargs3Called (now (source .entry)) (now (fields .entry)) (now (out .entry)) start (now (info .entry)) r (now (out .exit)) (now (info .exit)) ⌝ }
+{
+    if fields.len() < 4 {
+        return SHORT_LIST;
+    }
+    if info.len() < 1 {
+        return SHORT_LIST;
+    }
+    let v = diropargs3 {
+        dir: nfs_fh3 {
+            data: Piece {
+                at: fields[0] as usize,
+                count: fields[1] as usize,
+            },
+        },
+        name: Piece {
+            at: fields[2] as usize,
+            count: fields[3] as usize,
+        },
+    };
+    let w = write_diropargs3(source, v, out, start);
+    tell_wrote(w, info)
+}
+
+fn option_fits(flag: u64, v: u64) -> bool
+    ensures { λ r. ⌜ r ≡ optionFits flag v ⌝ }
+{
+    (flag == 0) | (v < 4294967296)
+}
+
+fn time_fits(tag: u64, seconds: u64, nseconds: u64) -> bool
+    ensures { λ r. ⌜ r ≡ timeFits tag seconds nseconds ⌝ }
+{
+    (tag < 2) | ((tag == 2) & ((seconds < 4294967296) & (nseconds < 4294967296)))
+}
+
+fn sattr3_fits(fields: &[u64]) -> bool
+    requires { ⌜ 14 ≤ length (now fields) ⌝ }
+    ensures { λ r. ⌜ r ≡ sattr3Fits (now (fields .entry)) ⌝ }
+{
+    let mode = option_fits(fields[0], fields[1]);
+    let uid = option_fits(fields[2], fields[3]);
+    let gid = option_fits(fields[4], fields[5]);
+    let atime = time_fits(fields[8], fields[9], fields[10]);
+    let mtime = time_fits(fields[11], fields[12], fields[13]);
+    mode & uid & gid & atime & mtime
+}
+
+fn mode_of(flag: u64, v: u64) -> set_mode3
+    requires { ⌜ optionFits flag v ≡ true ⌝ }
+    ensures { λ r. ⌜ r ≡ modeTo (optionOf flag v) ⌝ }
+{
+    if flag == 0 {
+        return set_mode3::Void;
+    }
+    set_mode3::mode(v as u32)
+}
+
+fn uid_of(flag: u64, v: u64) -> set_uid3
+    requires { ⌜ optionFits flag v ≡ true ⌝ }
+    ensures { λ r. ⌜ r ≡ uidTo (optionOf flag v) ⌝ }
+{
+    if flag == 0 {
+        return set_uid3::Void;
+    }
+    set_uid3::uid(v as u32)
+}
+
+fn gid_of(flag: u64, v: u64) -> set_gid3
+    requires { ⌜ optionFits flag v ≡ true ⌝ }
+    ensures { λ r. ⌜ r ≡ gidTo (optionOf flag v) ⌝ }
+{
+    if flag == 0 {
+        return set_gid3::Void;
+    }
+    set_gid3::gid(v as u32)
+}
+
+fn size_of(flag: u64, v: u64) -> set_size3
+    ensures { λ r. ⌜ r ≡ sizeTo (optionOf flag v) ⌝ }
+{
+    if flag == 0 {
+        return set_size3::Void;
+    }
+    set_size3::size(v)
+}
+
+fn atime_of(tag: u64, seconds: u64, nseconds: u64) -> set_atime
+    requires { ⌜ timeFits tag seconds nseconds ≡ true ⌝ }
+    ensures { λ r. ⌜ r ≡ atimeTo (timeOf tag seconds nseconds) ⌝ }
+{
+    if tag == 0 {
+        return set_atime::DONT_CHANGE;
+    }
+    if tag == 1 {
+        return set_atime::SET_TO_SERVER_TIME;
+    }
+    set_atime::SET_TO_CLIENT_TIME(nfstime3 {
+        seconds: seconds as u32,
+        nseconds: nseconds as u32,
+    })
+}
+
+fn mtime_of(tag: u64, seconds: u64, nseconds: u64) -> set_mtime
+    requires { ⌜ timeFits tag seconds nseconds ≡ true ⌝ }
+    ensures { λ r. ⌜ r ≡ mtimeTo (timeOf tag seconds nseconds) ⌝ }
+{
+    if tag == 0 {
+        return set_mtime::DONT_CHANGE;
+    }
+    if tag == 1 {
+        return set_mtime::SET_TO_SERVER_TIME;
+    }
+    set_mtime::SET_TO_CLIENT_TIME(nfstime3 {
+        seconds: seconds as u32,
+        nseconds: nseconds as u32,
+    })
+}
+
+fn sattr3_of(fields: &[u64]) -> sattr3
+    requires { ⌜ (14 ≤ length (now fields)) × (sattr3Fits (now fields) ≡ true) ⌝ }
+    ensures { λ r. ⌜ r ≡ sattr3Of (now (fields .entry)) ⌝ }
+{
+    let mode = mode_of(fields[0], fields[1]);
+    let uid = uid_of(fields[2], fields[3]);
+    let gid = gid_of(fields[4], fields[5]);
+    let size = size_of(fields[6], fields[7]);
+    let atime = atime_of(fields[8], fields[9], fields[10]);
+    let mtime = mtime_of(fields[11], fields[12], fields[13]);
+    sattr3 {
+        mode,
+        uid,
+        gid,
+        size,
+        atime,
+        mtime,
+    }
+}
+
+// A flag other than 0 is true. What stands behind a flag of 0, or a time's tag of 0 or 1, is passed over.
+#[no_mangle]
+pub extern "C" fn yugerzat_write_sattr3(
+    fields: &[u64],
+    out: &mut [u8],
+    start: usize,
+    info: &mut [u64],
+) -> u32
+    ensures { λ r. ⌜ WriteSattr3Called (now (fields .entry)) (now (out .entry)) start (now (info .entry)) r (now (out .exit)) (now (info .exit)) ⌝ }
+{
+    if fields.len() < 14 {
+        return SHORT_LIST;
+    }
+    if info.len() < 1 {
+        return SHORT_LIST;
+    }
+    if !sattr3_fits(fields) {
+        return WIDE_NUMBER;
+    }
+    let v = sattr3_of(fields);
+    let w = write_sattr3(v, out, start);
+    tell_wrote(w, info)
+}
+
+pub enum FlavorFound {
+    None,
+    Is(auth_flavor),
+}
+
+fn flavor_of(v: u64) -> FlavorFound
+    ensures { λ r. ⌜ foundFlavor r ≡ among flavorNumber flavors v ⌝ }
+{
+    match v {
+        0 => FlavorFound::Is(auth_flavor::AUTH_NULL),
+        1 => FlavorFound::Is(auth_flavor::AUTH_UNIX),
+        2 => FlavorFound::Is(auth_flavor::AUTH_SHORT),
+        3 => FlavorFound::Is(auth_flavor::AUTH_DES),
+        _ => FlavorFound::None,
+    }
+}
+
+fn call_words(fields: &[u64]) -> bool
+    requires { ⌜ 11 ≤ length (now fields) ⌝ }
+    ensures { λ r. ⌜ r ≡ areWords callWords (now (fields .entry)) ⌝ }
+{
+    (fields[0] < 4294967296)
+        & (fields[1] < 4294967296)
+        & (fields[2] < 4294967296)
+        & (fields[3] < 4294967296)
+        & (fields[4] < 4294967296)
+}
+
+// What a list's numbers are: a call, or not.
+pub enum GivenCall {
+    Wide,
+    Is(rpc_msg),
+}
+
+fn given_call(fields: &[u64]) -> GivenCall
+    requires { ⌜ 11 ≤ length (now fields) ⌝ }
+    ensures { λ r. ⌜ viewGivenCall r ≡ callGiven (now (fields .entry)) ⌝ }
+{
+    if !call_words(fields) {
+        return GivenCall::Wide;
+    }
+    let f1 = flavor_of(fields[5]);
+    let FlavorFound::Is(cred) = f1 else {
+        return GivenCall::Wide;
+    };
+    let f2 = flavor_of(fields[8]);
+    let FlavorFound::Is(verf) = f2 else {
+        return GivenCall::Wide;
+    };
+    GivenCall::Is(rpc_msg {
+        xid: fields[0] as u32,
+        body: rpc_body::CALL(call_body {
+            rpcvers: fields[1] as u32,
+            prog: fields[2] as u32,
+            vers: fields[3] as u32,
+            proc: fields[4] as u32,
+            cred: opaque_auth {
+                flavor: cred,
+                body: Piece {
+                    at: fields[6] as usize,
+                    count: fields[7] as usize,
+                },
+            },
+            verf: opaque_auth {
+                flavor: verf,
+                body: Piece {
+                    at: fields[9] as usize,
+                    count: fields[10] as usize,
+                },
+            },
+        }),
+    })
+}
+
+// The figures of a call: xid, rpcvers, prog, vers, proc, then flavor, place and count of the credential and of the verifier, which are of source.
+#[no_mangle]
+pub extern "C" fn yugerzat_write_call(
+    source: &[u8],
+    fields: &[u64],
+    out: &mut [u8],
+    start: usize,
+    info: &mut [u64],
+) -> u32
+    ensures { λ r. ⌜ WriteCallCalled (now (source .entry)) (now (fields .entry)) (now (out .entry)) start (now (info .entry)) r (now (out .exit)) (now (info .exit)) ⌝ }
+{
+    if fields.len() < 11 {
+        return SHORT_LIST;
+    }
+    if info.len() < 1 {
+        return SHORT_LIST;
+    }
+    let given = given_call(fields);
+    let GivenCall::Is(m) = given else {
+        return WIDE_NUMBER;
+    };
+    let w = write_rpc_msg(source, m, out, start);
+    tell_wrote(w, info)
+}
