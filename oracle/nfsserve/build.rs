@@ -13,7 +13,7 @@ fn main() {
 
     let mut lines = String::new();
     for name in MODULES {
-        lines += &format!("#[path = {:?}]\nmod {name};\n", file(&source, name));
+        lines += &format!("#[path = {:?}]\npub mod {name};\n", file(&source, name));
     }
     // rpcwire's functions are private: what asks them has to stand in the same module.
     lines += &format!(

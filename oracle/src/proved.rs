@@ -1,4 +1,4 @@
-//! The proved side: the functions of `libdoor.a`, or the model in their place.
+//! The proved side: the functions of the library, or the model in their place.
 pub use side::Proved;
 
 #[cfg(not(feature = "model"))]

@@ -1,0 +1,1054 @@
+/* Calls every function of include/yugerzat.h at its limits, and looks at every byte and figure that it was lent. */
+#include <stdio.h>
+#include <stdlib.h>
+#include <string.h>
+
+#include "yugerzat.h"
+
+/* ---- checks */
+
+static unsigned long passed, failed;
+
+static void check(int good, const char *what, const char *of, int line)
+{
+    if (good) {
+        passed++;
+        return;
+    }
+    failed++;
+    printf("tests.c:%d: %s%s%s\n", line, what, *of ? ", of " : "", of);
+}
+
+/* What the checks are about, where one line serves many cases. */
+static const char *of = "";
+
+#define CHECK(condition) check((condition), #condition, of, __LINE__)
+
+/* ---- memory: filled with EE, so that what was touched can be told */
+
+#define BUFFER 4096
+#define FIGURES 24
+#define UNTOUCHED 0xEEEEEEEEEEEEEEEEu
+
+static uint8_t out[BUFFER];
+static uint64_t info[FIGURES];
+static uint8_t long_message[YUGERZAT_LIMIT + 1];
+static uint8_t long_out[YUGERZAT_LIMIT + 8];
+
+static void fresh(void)
+{
+    memset(out, 0xEE, sizeof out);
+    memset(info, 0xEE, sizeof info);
+}
+
+/* Whether the bytes of out from a place on are as they were. */
+static int out_untouched_from(size_t place)
+{
+    size_t i;
+    for (i = place; i < BUFFER; i++)
+        if (out[i] != 0xEE)
+            return 0;
+    return 1;
+}
+
+static int out_untouched_before(size_t place)
+{
+    size_t i;
+    for (i = 0; i < place; i++)
+        if (out[i] != 0xEE)
+            return 0;
+    return 1;
+}
+
+static int info_untouched_from(size_t place)
+{
+    size_t i;
+    for (i = place; i < FIGURES; i++)
+        if (info[i] != UNTOUCHED)
+            return 0;
+    return 1;
+}
+
+/* Whether the figures are these, and no other was touched. */
+static int figures(size_t count, const uint64_t *due)
+{
+    return memcmp(info, due, count * sizeof *due) == 0 && info_untouched_from(count);
+}
+
+/* Whether the first of so many figures is a place, the others are zeros, and no other was touched. */
+static int refused_at(size_t count, uint64_t place)
+{
+    uint64_t due[FIGURES] = {0};
+    due[0] = place;
+    return figures(count, due);
+}
+
+static int all_untouched(void)
+{
+    return out_untouched_from(0) && info_untouched_from(0);
+}
+
+/* ---- bytes from hex */
+
+struct bytes {
+    uint8_t at[512];
+    size_t count;
+};
+
+static int digit(char c)
+{
+    if (c >= '0' && c <= '9')
+        return c - '0';
+    return c - 'A' + 10;
+}
+
+static struct bytes hex(const char *text)
+{
+    struct bytes b;
+    int high = -1;
+    b.count = 0;
+    for (; *text; text++) {
+        if (*text == ' ')
+            continue;
+        if (high < 0) {
+            high = digit(*text);
+        } else {
+            b.at[b.count++] = (uint8_t)(high * 16 + digit(*text));
+            high = -1;
+        }
+    }
+    return b;
+}
+
+static int out_is(size_t place, struct bytes due)
+{
+    return memcmp(out + place, due.at, due.count) == 0;
+}
+
+/* ---- messages */
+
+/* A message of every kind, in published form and of the largest number of parts. */
+static const struct {
+    const char *name;
+    const char *message;
+} samples[YUGERZAT_KINDS] = {
+    {"bool", "00000001"},
+    {"i32", "80000000"},
+    {"i64", "8000000000000000"},
+    {"u32", "FFFFFFFF"},
+    {"u64", "FFFFFFFFFFFFFFFF"},
+    {"eight", "0102030405060708"},
+    {"opaque", "00000005 68656C6C 6F000000"},
+    {"nfsstring", "00000003 61626300"},
+    {"words", "00000002 00000007 FFFFFFFF"},
+    {"msg_type", "00000001"},
+    {"reply_stat", "00000001"},
+    {"accept_stat", "00000004"},
+    {"reject_stat", "00000001"},
+    {"auth_stat", "00000005"},
+    {"auth_flavor", "00000003"},
+    {"time_how", "00000002"},
+    {"nfsstat3", "00002718"},
+    {"ftype3", "00000007"},
+    {"auth_unix", "00000001 00000003 61626300 00000002 00000003 00000002 00000004 00000005"},
+    {"opaque_auth", "00000001 00000002 AABB0000"},
+    {"rpc_msg", "0000002A 00000000 00000002 000186A3 00000003 00000001 00000001 00000004 01020304 00000000 00000000"},
+    {"rpc_body", "00000000 00000002 000186A3 00000003 00000001 00000000 00000000 00000000 00000000"},
+    {"call_body", "00000002 000186A3 00000003 00000001 00000000 00000000 00000000 00000000"},
+    {"reply_body", "00000000 00000000 00000000 00000002 00000003 00000004"},
+    {"accepted_reply", "00000000 00000000 00000002 00000003 00000004"},
+    {"accept_body", "00000002 00000003 00000004"},
+    {"rejected_reply", "00000000 00000002 00000002"},
+    {"mismatch_info", "00000002 00000003"},
+    {"specdata3", "00000008 00000001"},
+    {"nfs_fh3", "00000002 55660000"},
+    {"nfstime3", "00000007 00000008"},
+    {"fattr3", "00000002 000001ED 00000003 00000004 00000005 0000000000000006 0000000000000007 00000008 00000009"
+               "000000000000000A 000000000000000B 0000000C 0000000D 0000000E 0000000F 00000010 00000011"},
+    {"fsinfo3", "00000000 00000001 00000002 00000003 00000004 00000005 00000006 00000007 0000000000000008 00000009 0000000A"
+                "0000000B"},
+    {"wcc_attr", "0000000000000001 00000002 00000003 00000004 00000005"},
+    {"pre_op_attr", "00000001 0000000000000001 00000002 00000003 00000004 00000005"},
+    {"post_op_attr", "00000001 00000001 000001ED 00000003 00000004 00000005 0000000000000006 0000000000000007 00000008"
+                     "00000009 000000000000000A 000000000000000B 0000000C 0000000D 0000000E 0000000F 00000010 00000011"},
+    {"wcc_data", "00000001 0000000000000001 00000002 00000003 00000004 00000005 00000000"},
+    {"post_op_fh3", "00000001 00000001 99000000"},
+    {"set_mode3", "00000001 000001A4"},
+    {"set_uid3", "00000001 000003E8"},
+    {"set_gid3", "00000001 000003E8"},
+    {"set_size3", "00000001 0000000000001000"},
+    {"set_atime", "00000002 00000007 00000008"},
+    {"set_mtime", "00000002 00000007 00000008"},
+    {"sattr3", "00000001 000001A4 00000001 000003E8 00000001 000003E9 00000001 0000000000001000 00000002 00000007 00000008"
+               "00000002 00000009 0000000A"},
+    {"diropargs3", "00000004 0A0B0C0D 00000005 68656C6C 6F000000"},
+    {"symlinkdata3", "00000000 00000000 00000000 00000000 00000000 00000000 00000003 61626300"},
+};
+
+/* ---- yugerzat_read */
+
+static uint32_t read_kind(uint32_t kind, struct bytes b, size_t at, size_t room)
+{
+    fresh();
+    return yugerzat_read(kind, b.at, b.count, at, out, room, info, YUGERZAT_READ_FIGURES);
+}
+
+static void every_kind(uint32_t kind)
+{
+    struct bytes b = hex(samples[kind].message), later, part;
+    uint64_t took[3];
+    size_t n;
+    of = samples[kind].name;
+    took[0] = b.count;
+    took[1] = 1;
+    took[2] = b.count;
+
+    CHECK(read_kind(kind, b, 0, BUFFER) == YUGERZAT_DONE);
+    CHECK(figures(3, took) && out_is(0, b) && out_untouched_from(b.count));
+    CHECK(read_kind(kind, b, 0, b.count) == YUGERZAT_DONE);
+    CHECK(figures(3, took) && out_is(0, b) && out_untouched_from(b.count));
+    CHECK(read_kind(kind, b, 0, b.count - 1) == YUGERZAT_NO_ROOM);
+    CHECK(refused_at(3, 0) && out_untouched_from(0));
+    fresh();
+    CHECK(yugerzat_read(kind, b.at, b.count, 0, NULL, 0, info, 3) == YUGERZAT_NO_ROOM && refused_at(3, 0));
+
+    /* from a later place */
+    memset(later.at, 0xFF, 5);
+    memcpy(later.at + 5, b.at, b.count);
+    later.count = b.count + 5;
+    took[0] = later.count;
+    CHECK(read_kind(kind, later, 5, BUFFER) == YUGERZAT_DONE);
+    CHECK(figures(3, took) && out_is(0, b) && out_untouched_from(b.count));
+
+    /* cut at every place */
+    part = b;
+    for (n = 0; n < b.count; n++) {
+        part.count = n;
+        CHECK(read_kind(kind, part, 0, BUFFER) == YUGERZAT_ENDS);
+        CHECK(info[0] <= n && info[0] % 4 == 0 && info[1] == 0 && info[2] == 0 && info_untouched_from(3) &&
+              out_untouched_from(0));
+    }
+    fresh();
+    CHECK(yugerzat_read(kind, NULL, 0, 0, out, BUFFER, info, 3) == YUGERZAT_ENDS && refused_at(3, 0) && out_untouched_from(0));
+    CHECK(read_kind(kind, b, b.count, BUFFER) == YUGERZAT_ENDS);
+    CHECK(refused_at(3, b.count) && out_untouched_from(0));
+    CHECK(read_kind(kind, b, b.count + 1, BUFFER) == YUGERZAT_PAST_END);
+    CHECK(refused_at(3, 0) && out_untouched_from(0));
+    CHECK(read_kind(kind, b, SIZE_MAX, BUFFER) == YUGERZAT_PAST_END);
+    CHECK(refused_at(3, 0) && out_untouched_from(0));
+
+    /* a message as long as may be, and one byte longer */
+    memset(long_message, 0, sizeof long_message);
+    memcpy(long_message, b.at, b.count);
+    took[0] = b.count;
+    fresh();
+    CHECK(yugerzat_read(kind, long_message, YUGERZAT_LIMIT, 0, out, BUFFER, info, 3) == YUGERZAT_DONE);
+    CHECK(figures(3, took) && out_is(0, b) && out_untouched_from(b.count));
+    fresh();
+    CHECK(yugerzat_read(kind, long_message, YUGERZAT_LIMIT + 1, 0, out, BUFFER, info, 3) == YUGERZAT_TOO_LONG);
+    CHECK(refused_at(3, 0) && out_untouched_from(0));
+
+    /* lists that are too short */
+    fresh();
+    CHECK(yugerzat_read(kind, b.at, b.count, 0, out, BUFFER, info, 2) == YUGERZAT_SHORT_LIST && all_untouched());
+    CHECK(yugerzat_read(kind, b.at, b.count, 0, out, BUFFER, NULL, 0) == YUGERZAT_SHORT_LIST && all_untouched());
+    of = "";
+}
+
+static void loose(uint32_t kind, const char *message, uint64_t next, const char *rewriting)
+{
+    uint64_t due[3];
+    struct bytes written = hex(rewriting);
+    of = message;
+    due[0] = next;
+    due[1] = 0;
+    due[2] = written.count;
+    CHECK(read_kind(kind, hex(message), 0, BUFFER) == YUGERZAT_DONE);
+    CHECK(figures(3, due) && out_is(0, written) && out_untouched_from(written.count));
+    /* What is rewritten is plain, and is its own rewriting. */
+    due[0] = written.count;
+    due[1] = 1;
+    CHECK(read_kind(kind, written, 0, BUFFER) == YUGERZAT_DONE);
+    CHECK(figures(3, due) && out_is(0, written));
+    of = "";
+}
+
+static void undeclared(uint32_t kind, const char *message, uint64_t place)
+{
+    of = message;
+    CHECK(read_kind(kind, hex(message), 0, BUFFER) == YUGERZAT_UNDECLARED);
+    CHECK(refused_at(3, place) && out_untouched_from(0));
+    of = "";
+}
+
+static void test_read(void)
+{
+    uint32_t kind;
+    static const uint32_t unknown[] = {YUGERZAT_KINDS, 100, 0x7FFFFFFF, 0xFFFFFFFF};
+    struct bytes b = hex("00000001");
+    size_t i;
+    for (kind = 0; kind < YUGERZAT_KINDS; kind++)
+        every_kind(kind);
+    for (i = 0; i < sizeof unknown / sizeof *unknown; i++) {
+        CHECK(read_kind(unknown[i], b, 0, BUFFER) == YUGERZAT_UNKNOWN_KIND);
+        CHECK(refused_at(3, 0) && out_untouched_from(0));
+        fresh();
+        CHECK(yugerzat_read(unknown[i], NULL, 0, 0, NULL, 0, NULL, 0) == YUGERZAT_SHORT_LIST);
+    }
+
+    loose(YUGERZAT_BOOL, "00000100", 4, "00000001");
+    loose(YUGERZAT_BOOL, "FFFFFFFF", 4, "00000001");
+    loose(YUGERZAT_OPAQUE, "00000005 68656C6C 6F000001", 12, "00000005 68656C6C 6F000000");
+    loose(YUGERZAT_SATTR3, "00000000 00000000 00000000 FFFFFFFF 0000000000000000 00000000 00000000", 32,
+          "00000000 00000000 00000000 00000001 0000000000000000 00000000 00000000");
+    loose(YUGERZAT_RPC_MSG, "0000002A 00000002", 8,
+          "0000002A 00000000 00000000 00000000 00000000 00000000 00000000 00000000 00000000 00000000");
+    loose(YUGERZAT_RPC_MSG, "0000002A 00000001 00000000 00000000 00000000 00000005", 24,
+          "0000002A 00000001 00000000 00000000 00000000 00000004");
+    loose(YUGERZAT_REPLY_BODY, "00000002", 4, "00000000 00000000 00000000 00000000");
+    loose(YUGERZAT_REJECTED_REPLY, "00000007", 4, "00000000 00000000 00000000");
+
+    undeclared(YUGERZAT_MSG_TYPE, "00000002", 0);
+    undeclared(YUGERZAT_REPLY_STAT, "00000002", 0);
+    undeclared(YUGERZAT_ACCEPT_STAT, "00000005", 0);
+    undeclared(YUGERZAT_REJECT_STAT, "00000002", 0);
+    undeclared(YUGERZAT_AUTH_STAT, "00000000", 0);
+    undeclared(YUGERZAT_AUTH_STAT, "00000006", 0);
+    undeclared(YUGERZAT_AUTH_FLAVOR, "00000004", 0);
+    undeclared(YUGERZAT_TIME_HOW, "00000003", 0);
+    undeclared(YUGERZAT_NFSSTAT3, "00000003", 0);
+    undeclared(YUGERZAT_NFSSTAT3, "00002719", 0);
+    undeclared(YUGERZAT_FTYPE3, "00000000", 0);
+    undeclared(YUGERZAT_FTYPE3, "00000008", 0);
+    undeclared(YUGERZAT_SET_ATIME, "00000003", 0);
+    undeclared(YUGERZAT_SATTR3, "00000000 00000000 00000000 00000000 00000000 00000003", 20);
+    undeclared(YUGERZAT_REJECTED_REPLY, "00000001 00000006", 4);
+
+    /* Lengths that would pass the end of every number. */
+    of = "FFFFFFFF";
+    CHECK(read_kind(YUGERZAT_OPAQUE, hex("FFFFFFFF 00000000"), 0, BUFFER) == YUGERZAT_ENDS && refused_at(3, 0));
+    CHECK(read_kind(YUGERZAT_WORDS, hex("FFFFFFFF 00000000"), 0, BUFFER) == YUGERZAT_ENDS && refused_at(3, 0));
+    CHECK(read_kind(YUGERZAT_WORDS, hex("40000001 00000000"), 0, BUFFER) == YUGERZAT_ENDS && refused_at(3, 0));
+    of = "";
+
+    /* An opaque that fills a message of the largest size: what is written is as long as what is read. */
+    memset(long_message, 0x5A, sizeof long_message);
+    memcpy(long_message, hex("000FFFFC").at, 4);
+    memset(long_out, 0xEE, sizeof long_out);
+    fresh();
+    CHECK(yugerzat_read(YUGERZAT_OPAQUE, long_message, YUGERZAT_LIMIT, 0, long_out, YUGERZAT_LIMIT, info, 3) == YUGERZAT_DONE);
+    CHECK(info[0] == YUGERZAT_LIMIT && info[1] == 1 && info[2] == YUGERZAT_LIMIT);
+    CHECK(memcmp(long_out, long_message, YUGERZAT_LIMIT) == 0 && long_out[YUGERZAT_LIMIT] == 0xEE);
+    memset(long_out, 0xEE, sizeof long_out);
+    CHECK(yugerzat_read(YUGERZAT_OPAQUE, long_message, YUGERZAT_LIMIT, 0, long_out, YUGERZAT_LIMIT - 1, info, 3) == YUGERZAT_NO_ROOM);
+    CHECK(long_out[0] == 0xEE && memcmp(long_out, long_out + 1, sizeof long_out - 1) == 0);
+}
+
+/* ---- yugerzat_fragment */
+
+static void test_fragment(void)
+{
+    static const uint8_t message[3] = {1, 2, 3};
+    fresh();
+    CHECK(yugerzat_fragment(message, 3, out, BUFFER, 5, info, 1) == YUGERZAT_DONE);
+    CHECK(info[0] == 12 && info_untouched_from(1));
+    CHECK(out_untouched_before(5) && out_is(5, hex("80000003 010203")) && out_untouched_from(12));
+    fresh();
+    CHECK(yugerzat_fragment(message, 3, out, 7, 0, info, 1) == YUGERZAT_DONE && info[0] == 7 && out_untouched_from(7));
+    fresh();
+    CHECK(yugerzat_fragment(message, 3, out, 6, 0, info, 1) == YUGERZAT_NO_ROOM && refused_at(1, 0) && out_untouched_from(0));
+    fresh();
+    CHECK(yugerzat_fragment(NULL, 0, out, 4, 0, info, 1) == YUGERZAT_DONE && info[0] == 4);
+    CHECK(out_is(0, hex("80000000")) && out_untouched_from(4));
+    fresh();
+    CHECK(yugerzat_fragment(NULL, 0, NULL, 0, 0, info, 1) == YUGERZAT_NO_ROOM && refused_at(1, 0));
+    fresh();
+    CHECK(yugerzat_fragment(message, 3, out, 10, 10, info, 1) == YUGERZAT_NO_ROOM && refused_at(1, 0) && out_untouched_from(0));
+    fresh();
+    CHECK(yugerzat_fragment(message, 3, out, 10, 11, info, 1) == YUGERZAT_PAST_END && refused_at(1, 0) && out_untouched_from(0));
+    fresh();
+    CHECK(yugerzat_fragment(message, 3, out, 10, SIZE_MAX, info, 1) == YUGERZAT_PAST_END && refused_at(1, 0));
+    fresh();
+    CHECK(yugerzat_fragment(message, 3, out, BUFFER, 0, NULL, 0) == YUGERZAT_SHORT_LIST && all_untouched());
+
+    /* the largest message, one more byte, and the order of the refusals: place, length, room */
+    memset(long_message, 0x5A, sizeof long_message);
+    memset(long_out, 0xEE, sizeof long_out);
+    fresh();
+    CHECK(yugerzat_fragment(long_message, YUGERZAT_LIMIT, long_out, YUGERZAT_LIMIT + 4, 0, info, 1) == YUGERZAT_DONE);
+    CHECK(info[0] == YUGERZAT_LIMIT + 4 && memcmp(long_out, hex("80100000").at, 4) == 0);
+    CHECK(memcmp(long_out + 4, long_message, YUGERZAT_LIMIT) == 0 && long_out[YUGERZAT_LIMIT + 4] == 0xEE);
+    fresh();
+    CHECK(yugerzat_fragment(long_message, YUGERZAT_LIMIT + 1, long_out, sizeof long_out, 0, info, 1) == YUGERZAT_TOO_LONG);
+    CHECK(refused_at(1, 0) && long_out[YUGERZAT_LIMIT + 4] == 0xEE);
+    fresh();
+    CHECK(yugerzat_fragment(long_message, YUGERZAT_LIMIT + 1, out, 0, 0, info, 1) == YUGERZAT_TOO_LONG && refused_at(1, 0));
+    fresh();
+    CHECK(yugerzat_fragment(long_message, YUGERZAT_LIMIT + 1, out, 0, 1, info, 1) == YUGERZAT_PAST_END && refused_at(1, 0));
+}
+
+/* ---- yugerzat_feed */
+
+static uint64_t state[8];
+
+static void begin(uint64_t capacity)
+{
+    memset(state, 0, sizeof state);
+    state[YUGERZAT_STATE_CAPACITY] = capacity;
+    state[7] = UNTOUCHED;
+    fresh();
+}
+
+static uint32_t feed(const char *run, size_t length)
+{
+    struct bytes b = hex(run);
+    memset(info, 0xEE, sizeof info);
+    return yugerzat_feed(state, 7, b.at, b.count, out, length, info, 2);
+}
+
+static int state_is(uint64_t capacity, uint64_t placed, uint64_t count, uint64_t value, uint64_t left, uint64_t last,
+                    uint64_t stopped)
+{
+    return state[0] == capacity && state[1] == placed && state[2] == count && state[3] == value && state[4] == left &&
+           state[5] == last && state[6] == stopped && state[7] == UNTOUCHED;
+}
+
+static int fed(uint64_t used, uint64_t length)
+{
+    return info[YUGERZAT_FEED_USED] == used && info[YUGERZAT_FEED_LENGTH] == length && info_untouched_from(2);
+}
+
+/* A state that does not fit: it stays, and so does the buffer. */
+static void unfit(const char *why, uint64_t capacity, uint64_t placed, uint64_t count, uint64_t value, uint64_t left,
+                  uint64_t last, uint64_t stopped, size_t length)
+{
+    of = why;
+    begin(capacity);
+    state[1] = placed;
+    state[2] = count;
+    state[3] = value;
+    state[4] = left;
+    state[5] = last;
+    state[6] = stopped;
+    CHECK(feed("80000001 AA", length) == YUGERZAT_STATE_DOES_NOT_FIT);
+    CHECK(fed(0, 0) && state_is(capacity, placed, count, value, left, last, stopped) && out_untouched_from(0));
+    of = "";
+}
+
+static void test_feed(void)
+{
+    static const char *const bytes[] = {"00", "00", "00", "02", "AB", "CD", "80", "00", "00", "01", "EF"};
+    size_t i;
+    begin(10);
+    CHECK(feed("00000000 80000002 ABCD 77", 10) == YUGERZAT_COMPLETE);
+    CHECK(fed(10, 2) && state_is(10, 0, 0, 0, 0, 0, 0) && out_is(0, hex("ABCD")) && out_untouched_from(2));
+
+    /* the same, byte by byte */
+    begin(3);
+    for (i = 0; i < 10; i++)
+        CHECK(feed(bytes[i], 3) == YUGERZAT_MORE && fed(1, 0));
+    CHECK(state_is(3, 2, 0, 0, 1, 1, 0));
+    CHECK(feed(bytes[10], 3) == YUGERZAT_COMPLETE && fed(1, 3) && out_is(0, hex("ABCDEF")) && out_untouched_from(3));
+    CHECK(state_is(3, 0, 0, 0, 0, 0, 0));
+
+    /* an empty record, into no buffer at all */
+    begin(0);
+    memset(info, 0xEE, sizeof info);
+    CHECK(yugerzat_feed(state, 7, hex("80000000").at, 4, NULL, 0, info, 2) == YUGERZAT_COMPLETE && fed(4, 0));
+    CHECK(state_is(0, 0, 0, 0, 0, 0, 0));
+    memset(info, 0xEE, sizeof info);
+    CHECK(yugerzat_feed(state, 7, NULL, 0, NULL, 0, info, 2) == YUGERZAT_MORE && fed(0, 0));
+
+    /* a fragment that is too long by one byte, and one that just fits */
+    begin(3);
+    CHECK(feed("80000004", 3) == YUGERZAT_FRAGMENT_TOO_LONG && fed(4, 0) && state_is(3, 0, 0, 0, 0, 0, 1));
+    CHECK(out_untouched_from(0));
+    CHECK(feed("80000001 AA", 3) == YUGERZAT_FRAGMENT_TOO_LONG && fed(0, 0) && state_is(3, 0, 0, 0, 0, 0, 1));
+    CHECK(out_untouched_from(0));
+    begin(4);
+    CHECK(feed("80000004", 4) == YUGERZAT_MORE && fed(4, 0) && state_is(4, 0, 0, 0, 4, 1, 0));
+    /* what was placed before stays in the buffer */
+    begin(4);
+    CHECK(feed("00000002 ABCD 80000003 01", 4) == YUGERZAT_FRAGMENT_TOO_LONG && fed(10, 0) && state_is(4, 2, 0, 0, 0, 0, 1));
+    CHECK(out_is(0, hex("ABCD")) && out_untouched_from(2));
+    begin(4);
+    CHECK(feed("7FFFFFFF", 4) == YUGERZAT_FRAGMENT_TOO_LONG && fed(4, 0));
+
+    unfit("a capacity that is not the buffer's length", 9, 0, 0, 0, 0, 0, 0, 10);
+    unfit("a capacity over the limit", YUGERZAT_LIMIT + 1, 0, 0, 0, 0, 0, 0, 10);
+    unfit("more placed than the capacity", 10, 11, 0, 0, 0, 0, 0, 10);
+    unfit("more left than there is room for", 10, 5, 0, 0, 6, 0, 0, 10);
+    unfit("four header bytes", 10, 0, 4, 0, 0, 0, 0, 10);
+    unfit("a header value too large for its bytes", 10, 0, 1, 256, 0, 0, 0, 10);
+    unfit("a header value without header bytes", 10, 0, 0, 1, 0, 0, 0, 10);
+    unfit("left with header bytes", 10, 0, 1, 0, 1, 0, 0, 10);
+    unfit("last with nothing left", 10, 0, 0, 0, 0, 1, 0, 10);
+    unfit("stopped with header bytes", 10, 0, 1, 0, 0, 0, 1, 10);
+    unfit("stopped with bytes left", 10, 0, 0, 0, 1, 0, 1, 10);
+
+    /* every number but 0 is a yes, and comes back as 1 */
+    begin(10);
+    state[4] = 1;
+    state[5] = 77;
+    CHECK(feed("", 10) == YUGERZAT_MORE && fed(0, 0) && state_is(10, 0, 0, 0, 1, 1, 0));
+
+    /* lists that are too short */
+    begin(10);
+    CHECK(yugerzat_feed(state, 6, hex("80000000").at, 4, out, 10, info, 2) == YUGERZAT_SHORT_LIST && all_untouched());
+    CHECK(yugerzat_feed(NULL, 0, hex("80000000").at, 4, out, 10, info, 2) == YUGERZAT_SHORT_LIST && all_untouched());
+    CHECK(yugerzat_feed(state, 7, hex("80000000").at, 4, out, 10, info, 1) == YUGERZAT_SHORT_LIST && all_untouched());
+    CHECK(yugerzat_feed(state, 7, hex("80000000").at, 4, out, 10, NULL, 0) == YUGERZAT_SHORT_LIST && all_untouched());
+    CHECK(state_is(10, 0, 0, 0, 0, 0, 0));
+
+    /* a record of the largest size */
+    memset(long_message, 0x5A, sizeof long_message);
+    memcpy(long_message, hex("800FFFFD").at, 4);
+    memset(long_out, 0xEE, sizeof long_out);
+    begin(YUGERZAT_LIMIT);
+    CHECK(yugerzat_feed(state, 7, hex("80100000").at, 4, long_out, YUGERZAT_LIMIT, info, 2) == YUGERZAT_MORE);
+    CHECK(yugerzat_feed(state, 7, long_message, YUGERZAT_LIMIT + 1, long_out, YUGERZAT_LIMIT, info, 2) == YUGERZAT_COMPLETE);
+    CHECK(fed(YUGERZAT_LIMIT, YUGERZAT_LIMIT) && memcmp(long_out, long_message, YUGERZAT_LIMIT) == 0);
+    CHECK(long_out[YUGERZAT_LIMIT] == 0xEE);
+}
+
+/* ---- yugerzat_choose */
+
+static uint32_t choose(const char *message, uint32_t seen, size_t room)
+{
+    struct bytes b = hex(message);
+    fresh();
+    return yugerzat_choose(b.at, b.count, seen, out, room, info, 12);
+}
+
+#define CALL_NFS "0000002A 00000000 00000002 000186A3 00000003 00000006 00000000 00000000 00000000 00000000"
+#define CALL_UNIX                                                                                                \
+    "0000002A 00000000 00000002 000186A0 00000002 00000003 00000001 0000001D 00000001 00000003 61626300 00000002" \
+    "00000003 00000001 00000004 EE 000000 00000000 00000000 11223344"
+
+static void test_choose(void)
+{
+    static const uint64_t nfs[12] = {100003, 3, 6, 40};
+    static const uint64_t portmap[12] = {100000, 2, 3, 72, 1, 1, 40, 3, 2, 3, 56, 1};
+    struct bytes b = hex(CALL_NFS);
+    CHECK(choose(CALL_NFS, 0, 0) == YUGERZAT_HAND_OVER && figures(12, nfs) && out_untouched_from(0));
+    fresh();
+    CHECK(yugerzat_choose(b.at, b.count, 0, NULL, 0, info, 12) == YUGERZAT_HAND_OVER && figures(12, nfs));
+    CHECK(choose(CALL_UNIX, 0, BUFFER) == YUGERZAT_HAND_OVER && figures(12, portmap) && out_untouched_from(0));
+    CHECK(choose(CALL_NFS, 1, 24) == YUGERZAT_SILENCE && refused_at(12, 0) && out_untouched_from(0));
+    CHECK(choose(CALL_NFS, 0xFFFFFFFF, 24) == YUGERZAT_SILENCE && refused_at(12, 0) && out_untouched_from(0));
+
+    /* the RPC version is not 2 */
+    CHECK(choose("0000002A 00000002", 0, 24) == YUGERZAT_REPLY && refused_at(12, 24));
+    CHECK(out_is(0, hex("0000002A 00000001 00000001 00000000 00000000 00000000")) && out_untouched_from(24));
+    CHECK(choose("0000002A 00000002", 0, 23) == YUGERZAT_NO_ROOM && refused_at(12, 0) && out_untouched_from(0));
+    /* a program that is not served */
+    CHECK(choose("0000002A 00000000 00000002 00000007 00000003 00000006 00000000 00000000 00000000 00000000", 0, BUFFER) ==
+          YUGERZAT_REPLY);
+    CHECK(refused_at(12, 24) && out_is(0, hex("0000002A 00000001 00000000 00000000 00000000 00000001")) && out_untouched_from(24));
+
+    CHECK(choose("0000002A 00000001 00000000 00000000 00000000 00000000", 0, BUFFER) == YUGERZAT_REPLY_CAME);
+    CHECK(refused_at(12, 0) && out_untouched_from(0));
+    CHECK(choose("0000002A 00000000 00000002", 0, BUFFER) == YUGERZAT_ENDS && refused_at(12, 12) && out_untouched_from(0));
+    /* a credential that ends inside its list of groups: the place is one of the whole message */
+    CHECK(choose("0000002A 00000000 00000002 000186A3 00000003 00000006 00000001 00000014 00000001 00000000 00000002 00000003"
+                 "00000001 00000000 00000000", 0, BUFFER) == YUGERZAT_ENDS);
+    CHECK(refused_at(12, 48) && out_untouched_from(0));
+    CHECK(choose("0000002A 00000000 00000002 000186A3 00000003 00000006 00000004 00000000 00000000 00000000", 0, BUFFER) ==
+          YUGERZAT_UNDECLARED);
+    CHECK(refused_at(12, 24) && out_untouched_from(0));
+    fresh();
+    CHECK(yugerzat_choose(NULL, 0, 0, NULL, 0, info, 12) == YUGERZAT_ENDS && refused_at(12, 0));
+    fresh();
+    CHECK(yugerzat_choose(b.at, b.count, 0, out, BUFFER, info, 11) == YUGERZAT_SHORT_LIST && all_untouched());
+    CHECK(yugerzat_choose(b.at, b.count, 0, out, BUFFER, NULL, 0) == YUGERZAT_SHORT_LIST && all_untouched());
+
+    memset(long_message, 0, sizeof long_message);
+    memcpy(long_message, b.at, b.count);
+    fresh();
+    CHECK(yugerzat_choose(long_message, YUGERZAT_LIMIT, 0, out, BUFFER, info, 12) == YUGERZAT_HAND_OVER && figures(12, nfs));
+    fresh();
+    CHECK(yugerzat_choose(long_message, YUGERZAT_LIMIT + 1, 0, out, BUFFER, info, 12) == YUGERZAT_TOO_LONG);
+    CHECK(refused_at(12, 0) && out_untouched_from(0));
+}
+
+/* ---- readers of values: what is common to all of one signature */
+
+typedef uint32_t reader(const uint8_t *, size_t, size_t, uint64_t *, size_t);
+
+static uint32_t read_at(reader *read, const char *message, size_t at, size_t count)
+{
+    struct bytes b = hex(message);
+    fresh();
+    return read(b.at, b.count, at, info, count);
+}
+
+static void reader_limits(const char *name, reader *read, size_t count, const char *message)
+{
+    struct bytes b = hex(message), part = b, later;
+    uint64_t took[FIGURES];
+    size_t n;
+    of = name;
+    CHECK(read_at(read, message, 0, count) == YUGERZAT_DONE);
+    CHECK(info[YUGERZAT_NEXT] == b.count && info[YUGERZAT_PLAIN] == 1 && info_untouched_from(count));
+    memcpy(took, info, sizeof took);
+    /* a longer list than is wanted */
+    CHECK(read_at(read, message, 0, FIGURES) == YUGERZAT_DONE && memcmp(took, info, sizeof took) == 0);
+    /* from a later place */
+    memset(later.at, 0xFF, 5);
+    memcpy(later.at + 5, b.at, b.count);
+    later.count = b.count + 5;
+    fresh();
+    CHECK(read(later.at, later.count, 5, info, count) == YUGERZAT_DONE);
+    CHECK(info[YUGERZAT_NEXT] == b.count + 5 && info[YUGERZAT_PLAIN] == 1 && info_untouched_from(count));
+    /* cut at every place */
+    for (n = 0; n < b.count; n++) {
+        part.count = n;
+        fresh();
+        CHECK(read(part.at, part.count, 0, info, count) == YUGERZAT_ENDS);
+        CHECK(info[0] <= n && info[0] % 4 == 0 && refused_at(count, info[0]));
+    }
+    fresh();
+    CHECK(read(NULL, 0, 0, info, count) == YUGERZAT_ENDS && refused_at(count, 0));
+    fresh();
+    CHECK(read(NULL, 0, 1, info, count) == YUGERZAT_PAST_END && refused_at(count, 0));
+    CHECK(read_at(read, message, b.count, count) == YUGERZAT_ENDS && refused_at(count, b.count));
+    CHECK(read_at(read, message, b.count + 1, count) == YUGERZAT_PAST_END && refused_at(count, 0));
+    CHECK(read_at(read, message, SIZE_MAX, count) == YUGERZAT_PAST_END && refused_at(count, 0));
+    /* as long as may be, and one byte longer */
+    memset(long_message, 0, sizeof long_message);
+    memcpy(long_message, b.at, b.count);
+    fresh();
+    CHECK(read(long_message, YUGERZAT_LIMIT, 0, info, count) == YUGERZAT_DONE && memcmp(took, info, sizeof took) == 0);
+    fresh();
+    CHECK(read(long_message, YUGERZAT_LIMIT + 1, 0, info, count) == YUGERZAT_TOO_LONG && refused_at(count, 0));
+    fresh();
+    CHECK(read(long_message, YUGERZAT_LIMIT + 1, SIZE_MAX, info, count) == YUGERZAT_TOO_LONG && refused_at(count, 0));
+    /* lists that are too short */
+    CHECK(read_at(read, message, 0, count - 1) == YUGERZAT_SHORT_LIST && all_untouched());
+    CHECK(read(b.at, b.count, 0, NULL, 0) == YUGERZAT_SHORT_LIST);
+    of = "";
+}
+
+/* ---- yugerzat_judge */
+
+static void judged(const char *message, uint64_t next, uint64_t plain, uint64_t xid, uint64_t tag, const uint64_t *ten)
+{
+    uint64_t due[14];
+    of = message;
+    due[0] = next;
+    due[1] = plain;
+    due[2] = xid;
+    due[3] = tag;
+    memcpy(due + 4, ten, 10 * sizeof *ten);
+    CHECK(read_at(yugerzat_judge, message, 0, 14) == YUGERZAT_DONE && figures(14, due));
+    of = "";
+}
+
+static void test_judge(void)
+{
+    static const uint64_t zeros[10] = {0};
+    static const uint64_t call[10] = {2, 100003, 3, 1, 1, 32, 3, 0, 44, 0};
+    static const uint64_t loose_call[10] = {2, 100003, 3, 1, 3, 32, 1, 2, 44, 0};
+    static const uint64_t accepted[10] = {0, 20, 2, 0, 0, 0};
+    static const uint64_t unavailable[10] = {0, 20, 0, 3, 0, 0};
+    static const uint64_t mismatch[10] = {0, 20, 0, 2, 3, 4};
+    static const uint64_t garbage[10] = {0, 20, 0, 4, 0, 0};
+    static const uint64_t denied[10] = {2, 3};
+    static const uint64_t weak[10] = {5};
+    reader_limits("yugerzat_judge", yugerzat_judge, 14, samples[YUGERZAT_RPC_MSG].message);
+    reader_limits("yugerzat_judge of a reply", yugerzat_judge, 14,
+                  "0000002A 00000001 00000000 00000000 00000000 00000002 00000003 00000004");
+    reader_limits("yugerzat_judge of a denial", yugerzat_judge, 14, "0000002A 00000001 00000001 00000001 00000005");
+    judged("0000002A 00000000 00000002 000186A3 00000003 00000001 00000001 00000003 01020300 00000000 00000000", 44, 1, 42, 0,
+           call);
+    judged("FFFFFFFF 00000000 00000002 000186A3 00000003 00000001 00000003 00000001 01020300 00000002 00000000", 44, 0,
+           0xFFFFFFFF, 0, loose_call);
+    judged("0000002A 00000002", 8, 0, 42, 0, zeros);
+    judged("0000002A 00000001 00000000 00000000 00000002 AABB0000 00000000", 28, 1, 42, 1, accepted);
+    judged("0000002A 00000001 00000000 00000000 00000000 00000003", 24, 1, 42, 1, unavailable);
+    judged("0000002A 00000001 00000000 00000000 00000000 00000002 00000003 00000004", 32, 1, 42, 1, mismatch);
+    judged("0000002A 00000001 00000000 00000000 00000000 00000005", 24, 0, 42, 1, garbage);
+    judged("0000002A 00000001 00000002", 12, 0, 42, 1, zeros);
+    judged("0000002A 00000001 00000001 00000000 00000002 00000003", 24, 1, 42, 2, denied);
+    judged("0000002A 00000001 00000001 00000007", 16, 0, 42, 2, zeros);
+    judged("0000002A 00000001 00000001 00000001 00000005", 20, 1, 42, 3, weak);
+    CHECK(read_at(yugerzat_judge, "0000002A 00000001 00000001 00000001 00000006", 0, 14) == YUGERZAT_UNDECLARED);
+    CHECK(refused_at(14, 16));
+    CHECK(read_at(yugerzat_judge, "0000002A 00000001 00000000 00000004 00000000 00000000", 0, 14) == YUGERZAT_UNDECLARED);
+    CHECK(refused_at(14, 12));
+}
+
+/* ---- yugerzat_read_auth_unix */
+
+static uint32_t credential(const char *message, size_t at, size_t count, size_t list)
+{
+    struct bytes b = hex(message);
+    fresh();
+    return yugerzat_read_auth_unix(b.at, b.count, at, count, info, list);
+}
+
+static void test_auth_unix(void)
+{
+    /* four bytes before, the credential of 32 bytes, and four that are left over in the body */
+    const char *message = "77777777 00000001 00000003 61626300 00000002 00000003 00000002 00000004 00000005 88888888";
+    static const uint64_t due[9] = {36, 1, 1, 12, 3, 2, 3, 28, 2};
+    static const uint64_t dirty[9] = {20, 0, 1, 8, 1, 2, 3, 24, 0};
+    struct bytes b = hex(message);
+    size_t n;
+    CHECK(credential(message, 4, 32, 9) == YUGERZAT_DONE && figures(9, due));
+    CHECK(credential(message, 4, 36, 9) == YUGERZAT_DONE && figures(9, due));
+    CHECK(credential(message, 4, 32, FIGURES) == YUGERZAT_DONE && figures(9, due));
+    for (n = 0; n < 32; n++) {
+        CHECK(credential(message, 4, n, 9) == YUGERZAT_ENDS);
+        CHECK(info[0] >= 4 && info[0] <= 4 + n && info[0] % 4 == 0 && refused_at(9, info[0]));
+    }
+    /* a body that is not inside the message */
+    CHECK(credential(message, 4, 37, 9) == YUGERZAT_ENDS && refused_at(9, 0));
+    CHECK(credential(message, 41, 0, 9) == YUGERZAT_ENDS && refused_at(9, 0));
+    CHECK(credential(message, SIZE_MAX, 1, 9) == YUGERZAT_ENDS && refused_at(9, 0));
+    CHECK(credential(message, 4, SIZE_MAX, 9) == YUGERZAT_ENDS && refused_at(9, 0));
+    /* one that is empty, at the end */
+    CHECK(credential(message, 40, 0, 9) == YUGERZAT_ENDS && refused_at(9, 40));
+    fresh();
+    CHECK(yugerzat_read_auth_unix(NULL, 0, 0, 0, info, 9) == YUGERZAT_ENDS && refused_at(9, 0));
+    /* padding that is not zero */
+    CHECK(credential("00000001 00000001 61000001 00000002 00000003 00000000", 0, 24, 9) == YUGERZAT_DONE);
+    CHECK(info[0] == 24 && info[1] == 0 && memcmp(info + 2, dirty + 2, 7 * sizeof *info) == 0);
+    CHECK(credential(message, 4, 32, 8) == YUGERZAT_SHORT_LIST && all_untouched());
+    CHECK(yugerzat_read_auth_unix(b.at, b.count, 4, 32, NULL, 0) == YUGERZAT_SHORT_LIST);
+    memset(long_message, 0, sizeof long_message);
+    fresh();
+    CHECK(yugerzat_read_auth_unix(long_message, YUGERZAT_LIMIT, 0, YUGERZAT_LIMIT, info, 9) == YUGERZAT_DONE && info[0] == 20);
+    fresh();
+    CHECK(yugerzat_read_auth_unix(long_message, YUGERZAT_LIMIT + 1, 0, 20, info, 9) == YUGERZAT_TOO_LONG && refused_at(9, 0));
+}
+
+/* ---- writers: what is common to all. A source stands in the closures below, so that one signature serves. */
+
+typedef uint32_t writer(const uint64_t *, size_t, uint8_t *, size_t, size_t, uint64_t *, size_t);
+
+static struct bytes source;
+
+static uint32_t write_diropargs3(const uint64_t *fields, size_t count, uint8_t *to, size_t room, size_t start, uint64_t *list,
+                                 size_t lists)
+{
+    return yugerzat_write_diropargs3(source.at, source.count, fields, count, to, room, start, list, lists);
+}
+
+static uint32_t write_call(const uint64_t *fields, size_t count, uint8_t *to, size_t room, size_t start, uint64_t *list,
+                           size_t lists)
+{
+    return yugerzat_write_call(source.at, source.count, fields, count, to, room, start, list, lists);
+}
+
+static int wide(writer *write, const uint64_t *fields, size_t count)
+{
+    fresh();
+    return write(fields, count, out, BUFFER, 0, info, 1) == YUGERZAT_WIDE_NUMBER && all_untouched();
+}
+
+static int writes(writer *write, const uint64_t *fields, size_t count, const char *due)
+{
+    struct bytes b = hex(due);
+    fresh();
+    return write(fields, count, out, BUFFER, 0, info, 1) == YUGERZAT_DONE && info[0] == b.count && out_is(0, b) &&
+           out_untouched_from(b.count);
+}
+
+static void writer_limits(const char *name, writer *write, const uint64_t *fields, size_t count, const char *due)
+{
+    struct bytes b = hex(due);
+    of = name;
+    CHECK(writes(write, fields, count, due) && info_untouched_from(1));
+    /* at a later place, into room that is just enough */
+    fresh();
+    CHECK(write(fields, count, out, b.count + 7, 7, info, 1) == YUGERZAT_DONE && info[0] == b.count + 7);
+    CHECK(out_untouched_before(7) && out_is(7, b) && out_untouched_from(b.count + 7));
+    /* one byte too short */
+    fresh();
+    CHECK(write(fields, count, out, b.count + 6, 7, info, 1) == YUGERZAT_NO_ROOM && refused_at(1, 0) && out_untouched_from(0));
+    fresh();
+    CHECK(write(fields, count, out, b.count - 1, 0, info, 1) == YUGERZAT_NO_ROOM && refused_at(1, 0) && out_untouched_from(0));
+    fresh();
+    CHECK(write(fields, count, NULL, 0, 0, info, 1) == YUGERZAT_NO_ROOM && refused_at(1, 0));
+    fresh();
+    CHECK(write(fields, count, out, 9, 9, info, 1) == YUGERZAT_NO_ROOM && refused_at(1, 0) && out_untouched_from(0));
+    fresh();
+    CHECK(write(fields, count, out, 9, 10, info, 1) == YUGERZAT_PAST_END && refused_at(1, 0) && out_untouched_from(0));
+    fresh();
+    CHECK(write(fields, count, out, BUFFER, SIZE_MAX, info, 1) == YUGERZAT_PAST_END && refused_at(1, 0) && out_untouched_from(0));
+    /* lists that are too short */
+    fresh();
+    CHECK(write(fields, count - 1, out, BUFFER, 0, info, 1) == YUGERZAT_SHORT_LIST && all_untouched());
+    CHECK(write(NULL, 0, out, BUFFER, 0, info, 1) == YUGERZAT_SHORT_LIST && all_untouched());
+    CHECK(write(fields, count, out, BUFFER, 0, NULL, 0) == YUGERZAT_SHORT_LIST && all_untouched());
+    of = "";
+}
+
+/* ---- fattr3 */
+
+static void test_fattr3(void)
+{
+    static const uint64_t due[19] = {84, 1, 2, 0x1ED, 3, 4, 5, 6, 7, 8, 9, 10, 11, 12, 13, 14, 15, 16, 17};
+    static const uint64_t largest[17] = {7,          0xFFFFFFFF, 0xFFFFFFFF, 0xFFFFFFFF, 0xFFFFFFFF, UINT64_MAX, UINT64_MAX,
+                                         0xFFFFFFFF, 0xFFFFFFFF, UINT64_MAX, UINT64_MAX, 0xFFFFFFFF, 0xFFFFFFFF, 0xFFFFFFFF,
+                                         0xFFFFFFFF, 0xFFFFFFFF, 0xFFFFFFFF};
+    const char *message = samples[YUGERZAT_FATTR3].message;
+    uint64_t fields[17], back[17];
+    size_t i;
+    reader_limits("yugerzat_read_fattr3", yugerzat_read_fattr3, YUGERZAT_FATTR3_FIGURES, message);
+    CHECK(read_at(yugerzat_read_fattr3, message, 0, 19) == YUGERZAT_DONE && figures(19, due));
+    CHECK(read_at(yugerzat_read_fattr3, "00000000 00000000", 0, 19) == YUGERZAT_UNDECLARED && refused_at(19, 0));
+    CHECK(read_at(yugerzat_read_fattr3, "00000000 00000008", 4, 19) == YUGERZAT_UNDECLARED && refused_at(19, 4));
+
+    memcpy(fields, due + YUGERZAT_FIELDS, sizeof fields);
+    writer_limits("yugerzat_write_fattr3", yugerzat_write_fattr3, fields, YUGERZAT_FATTR3_FIELDS, message);
+    /* each field at its largest number, and past it */
+    fresh();
+    CHECK(yugerzat_write_fattr3(largest, 17, out, YUGERZAT_FATTR3_SIZE_OF, 0, info, 1) == YUGERZAT_DONE && info[0] == 84);
+    CHECK(yugerzat_read_fattr3(out, 84, 0, info, 19) == YUGERZAT_DONE);
+    memcpy(back, info + YUGERZAT_FIELDS, sizeof back);
+    CHECK(memcmp(back, largest, sizeof back) == 0);
+    for (i = 0; i < 17; i++) {
+        memcpy(fields, largest, sizeof fields);
+        if (fields[i] == UINT64_MAX)
+            continue;
+        fields[i]++;
+        CHECK(wide(yugerzat_write_fattr3, fields, 17));
+        fields[i] = UINT64_MAX;
+        CHECK(wide(yugerzat_write_fattr3, fields, 17));
+    }
+    memcpy(fields, largest, sizeof fields);
+    fields[0] = 0;
+    CHECK(wide(yugerzat_write_fattr3, fields, 17));
+    fields[0] = 0x100000001;
+    CHECK(wide(yugerzat_write_fattr3, fields, 17));
+}
+
+/* ---- sattr3 */
+
+static void test_sattr3(void)
+{
+    static const uint64_t full[16] = {60, 1, 1, 0x1A4, 1, 1000, 1, 1001, 1, 4096, 2, 7, 8, 2, 9, 10};
+    static const uint64_t empty[16] = {24, 1};
+    static const uint64_t server[16] = {24, 1, 0, 0, 0, 0, 0, 0, 0, 0, 1, 0, 0, 1, 0, 0};
+    static const uint64_t truncation[16] = {32, 0, 0, 0, 0, 0, 0, 0, 1, 0};
+    static const size_t words[] = {1, 3, 5, 9, 10, 12, 13};
+    const char *message = samples[YUGERZAT_SATTR3].message;
+    const char *nothing = "00000000 00000000 00000000 00000000 00000000 00000000";
+    uint64_t fields[14];
+    size_t i;
+    reader_limits("yugerzat_read_sattr3", yugerzat_read_sattr3, YUGERZAT_SATTR3_FIGURES, message);
+    reader_limits("yugerzat_read_sattr3 of nothing", yugerzat_read_sattr3, YUGERZAT_SATTR3_FIGURES, nothing);
+    CHECK(read_at(yugerzat_read_sattr3, message, 0, 16) == YUGERZAT_DONE && figures(16, full));
+    CHECK(read_at(yugerzat_read_sattr3, nothing, 0, 16) == YUGERZAT_DONE && figures(16, empty));
+    CHECK(read_at(yugerzat_read_sattr3, "00000000 00000000 00000000 00000000 00000001 00000001", 0, 16) == YUGERZAT_DONE);
+    CHECK(figures(16, server));
+    /* the flag that is not 1: the truncation is not lost */
+    CHECK(read_at(yugerzat_read_sattr3, "00000000 00000000 00000000 FFFFFFFF 0000000000000000 00000000 00000000", 0, 16) ==
+          YUGERZAT_DONE);
+    CHECK(figures(16, truncation));
+    CHECK(read_at(yugerzat_read_sattr3, "00000000 00000000 00000000 00000000 00000003 00000000", 0, 16) == YUGERZAT_UNDECLARED);
+    CHECK(refused_at(16, 16));
+
+    memcpy(fields, full + YUGERZAT_FIELDS, sizeof fields);
+    writer_limits("yugerzat_write_sattr3", yugerzat_write_sattr3, fields, YUGERZAT_SATTR3_FIELDS, message);
+    for (i = 0; i < sizeof words / sizeof *words; i++) {
+        memcpy(fields, full + YUGERZAT_FIELDS, sizeof fields);
+        fields[words[i]] = 0x100000000;
+        CHECK(wide(yugerzat_write_sattr3, fields, 14));
+        fields[words[i]] = UINT64_MAX;
+        CHECK(wide(yugerzat_write_sattr3, fields, 14));
+    }
+    for (i = 8; i <= 11; i += 3) {
+        memcpy(fields, full + YUGERZAT_FIELDS, sizeof fields);
+        fields[i] = 3;
+        CHECK(wide(yugerzat_write_sattr3, fields, 14));
+        fields[i] = 0x100000002;
+        CHECK(wide(yugerzat_write_sattr3, fields, 14));
+    }
+    /* every flag but 0 is a yes; a size may have 64 bits */
+    memset(fields, 0, sizeof fields);
+    fields[6] = UINT64_MAX;
+    fields[7] = UINT64_MAX;
+    CHECK(writes(yugerzat_write_sattr3, fields, 14,
+                 "00000000 00000000 00000000 00000001 FFFFFFFFFFFFFFFF 00000000 00000000"));
+    /* what is not set is not looked at */
+    memset(fields, 0, sizeof fields);
+    fields[1] = fields[3] = fields[5] = fields[7] = fields[9] = fields[10] = fields[12] = fields[13] = UINT64_MAX;
+    writer_limits("yugerzat_write_sattr3 of nothing", yugerzat_write_sattr3, fields, 14, nothing);
+    fields[8] = YUGERZAT_SET_TO_SERVER_TIME;
+    CHECK(writes(yugerzat_write_sattr3, fields, 14, "00000000 00000000 00000000 00000000 00000001 00000000"));
+}
+
+/* ---- diropargs3 */
+
+static void test_diropargs3(void)
+{
+    static const uint64_t due[6] = {20, 1, 4, 4, 12, 5};
+    static const uint64_t dirty[6] = {20, 0, 4, 4, 12, 5};
+    static const uint64_t empty[4] = {0};
+    const char *message = samples[YUGERZAT_DIROPARGS3].message;
+    uint64_t fields[4] = {4, 4, 12, 5};
+    size_t i;
+    reader_limits("yugerzat_read_diropargs3", yugerzat_read_diropargs3, YUGERZAT_DIROPARGS3_FIGURES, message);
+    CHECK(read_at(yugerzat_read_diropargs3, message, 0, 6) == YUGERZAT_DONE && figures(6, due));
+    CHECK(read_at(yugerzat_read_diropargs3, "00000004 0A0B0C0D 00000005 68656C6C 6F0000FF", 0, 6) == YUGERZAT_DONE);
+    CHECK(figures(6, dirty));
+    CHECK(read_at(yugerzat_read_diropargs3, "00000000 FFFFFFFF 00000000", 0, 6) == YUGERZAT_ENDS && refused_at(6, 4));
+
+    source = hex(message);
+    writer_limits("yugerzat_write_diropargs3", write_diropargs3, fields, YUGERZAT_DIROPARGS3_FIELDS, message);
+    /* pieces: at the end, one byte past it, and past every number */
+    fields[0] = 20;
+    fields[1] = 0;
+    CHECK(writes(write_diropargs3, fields, 4, "00000000 00000005 68656C6C 6F000000"));
+    for (i = 0; i < 4; i += 2) {
+        static const uint64_t outside[][2] = {{21, 0}, {20, 1}, {0, 21}, {1, 20}, {UINT64_MAX, 1}, {1, UINT64_MAX},
+                                              {UINT64_MAX, UINT64_MAX}, {0x100000000, 0}, {0, 0x100000000}};
+        size_t k;
+        for (k = 0; k < sizeof outside / sizeof *outside; k++) {
+            memset(fields, 0, sizeof fields);
+            fields[i] = outside[k][0];
+            fields[i + 1] = outside[k][1];
+            fresh();
+            CHECK(write_diropargs3(fields, 4, out, BUFFER, 0, info, 1) == YUGERZAT_OUTSIDE);
+            CHECK(refused_at(1, 0) && out_untouched_from(0));
+        }
+    }
+    fresh();
+    CHECK(yugerzat_write_diropargs3(NULL, 0, empty, 4, out, BUFFER, 0, info, 1) == YUGERZAT_DONE && info[0] == 8);
+    CHECK(out_is(0, hex("00000000 00000000")) && out_untouched_from(8));
+
+    /* an encoding as long as may be, one byte longer, and a source that is too long; the order of the refusals */
+    memset(long_message, 0x5A, sizeof long_message);
+    memset(long_out, 0xEE, sizeof long_out);
+    fields[0] = fields[2] = 0;
+    fields[1] = YUGERZAT_LIMIT - 8;
+    fields[3] = 0;
+    fresh();
+    CHECK(yugerzat_write_diropargs3(long_message, YUGERZAT_LIMIT, fields, 4, long_out, sizeof long_out, 0, info, 1) == YUGERZAT_DONE);
+    CHECK(info[0] == YUGERZAT_LIMIT && long_out[YUGERZAT_LIMIT] == 0xEE);
+    fields[1] = YUGERZAT_LIMIT - 7;
+    memset(long_out, 0xEE, sizeof long_out);
+    fresh();
+    CHECK(yugerzat_write_diropargs3(long_message, YUGERZAT_LIMIT, fields, 4, long_out, sizeof long_out, 0, info, 1) == YUGERZAT_TOO_LONG);
+    CHECK(refused_at(1, 0) && long_out[0] == 0xEE && memcmp(long_out, long_out + 1, sizeof long_out - 1) == 0);
+    fresh();
+    CHECK(yugerzat_write_diropargs3(long_message, YUGERZAT_LIMIT + 1, empty, 4, out, BUFFER, 0, info, 1) == YUGERZAT_TOO_LONG);
+    CHECK(refused_at(1, 0) && out_untouched_from(0));
+    fields[0] = UINT64_MAX;
+    fresh();
+    CHECK(yugerzat_write_diropargs3(long_message, YUGERZAT_LIMIT + 1, fields, 4, out, 0, 1, info, 1) == YUGERZAT_PAST_END);
+    CHECK(yugerzat_write_diropargs3(long_message, YUGERZAT_LIMIT + 1, fields, 4, out, 0, 0, info, 1) == YUGERZAT_TOO_LONG);
+    CHECK(yugerzat_write_diropargs3(long_message, YUGERZAT_LIMIT, fields, 4, out, 0, 0, info, 1) == YUGERZAT_OUTSIDE);
+    fields[0] = 0;
+    CHECK(yugerzat_write_diropargs3(long_message, YUGERZAT_LIMIT, fields, 4, out, 0, 0, info, 1) == YUGERZAT_TOO_LONG);
+    fields[1] = YUGERZAT_LIMIT - 8;
+    CHECK(yugerzat_write_diropargs3(long_message, YUGERZAT_LIMIT, fields, 4, out, 0, 0, info, 1) == YUGERZAT_NO_ROOM);
+    CHECK(refused_at(1, 0) && out_untouched_from(0));
+}
+
+/* ---- call */
+
+static void test_call(void)
+{
+    static const uint64_t call[11] = {42, 2, 100003, 3, 1, 1, 1, 3, 0, 0, 0};
+    static const uint64_t nothing[11] = {0};
+    static const char *const due =
+        "0000002A 00000000 00000002 000186A3 00000003 00000001 00000001 00000003 AABBCC00 00000000 00000000";
+    uint64_t fields[11];
+    size_t i;
+    source = hex("99AABBCC");
+    writer_limits("yugerzat_write_call", write_call, call, YUGERZAT_WRITE_CALL_FIELDS, due);
+    fresh();
+    CHECK(yugerzat_write_call(NULL, 0, nothing, 11, out, BUFFER, 0, info, 1) == YUGERZAT_DONE && info[0] == 40);
+    CHECK(out_untouched_from(40) && yugerzat_judge(out, 40, 0, info, 14) == YUGERZAT_DONE && info[1] == 1);
+    for (i = 0; i < 5; i++) {
+        memcpy(fields, call, sizeof fields);
+        fields[i] = 0x100000000;
+        CHECK(wide(write_call, fields, 11));
+        fields[i] = UINT64_MAX;
+        CHECK(wide(write_call, fields, 11));
+        fields[i] = 0xFFFFFFFF;
+        fresh();
+        CHECK(write_call(fields, 11, out, BUFFER, 0, info, 1) == YUGERZAT_DONE);
+    }
+    for (i = 5; i <= 8; i += 3) {
+        memcpy(fields, call, sizeof fields);
+        fields[i] = 4;
+        CHECK(wide(write_call, fields, 11));
+        fields[i] = 0x100000000;
+        CHECK(wide(write_call, fields, 11));
+        fields[i] = 3;
+        fresh();
+        CHECK(write_call(fields, 11, out, BUFFER, 0, info, 1) == YUGERZAT_DONE);
+        memcpy(fields, call, sizeof fields);
+        fields[i + 1] = 2;
+        fields[i + 2] = 3;
+        fresh();
+        CHECK(write_call(fields, 11, out, BUFFER, 0, info, 1) == YUGERZAT_OUTSIDE && refused_at(1, 0) && out_untouched_from(0));
+        fields[i + 1] = UINT64_MAX;
+        fresh();
+        CHECK(write_call(fields, 11, out, BUFFER, 0, info, 1) == YUGERZAT_OUTSIDE && refused_at(1, 0) && out_untouched_from(0));
+    }
+    memset(long_message, 0x5A, sizeof long_message);
+    memcpy(fields, nothing, sizeof fields);
+    fields[7] = YUGERZAT_LIMIT - 40;
+    memset(long_out, 0xEE, sizeof long_out);
+    fresh();
+    CHECK(yugerzat_write_call(long_message, YUGERZAT_LIMIT, fields, 11, long_out, sizeof long_out, 0, info, 1) == YUGERZAT_DONE);
+    CHECK(info[0] == YUGERZAT_LIMIT && long_out[YUGERZAT_LIMIT] == 0xEE);
+    fields[7]++;
+    fresh();
+    CHECK(yugerzat_write_call(long_message, YUGERZAT_LIMIT, fields, 11, out, BUFFER, 0, info, 1) == YUGERZAT_TOO_LONG);
+    CHECK(refused_at(1, 0) && out_untouched_from(0));
+    fresh();
+    CHECK(yugerzat_write_call(long_message, YUGERZAT_LIMIT + 1, nothing, 11, out, BUFFER, 0, info, 1) == YUGERZAT_TOO_LONG);
+    CHECK(refused_at(1, 0) && out_untouched_from(0));
+}
+
+/* ---- yugerzat_part */
+
+static int part(size_t length, size_t at, size_t count, uint32_t answer, uint64_t first, uint64_t second)
+{
+    uint64_t due[2];
+    due[0] = first;
+    due[1] = second;
+    fresh();
+    return yugerzat_part(length ? out : NULL, length, at, count, info, 2) == answer && figures(2, due) && out_untouched_from(0);
+}
+
+static void test_part(void)
+{
+    CHECK(part(5, 1, 3, YUGERZAT_DONE, 1, 3));
+    CHECK(part(5, 0, 5, YUGERZAT_DONE, 0, 5));
+    CHECK(part(5, 5, 0, YUGERZAT_DONE, 5, 0));
+    CHECK(part(5, 3, 3, YUGERZAT_OUTSIDE, 0, 0));
+    CHECK(part(5, 6, 0, YUGERZAT_OUTSIDE, 0, 0));
+    CHECK(part(5, SIZE_MAX, 1, YUGERZAT_OUTSIDE, 0, 0));
+    CHECK(part(5, 1, SIZE_MAX, YUGERZAT_OUTSIDE, 0, 0));
+    CHECK(part(5, SIZE_MAX, SIZE_MAX, YUGERZAT_OUTSIDE, 0, 0));
+    CHECK(part(0, 0, 0, YUGERZAT_DONE, 0, 0));
+    CHECK(part(0, 0, 1, YUGERZAT_OUTSIDE, 0, 0));
+    fresh();
+    CHECK(yugerzat_part(out, 5, 0, 5, info, 1) == YUGERZAT_SHORT_LIST && all_untouched());
+    CHECK(yugerzat_part(out, 5, 0, 5, NULL, 0) == YUGERZAT_SHORT_LIST && all_untouched());
+}
+
+int main(void)
+{
+    test_read();
+    test_fragment();
+    test_feed();
+    test_choose();
+    test_judge();
+    test_auth_unix();
+    test_fattr3();
+    test_sattr3();
+    test_diropargs3();
+    test_call();
+    test_part();
+    printf("%lu passed, %lu failed\n", passed, failed);
+    return failed ? EXIT_FAILURE : EXIT_SUCCESS;
+}

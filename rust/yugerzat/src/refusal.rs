@@ -1,0 +1,60 @@
+use std::error::Error;
+use std::fmt;
+
+/// Why nothing was handed over. The numbers are those of the project's scope paper, 1 to 9.
+///
+/// ```
+/// use yugerzat::{rewrite, Kind, Refusal};
+///
+/// let refusal = rewrite(Kind::Opaque, &[0, 0, 0, 1, 0xAA, 0, 0], 0, &mut [0; 64]).unwrap_err();
+/// assert_eq!(refusal, Refusal { number: 1, place: Some(0) });
+/// assert_eq!(refusal.to_string(), "refusal 1 at place 0: the message ends inside an item");
+/// ```
+#[derive(Clone, Copy, Debug, PartialEq, Eq, Hash)]
+pub struct Refusal {
+    /// 1 to 9.
+    pub number: u32,
+    /// For 1, the place of the item's first byte; for 2, that of the undeclared word. The others have none.
+    pub place: Option<usize>,
+}
+
+impl Refusal {
+    /// A lent message, an asked capacity or an encoding is over [`LIMIT`](crate::LIMIT) bytes.
+    pub(crate) const TOO_LONG: Refusal = Refusal { number: 3, place: None };
+
+    /// The refusal of an answer, whose first figure is the place where it has one.
+    pub(crate) fn of(answer: u32, place: u64) -> Refusal {
+        // 253 to 255 blame the call, and the types of this crate let no such call through.
+        assert!((1..=9).contains(&answer), "the library answered {answer}, which no call of this crate can cause");
+        Refusal { number: answer, place: (answer <= 2).then_some(place as usize) }
+    }
+
+    /// What the number means.
+    #[must_use]
+    pub fn meaning(self) -> &'static str {
+        match self.number {
+            1 => "the message ends inside an item",
+            2 => "a number that must be declared is not",
+            3 => "a message, a source, a capacity or an encoding is over 1,048,576 bytes",
+            4 => "a piece lies outside its source",
+            5 => "too little room from the asked place on",
+            6 => "the assembler's state does not fit",
+            7 => "a fragment would pass the end of the record buffer",
+            8 => "a REPLY reached the choice of program",
+            9 => "a start place is past the end",
+            _ => "no such refusal",
+        }
+    }
+}
+
+impl fmt::Display for Refusal {
+    fn fmt(&self, f: &mut fmt::Formatter<'_>) -> fmt::Result {
+        write!(f, "refusal {}", self.number)?;
+        if let Some(place) = self.place {
+            write!(f, " at place {place}")?;
+        }
+        write!(f, ": {}", self.meaning())
+    }
+}
+
+impl Error for Refusal {}
