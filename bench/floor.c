@@ -1,0 +1,737 @@
+/* The floor: what a careful hand would write in C for the same duty. Straight-line code, one test for room before each
+ * item, the same refusals, the same figures handed over as by the functions of include/yugerzat.h. */
+#include <stddef.h>
+#include <stdint.h>
+#include <string.h>
+
+#define LIMIT 1048576u
+#define SHORT_LIST 254u
+#define WIDE_NUMBER 253u
+
+/* ---- items */
+
+static inline uint32_t word_of(const uint8_t *p)
+{
+    uint32_t v;
+    memcpy(&v, p, 4);
+    return __builtin_bswap32(v);
+}
+
+static inline uint64_t hyper_of(const uint8_t *p)
+{
+    uint64_t v;
+    memcpy(&v, p, 8);
+    return __builtin_bswap64(v);
+}
+
+static inline uint8_t *lay_word(uint8_t *p, uint32_t v)
+{
+    v = __builtin_bswap32(v);
+    memcpy(p, &v, 4);
+    return p + 4;
+}
+
+static inline uint8_t *lay_hyper(uint8_t *p, uint64_t v)
+{
+    v = __builtin_bswap64(v);
+    memcpy(p, &v, 8);
+    return p + 8;
+}
+
+/* A reading: the message, the place of the next item, what was loose; on a refusal, where. */
+struct reading {
+    const uint8_t *src;
+    size_t len;
+    size_t at;
+    uint32_t loose;
+};
+
+struct piece {
+    size_t at;
+    size_t count;
+};
+
+#define REFUSE(number, place) return (r->at = (place), (number))
+#define WORD(v)                        \
+    do {                               \
+        if (r->len - r->at < 4)        \
+            REFUSE(1, r->at);          \
+        (v) = word_of(r->src + r->at); \
+        r->at += 4;                    \
+    } while (0)
+#define HYPER(v)                        \
+    do {                                \
+        if (r->len - r->at < 8)         \
+            REFUSE(1, r->at);           \
+        (v) = hyper_of(r->src + r->at); \
+        r->at += 8;                     \
+    } while (0)
+#define TAKE(call)                    \
+    do {                              \
+        uint32_t number_ = (call);    \
+        if (number_)                  \
+            return number_;           \
+    } while (0)
+
+static inline uint32_t take_flag(struct reading *r, uint32_t *flag)
+{
+    uint32_t v;
+    WORD(v);
+    *flag = v != 0;
+    r->loose |= v > 1;
+    return 0;
+}
+
+static inline uint32_t take_opaque(struct reading *r, struct piece *piece)
+{
+    if (r->len - r->at < 4)
+        REFUSE(1, r->at);
+    size_t n = word_of(r->src + r->at);
+    size_t padded = (n + 3) & ~(size_t)3;
+    if (r->len - r->at - 4 < padded)
+        REFUSE(1, r->at);
+    piece->at = r->at + 4;
+    piece->count = n;
+    r->at += 4 + padded;
+    if (n & 3)
+        r->loose |= (word_of(r->src + r->at - 4) & (0xFFFFFFFFu >> (8 * (n & 3)))) != 0;
+    return 0;
+}
+
+static inline uint8_t *lay_opaque(uint8_t *p, const uint8_t *src, struct piece piece)
+{
+    size_t padded = (piece.count + 3) & ~(size_t)3;
+    p = lay_word(p, (uint32_t)piece.count);
+    if (padded)
+        lay_word(p + padded - 4, 0);
+    memcpy(p, src + piece.at, piece.count);
+    return p + padded;
+}
+
+static inline size_t padded_size(struct piece piece)
+{
+    return 4 + ((piece.count + 3) & ~(size_t)3);
+}
+
+/* A refused reading: its place, then zeros. */
+__attribute__((noinline, cold)) static uint32_t refused(uint64_t *info, size_t count, uint32_t number, size_t place)
+{
+    memset(info, 0, count * sizeof *info);
+    info[0] = number < 3 ? place : 0;
+    return number;
+}
+
+#define OPEN(count)                               \
+    struct reading reading = {src, len, at, 0};   \
+    struct reading *r = &reading;                 \
+    if (infos < (count))                          \
+        return SHORT_LIST;                        \
+    if (len > LIMIT)                              \
+        return refused(info, (count), 3, 0);      \
+    if (at > len)                                 \
+        return refused(info, (count), 9, 0)
+#define READ(count, call)                             \
+    do {                                              \
+        uint32_t number_ = (call);                    \
+        if (number_)                                  \
+            return refused(info, (count), number_, r->at); \
+    } while (0)
+#define TOOK(next, plain, end) \
+    do {                       \
+        info[0] = (next);      \
+        info[1] = (plain);     \
+        info[2] = (end);       \
+        return 0;              \
+    } while (0)
+
+/* ---- fattr3 */
+
+struct fattr3 {
+    uint32_t type, mode, nlink, uid, gid;
+    uint64_t size, used;
+    uint32_t specdata1, specdata2;
+    uint64_t fsid, fileid;
+    uint32_t atime, atime_n, mtime, mtime_n, ctime, ctime_n;
+};
+
+static inline uint32_t take_fattr3(struct reading *r, struct fattr3 *v)
+{
+    WORD(v->type);
+    if (v->type - 1 > 6)
+        REFUSE(2, r->at - 4);
+    WORD(v->mode);
+    WORD(v->nlink);
+    WORD(v->uid);
+    WORD(v->gid);
+    HYPER(v->size);
+    HYPER(v->used);
+    WORD(v->specdata1);
+    WORD(v->specdata2);
+    HYPER(v->fsid);
+    HYPER(v->fileid);
+    WORD(v->atime);
+    WORD(v->atime_n);
+    WORD(v->mtime);
+    WORD(v->mtime_n);
+    WORD(v->ctime);
+    WORD(v->ctime_n);
+    return 0;
+}
+
+static inline void lay_fattr3(uint8_t *p, const struct fattr3 *v)
+{
+    p = lay_word(p, v->type);
+    p = lay_word(p, v->mode);
+    p = lay_word(p, v->nlink);
+    p = lay_word(p, v->uid);
+    p = lay_word(p, v->gid);
+    p = lay_hyper(p, v->size);
+    p = lay_hyper(p, v->used);
+    p = lay_word(p, v->specdata1);
+    p = lay_word(p, v->specdata2);
+    p = lay_hyper(p, v->fsid);
+    p = lay_hyper(p, v->fileid);
+    p = lay_word(p, v->atime);
+    p = lay_word(p, v->atime_n);
+    p = lay_word(p, v->mtime);
+    p = lay_word(p, v->mtime_n);
+    p = lay_word(p, v->ctime);
+    lay_word(p, v->ctime_n);
+}
+
+uint32_t floor_read_fattr3(const uint8_t *src, size_t len, size_t at, uint64_t *info, size_t infos)
+{
+    struct fattr3 v;
+    OPEN(19);
+    READ(19, take_fattr3(r, &v));
+    info[0] = r->at;
+    info[1] = 1;
+    info[2] = v.type;
+    info[3] = v.mode;
+    info[4] = v.nlink;
+    info[5] = v.uid;
+    info[6] = v.gid;
+    info[7] = v.size;
+    info[8] = v.used;
+    info[9] = v.specdata1;
+    info[10] = v.specdata2;
+    info[11] = v.fsid;
+    info[12] = v.fileid;
+    info[13] = v.atime;
+    info[14] = v.atime_n;
+    info[15] = v.mtime;
+    info[16] = v.mtime_n;
+    info[17] = v.ctime;
+    info[18] = v.ctime_n;
+    return 0;
+}
+
+uint32_t floor_write_fattr3(const uint64_t *f, size_t fields, uint8_t *out, size_t room, size_t start, uint64_t *info,
+                            size_t infos)
+{
+    if (fields < 17 || infos < 1)
+        return SHORT_LIST;
+    if (f[0] - 1 > 6)
+        return WIDE_NUMBER;
+    if ((f[1] | f[2] | f[3] | f[4] | f[7] | f[8] | f[11] | f[12] | f[13] | f[14] | f[15] | f[16]) >> 32)
+        return WIDE_NUMBER;
+    if (start > room)
+        return refused(info, 1, 9, 0);
+    if (room - start < 84)
+        return refused(info, 1, 5, 0);
+    struct fattr3 v = {
+        (uint32_t)f[0], (uint32_t)f[1], (uint32_t)f[2], (uint32_t)f[3],  (uint32_t)f[4],  f[5],
+        f[6],           (uint32_t)f[7], (uint32_t)f[8], f[9],            f[10],           (uint32_t)f[11],
+        (uint32_t)f[12], (uint32_t)f[13], (uint32_t)f[14], (uint32_t)f[15], (uint32_t)f[16],
+    };
+    lay_fattr3(out + start, &v);
+    info[0] = start + 84;
+    return 0;
+}
+
+uint32_t floor_copy_fattr3(const uint8_t *src, size_t len, size_t at, uint8_t *out, size_t room, uint64_t *info,
+                           size_t infos)
+{
+    struct fattr3 v;
+    OPEN(3);
+    READ(3, take_fattr3(r, &v));
+    if (room < 84)
+        return refused(info, 3, 5, 0);
+    lay_fattr3(out, &v);
+    TOOK(r->at, 1, 84);
+}
+
+/* ---- sattr3 */
+
+struct sattr3 {
+    uint32_t mode_set, mode, uid_set, uid, gid_set, gid, size_set;
+    uint64_t size;
+    uint32_t atime_how, atime, atime_n, mtime_how, mtime, mtime_n;
+};
+
+static inline uint32_t take_time(struct reading *r, uint32_t *how, uint32_t *seconds, uint32_t *nseconds)
+{
+    *seconds = 0;
+    *nseconds = 0;
+    WORD(*how);
+    if (*how > 2)
+        REFUSE(2, r->at - 4);
+    if (*how == 2) {
+        WORD(*seconds);
+        WORD(*nseconds);
+    }
+    return 0;
+}
+
+static inline uint32_t take_sattr3(struct reading *r, struct sattr3 *v)
+{
+    memset(v, 0, sizeof *v);
+    TAKE(take_flag(r, &v->mode_set));
+    if (v->mode_set)
+        WORD(v->mode);
+    TAKE(take_flag(r, &v->uid_set));
+    if (v->uid_set)
+        WORD(v->uid);
+    TAKE(take_flag(r, &v->gid_set));
+    if (v->gid_set)
+        WORD(v->gid);
+    TAKE(take_flag(r, &v->size_set));
+    if (v->size_set)
+        HYPER(v->size);
+    TAKE(take_time(r, &v->atime_how, &v->atime, &v->atime_n));
+    TAKE(take_time(r, &v->mtime_how, &v->mtime, &v->mtime_n));
+    return 0;
+}
+
+static inline size_t size_of_sattr3(const struct sattr3 *v)
+{
+    return 24 + (v->mode_set ? 4 : 0) + (v->uid_set ? 4 : 0) + (v->gid_set ? 4 : 0) + (v->size_set ? 8 : 0) +
+           (v->atime_how == 2 ? 8 : 0) + (v->mtime_how == 2 ? 8 : 0);
+}
+
+static inline void lay_sattr3(uint8_t *p, const struct sattr3 *v)
+{
+    p = lay_word(p, v->mode_set);
+    if (v->mode_set)
+        p = lay_word(p, v->mode);
+    p = lay_word(p, v->uid_set);
+    if (v->uid_set)
+        p = lay_word(p, v->uid);
+    p = lay_word(p, v->gid_set);
+    if (v->gid_set)
+        p = lay_word(p, v->gid);
+    p = lay_word(p, v->size_set);
+    if (v->size_set)
+        p = lay_hyper(p, v->size);
+    p = lay_word(p, v->atime_how);
+    if (v->atime_how == 2) {
+        p = lay_word(p, v->atime);
+        p = lay_word(p, v->atime_n);
+    }
+    p = lay_word(p, v->mtime_how);
+    if (v->mtime_how == 2) {
+        p = lay_word(p, v->mtime);
+        p = lay_word(p, v->mtime_n);
+    }
+}
+
+uint32_t floor_read_sattr3(const uint8_t *src, size_t len, size_t at, uint64_t *info, size_t infos)
+{
+    struct sattr3 v;
+    OPEN(16);
+    READ(16, take_sattr3(r, &v));
+    info[0] = r->at;
+    info[1] = !r->loose;
+    info[2] = v.mode_set;
+    info[3] = v.mode;
+    info[4] = v.uid_set;
+    info[5] = v.uid;
+    info[6] = v.gid_set;
+    info[7] = v.gid;
+    info[8] = v.size_set;
+    info[9] = v.size;
+    info[10] = v.atime_how;
+    info[11] = v.atime;
+    info[12] = v.atime_n;
+    info[13] = v.mtime_how;
+    info[14] = v.mtime;
+    info[15] = v.mtime_n;
+    return 0;
+}
+
+uint32_t floor_write_sattr3(const uint64_t *f, size_t fields, uint8_t *out, size_t room, size_t start, uint64_t *info,
+                            size_t infos)
+{
+    if (fields < 14 || infos < 1)
+        return SHORT_LIST;
+    struct sattr3 v = {0};
+    v.mode_set = f[0] != 0;
+    v.uid_set = f[2] != 0;
+    v.gid_set = f[4] != 0;
+    v.size_set = f[6] != 0;
+    if ((v.mode_set && f[1] >> 32) || (v.uid_set && f[3] >> 32) || (v.gid_set && f[5] >> 32))
+        return WIDE_NUMBER;
+    if (f[8] > 2 || f[11] > 2)
+        return WIDE_NUMBER;
+    if ((f[8] == 2 && (f[9] | f[10]) >> 32) || (f[11] == 2 && (f[12] | f[13]) >> 32))
+        return WIDE_NUMBER;
+    v.mode = (uint32_t)f[1];
+    v.uid = (uint32_t)f[3];
+    v.gid = (uint32_t)f[5];
+    v.size = f[7];
+    v.atime_how = (uint32_t)f[8];
+    v.atime = (uint32_t)f[9];
+    v.atime_n = (uint32_t)f[10];
+    v.mtime_how = (uint32_t)f[11];
+    v.mtime = (uint32_t)f[12];
+    v.mtime_n = (uint32_t)f[13];
+    size_t size = size_of_sattr3(&v);
+    if (start > room)
+        return refused(info, 1, 9, 0);
+    if (room - start < size)
+        return refused(info, 1, 5, 0);
+    lay_sattr3(out + start, &v);
+    info[0] = start + size;
+    return 0;
+}
+
+uint32_t floor_copy_sattr3(const uint8_t *src, size_t len, size_t at, uint8_t *out, size_t room, uint64_t *info,
+                           size_t infos)
+{
+    struct sattr3 v;
+    OPEN(3);
+    READ(3, take_sattr3(r, &v));
+    /* What is read is as long as what is written: a flag is a word however it is set. */
+    size_t size = r->at - at;
+    if (room < size)
+        return refused(info, 3, 5, 0);
+    lay_sattr3(out, &v);
+    TOOK(r->at, !r->loose, size);
+}
+
+/* ---- diropargs3, auth_unix, opaque */
+
+uint32_t floor_read_diropargs3(const uint8_t *src, size_t len, size_t at, uint64_t *info, size_t infos)
+{
+    struct piece dir, name;
+    OPEN(6);
+    READ(6, take_opaque(r, &dir));
+    READ(6, take_opaque(r, &name));
+    info[0] = r->at;
+    info[1] = !r->loose;
+    info[2] = dir.at;
+    info[3] = dir.count;
+    info[4] = name.at;
+    info[5] = name.count;
+    return 0;
+}
+
+/* Whether a piece lies in a message. */
+static inline int inside(struct piece piece, size_t len)
+{
+    return piece.at <= len && piece.count <= len - piece.at;
+}
+
+uint32_t floor_write_diropargs3(const uint8_t *src, size_t len, const uint64_t *f, size_t fields, uint8_t *out,
+                                size_t room, size_t start, uint64_t *info, size_t infos)
+{
+    if (fields < 4 || infos < 1)
+        return SHORT_LIST;
+    struct piece dir = {f[0], f[1]}, name = {f[2], f[3]};
+    if (start > room)
+        return refused(info, 1, 9, 0);
+    if (len > LIMIT)
+        return refused(info, 1, 3, 0);
+    if (!inside(dir, len) || !inside(name, len))
+        return refused(info, 1, 4, 0);
+    size_t size = padded_size(dir) + padded_size(name);
+    if (size > LIMIT)
+        return refused(info, 1, 3, 0);
+    if (room - start < size)
+        return refused(info, 1, 5, 0);
+    lay_opaque(lay_opaque(out + start, src, dir), src, name);
+    info[0] = start + size;
+    return 0;
+}
+
+uint32_t floor_copy_diropargs3(const uint8_t *src, size_t len, size_t at, uint8_t *out, size_t room, uint64_t *info,
+                               size_t infos)
+{
+    struct piece dir, name;
+    OPEN(3);
+    READ(3, take_opaque(r, &dir));
+    READ(3, take_opaque(r, &name));
+    size_t size = r->at - at;
+    if (room < size)
+        return refused(info, 3, 5, 0);
+    lay_opaque(lay_opaque(out, src, dir), src, name);
+    TOOK(r->at, !r->loose, size);
+}
+
+struct auth_unix {
+    uint32_t stamp, uid, gid;
+    struct piece name, gids;
+};
+
+static inline uint32_t take_auth_unix(struct reading *r, struct auth_unix *v)
+{
+    WORD(v->stamp);
+    TAKE(take_opaque(r, &v->name));
+    WORD(v->uid);
+    WORD(v->gid);
+    if (r->len - r->at < 4)
+        REFUSE(1, r->at);
+    size_t n = word_of(r->src + r->at);
+    if ((r->len - r->at - 4) / 4 < n)
+        REFUSE(1, r->at);
+    v->gids.at = r->at + 4;
+    v->gids.count = n;
+    r->at += 4 + 4 * n;
+    return 0;
+}
+
+uint32_t floor_read_auth_unix(const uint8_t *src, size_t len, size_t at, size_t count, uint64_t *info, size_t infos)
+{
+    struct auth_unix v;
+    if (infos < 9)
+        return SHORT_LIST;
+    if (len > LIMIT)
+        return refused(info, 9, 3, 0);
+    struct reading reading = {src, at + count, at, 0};
+    struct reading *r = &reading;
+    if (at > len || count > len - at)
+        return refused(info, 9, 1, 0);
+    READ(9, take_auth_unix(r, &v));
+    info[0] = r->at;
+    info[1] = !r->loose;
+    info[2] = v.stamp;
+    info[3] = v.name.at;
+    info[4] = v.name.count;
+    info[5] = v.uid;
+    info[6] = v.gid;
+    info[7] = v.gids.at;
+    info[8] = v.gids.count;
+    return 0;
+}
+
+uint32_t floor_copy_auth_unix(const uint8_t *src, size_t len, size_t at, uint8_t *out, size_t room, uint64_t *info,
+                              size_t infos)
+{
+    struct auth_unix v;
+    OPEN(3);
+    READ(3, take_auth_unix(r, &v));
+    size_t size = r->at - at;
+    if (room < size)
+        return refused(info, 3, 5, 0);
+    uint8_t *p = lay_opaque(lay_word(out, v.stamp), src, v.name);
+    p = lay_word(lay_word(lay_word(p, v.uid), v.gid), (uint32_t)v.gids.count);
+    memcpy(p, src + v.gids.at, 4 * v.gids.count);
+    TOOK(r->at, !r->loose, size);
+}
+
+uint32_t floor_copy_opaque(const uint8_t *src, size_t len, size_t at, uint8_t *out, size_t room, uint64_t *info,
+                           size_t infos)
+{
+    struct piece piece;
+    OPEN(3);
+    READ(3, take_opaque(r, &piece));
+    size_t size = r->at - at;
+    if (room < size)
+        return refused(info, 3, 5, 0);
+    lay_opaque(out, src, piece);
+    TOOK(r->at, !r->loose, size);
+}
+
+/* ---- rpc_msg */
+
+struct auth {
+    uint32_t flavor;
+    struct piece body;
+};
+
+/* tag 0: a call. 1: accepted. 2: denied by version. 3: denied by authentication. */
+struct message {
+    uint32_t xid, tag;
+    uint32_t rpcvers, prog, vers, proc;
+    struct auth cred, verf;
+    uint32_t stat, low, high;
+};
+
+static inline uint32_t take_auth(struct reading *r, struct auth *v)
+{
+    WORD(v->flavor);
+    if (v->flavor > 3)
+        REFUSE(2, r->at - 4);
+    return take_opaque(r, &v->body);
+}
+
+static inline uint32_t take_message(struct reading *r, struct message *v)
+{
+    uint32_t tag;
+    memset(v, 0, sizeof *v);
+    WORD(v->xid);
+    WORD(tag);
+    if (tag == 0) {
+        WORD(v->rpcvers);
+        WORD(v->prog);
+        WORD(v->vers);
+        WORD(v->proc);
+        TAKE(take_auth(r, &v->cred));
+        return take_auth(r, &v->verf);
+    }
+    if (tag > 1) {
+        r->loose = 1;
+        return 0;
+    }
+    v->tag = 1;
+    WORD(tag);
+    if (tag == 0) {
+        TAKE(take_auth(r, &v->verf));
+        WORD(v->stat);
+        if (v->stat == 2) {
+            WORD(v->low);
+            WORD(v->high);
+        } else if (v->stat > 4) {
+            v->stat = 4;
+            r->loose = 1;
+        }
+        return 0;
+    }
+    if (tag > 1) {
+        r->loose = 1;
+        return 0;
+    }
+    WORD(tag);
+    v->tag = 2;
+    if (tag == 0) {
+        WORD(v->low);
+        WORD(v->high);
+    } else if (tag == 1) {
+        v->tag = 3;
+        WORD(v->stat);
+        if (v->stat - 1 > 4)
+            REFUSE(2, r->at - 4);
+    } else {
+        r->loose = 1;
+    }
+    return 0;
+}
+
+uint32_t floor_judge(const uint8_t *src, size_t len, size_t at, uint64_t *info, size_t infos)
+{
+    struct message v;
+    OPEN(14);
+    READ(14, take_message(r, &v));
+    info[0] = r->at;
+    info[1] = !r->loose;
+    info[2] = v.xid;
+    info[3] = v.tag;
+    if (v.tag == 0) {
+        info[4] = v.rpcvers;
+        info[5] = v.prog;
+        info[6] = v.vers;
+        info[7] = v.proc;
+        info[8] = v.cred.flavor;
+        info[9] = v.cred.body.at;
+        info[10] = v.cred.body.count;
+        info[11] = v.verf.flavor;
+        info[12] = v.verf.body.at;
+        info[13] = v.verf.body.count;
+        return 0;
+    }
+    memset(info + 4, 0, 10 * sizeof *info);
+    if (v.tag == 1) {
+        info[4] = v.verf.flavor;
+        info[5] = v.verf.body.at;
+        info[6] = v.verf.body.count;
+        info[7] = v.stat;
+        info[8] = v.low;
+        info[9] = v.high;
+    } else if (v.tag == 2) {
+        info[4] = v.low;
+        info[5] = v.high;
+    } else {
+        info[4] = v.stat;
+    }
+    return 0;
+}
+
+static inline uint8_t *lay_call(uint8_t *p, const uint8_t *src, const struct message *v)
+{
+    p = lay_word(p, v->xid);
+    p = lay_word(p, 0);
+    p = lay_word(p, v->rpcvers);
+    p = lay_word(p, v->prog);
+    p = lay_word(p, v->vers);
+    p = lay_word(p, v->proc);
+    p = lay_opaque(lay_word(p, v->cred.flavor), src, v->cred.body);
+    return lay_opaque(lay_word(p, v->verf.flavor), src, v->verf.body);
+}
+
+uint32_t floor_write_call(const uint8_t *src, size_t len, const uint64_t *f, size_t fields, uint8_t *out, size_t room,
+                          size_t start, uint64_t *info, size_t infos)
+{
+    if (fields < 11 || infos < 1)
+        return SHORT_LIST;
+    if ((f[0] | f[1] | f[2] | f[3] | f[4]) >> 32 || f[5] > 3 || f[8] > 3)
+        return WIDE_NUMBER;
+    struct message v = {
+        (uint32_t)f[0], 0, (uint32_t)f[1], (uint32_t)f[2], (uint32_t)f[3], (uint32_t)f[4],
+        {(uint32_t)f[5], {f[6], f[7]}}, {(uint32_t)f[8], {f[9], f[10]}}, 0, 0, 0,
+    };
+    if (start > room)
+        return refused(info, 1, 9, 0);
+    if (len > LIMIT)
+        return refused(info, 1, 3, 0);
+    if (!inside(v.cred.body, len) || !inside(v.verf.body, len))
+        return refused(info, 1, 4, 0);
+    size_t size = 32 + padded_size(v.cred.body) + padded_size(v.verf.body);
+    if (size > LIMIT)
+        return refused(info, 1, 3, 0);
+    if (room - start < size)
+        return refused(info, 1, 5, 0);
+    lay_call(out + start, src, &v);
+    info[0] = start + size;
+    return 0;
+}
+
+uint32_t floor_copy_rpc_msg(const uint8_t *src, size_t len, size_t at, uint8_t *out, size_t room, uint64_t *info,
+                            size_t infos)
+{
+    struct message v;
+    OPEN(3);
+    READ(3, take_message(r, &v));
+    size_t size;
+    switch (v.tag) {
+    case 0:
+        size = 32 + padded_size(v.cred.body) + padded_size(v.verf.body);
+        break;
+    case 1:
+        size = 20 + padded_size(v.verf.body) + (v.stat == 2 ? 8 : 0);
+        break;
+    case 2:
+        size = 24;
+        break;
+    default:
+        size = 20;
+    }
+    if (room < size)
+        return refused(info, 3, 5, 0);
+    if (v.tag == 0) {
+        lay_call(out, src, &v);
+    } else {
+        uint8_t *p = lay_word(lay_word(out, v.xid), 1);
+        if (v.tag == 1) {
+            p = lay_opaque(lay_word(lay_word(p, 0), v.verf.flavor), src, v.verf.body);
+            p = lay_word(p, v.stat);
+            if (v.stat == 2)
+                lay_word(lay_word(p, v.low), v.high);
+        } else if (v.tag == 2) {
+            p = lay_word(lay_word(p, 1), 0);
+            lay_word(lay_word(p, v.low), v.high);
+        } else {
+            lay_word(lay_word(lay_word(p, 1), 1), v.stat);
+        }
+    }
+    TOOK(r->at, !r->loose, size);
+}

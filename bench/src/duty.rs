@@ -1,0 +1,178 @@
+//! Before anything is timed: the floor must do what our functions do, also for messages cut at every place and with
+//! every word replaced by telling numbers. Else its times would say nothing.
+use crate::messages;
+use crate::outside::*;
+
+const TELLING: [u32; 9] = [0, 1, 2, 3, 5, 8, 0x100, 0x7FFF_FFFF, 0xFFFF_FFFF];
+const ROOM: usize = 256;
+
+/// The message, every beginning of it, and every replacement of one word.
+fn variants(message: &[u8]) -> Vec<Vec<u8>> {
+    let mut all: Vec<Vec<u8>> = (0..=message.len()).map(|n| message[..n].to_vec()).collect();
+    for place in (0..message.len()).step_by(4) {
+        for number in TELLING {
+            let mut other = message.to_vec();
+            other[place..place + 4].copy_from_slice(&number.to_be_bytes());
+            all.push(other);
+        }
+    }
+    for place in 0..message.len() {
+        let mut other = message.to_vec();
+        other[place] ^= 1;
+        all.push(other);
+    }
+    all
+}
+
+/// What a call left behind: its answer, its figures, the bytes written.
+type Left = (u32, [u64; 20], [u8; ROOM]);
+
+fn left(call: impl FnOnce(*mut u64, *mut u8) -> u32) -> Left {
+    let (mut info, mut out) = ([0xEEEE; 20], [0xEE; ROOM]);
+    let answer = call(info.as_mut_ptr(), out.as_mut_ptr());
+    (answer, info, out)
+}
+
+fn same(what: &str, of: &[u8], ours: Left, floor: Left) {
+    assert_eq!(ours, floor, "{what} of {of:02x?}: ours, and the floor's");
+}
+
+macro_rules! rewritten {
+    ($count:ident, $kind:literal, $floor:ident, $message:expr) => {
+        for src in variants(&$message) {
+            for at in [0, 1, src.len(), src.len() + 1] {
+                for room in [0, 23, 24, 40, 83, 84, ROOM] {
+                    let (p, n) = (src.as_ptr(), src.len());
+                    // SAFETY: every address comes with the length of what lies there.
+                    let ours = left(|info, out| unsafe { yugerzat_read($kind, p, n, at, out, room, info, 3) });
+                    // SAFETY: as above.
+                    let floor = left(|info, out| unsafe { $floor(p, n, at, out, room, info, 3) });
+                    same(stringify!($floor), &src, ours, floor);
+                    $count += 1;
+                }
+            }
+        }
+    };
+}
+
+macro_rules! read {
+    ($count:ident, $ours:ident, $floor:ident, $figures:literal, $message:expr) => {
+        for src in variants(&$message) {
+            for at in [0, 1, 4, src.len(), src.len() + 1] {
+                for figures in [$figures - 1, $figures, 20] {
+                    let (p, n) = (src.as_ptr(), src.len());
+                    // SAFETY: as above.
+                    let ours = left(|info, _| unsafe { $ours(p, n, at, info, figures) });
+                    // SAFETY: as above.
+                    let floor = left(|info, _| unsafe { $floor(p, n, at, info, figures) });
+                    same(stringify!($floor), &src, ours, floor);
+                    $count += 1;
+                }
+            }
+        }
+    };
+}
+
+/// Lists of figures: as they are, and with each figure replaced by telling numbers.
+fn lists(figures: &[u64]) -> Vec<Vec<u64>> {
+    let mut all = vec![figures.to_vec()];
+    for place in 0..figures.len() {
+        for number in [0, 1, 2, 3, 4, 7, 8, 0xFFFF_FFFF, 0x1_0000_0000, u64::MAX] {
+            let mut other = figures.to_vec();
+            other[place] = number;
+            all.push(other);
+        }
+    }
+    all
+}
+
+macro_rules! written {
+    ($count:ident, $ours:expr, $floor:expr, $figures:expr) => {
+        for list in lists(&$figures) {
+            for length in [list.len() - 1, list.len()] {
+                for (start, room) in [(0, ROOM), (3, ROOM), (0, 24), (0, 23), (1, 84), (5, 4), (0, 84), (0, 83)] {
+                    let ours = left(|info, out| $ours(list.as_ptr(), length, out, room, start, info));
+                    let floor = left(|info, out| $floor(list.as_ptr(), length, out, room, start, info));
+                    assert_eq!(
+                        ours,
+                        floor,
+                        "{} of {list:?}, {length} figures, room {room}, start {start}",
+                        stringify!($ours)
+                    );
+                    $count += 1;
+                }
+            }
+        }
+    };
+}
+
+/// A writer as a closure over what all writers take; `source` is the message that pieces are of, for those that have any.
+macro_rules! writer {
+    ($function:ident $(, $source:expr)?) => {
+        // SAFETY: as above.
+        |fields, count, out, room, start, info| unsafe {
+            $function($($source.as_ptr(), $source.len(),)? fields, count, out, room, start, info, 1)
+        }
+    };
+}
+
+/// Compares, and says how many answers were compared.
+pub fn same_duty() -> u64 {
+    let mut count = 0;
+    rewritten!(count, 20, floor_copy_rpc_msg, messages::call());
+    rewritten!(count, 20, floor_copy_rpc_msg, messages::reply(&[0, 0, 0, 2, 3, 4]));
+    rewritten!(count, 20, floor_copy_rpc_msg, messages::reply(&[1, 0, 3, 4]));
+    rewritten!(count, 20, floor_copy_rpc_msg, messages::reply(&[1, 1, 3]));
+    rewritten!(count, 18, floor_copy_auth_unix, messages::auth_unix());
+    rewritten!(count, 31, floor_copy_fattr3, messages::fattr3());
+    rewritten!(count, 44, floor_copy_sattr3, messages::sattr3_full());
+    rewritten!(count, 44, floor_copy_sattr3, messages::sattr3_empty());
+    rewritten!(count, 45, floor_copy_diropargs3, messages::diropargs3());
+    rewritten!(count, 6, floor_copy_opaque, messages::opaque(b"hello"));
+    read!(count, yugerzat_judge, floor_judge, 14, messages::call());
+    read!(count, yugerzat_judge, floor_judge, 14, messages::reply(&[0, 0, 0, 2, 3, 4]));
+    read!(count, yugerzat_judge, floor_judge, 14, messages::reply(&[1, 0, 3, 4]));
+    read!(count, yugerzat_judge, floor_judge, 14, messages::reply(&[1, 1, 3]));
+    read!(count, yugerzat_read_fattr3, floor_read_fattr3, 19, messages::fattr3());
+    read!(count, yugerzat_read_sattr3, floor_read_sattr3, 16, messages::sattr3_full());
+    read!(count, yugerzat_read_sattr3, floor_read_sattr3, 16, messages::sattr3_empty());
+    read!(count, yugerzat_read_diropargs3, floor_read_diropargs3, 6, messages::diropargs3());
+    count += credentials();
+    let source = messages::call();
+    written!(
+        count,
+        writer!(yugerzat_write_fattr3),
+        writer!(floor_write_fattr3),
+        [2, 1, 2, 3, 4, 5, 6, 7, 8, 9, 10, 11, 12, 13, 14, 15, 16]
+    );
+    written!(count, writer!(yugerzat_write_sattr3), writer!(floor_write_sattr3), [1, 2, 1, 3, 1, 4, 1, 5, 2, 6, 7, 2, 8, 9]);
+    written!(count, writer!(yugerzat_write_sattr3), writer!(floor_write_sattr3), [0, 2, 0, 3, 0, 4, 0, 5, 0, 6, 7, 1, 8, 9]);
+    written!(count, writer!(yugerzat_write_diropargs3, source), writer!(floor_write_diropargs3, source), [4, 6, 20, 8]);
+    written!(
+        count,
+        writer!(yugerzat_write_call, source),
+        writer!(floor_write_call, source),
+        [7, 2, 100_003, 3, 1, 1, 4, 9, 0, 0, 0]
+    );
+    count
+}
+
+fn credentials() -> u64 {
+    let mut count = 0;
+    for src in variants(&messages::auth_unix()) {
+        for (at, length) in
+            [(0, src.len()), (0, 0), (1, src.len()), (src.len(), 0), (src.len() + 1, 0), (0, usize::MAX), (usize::MAX, 1)]
+        {
+            for figures in [8, 9] {
+                let (p, n) = (src.as_ptr(), src.len());
+                // SAFETY: as above.
+                let ours = left(|info, _| unsafe { yugerzat_read_auth_unix(p, n, at, length, info, figures) });
+                // SAFETY: as above.
+                let floor = left(|info, _| unsafe { floor_read_auth_unix(p, n, at, length, info, figures) });
+                same("floor_read_auth_unix", &src, ours, floor);
+                count += 1;
+            }
+        }
+    }
+    count
+}

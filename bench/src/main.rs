@@ -1,0 +1,69 @@
+//! Times the proved library against a hand-written C floor, the crate nfsserve, libtirpc and libnfs. bench/run builds and
+//! starts it.
+mod duty;
+mod measure;
+mod messages;
+mod outside;
+mod rows;
+mod table;
+
+use std::env;
+use std::ffi::CString;
+use std::process::ExitCode;
+
+use outside::{count_begin, count_end};
+use rows::rows;
+
+const PASSES: u32 = 6;
+const SAMPLES: u32 = 60;
+
+fn main() -> ExitCode {
+    let words: Vec<String> = env::args().skip(1).collect();
+    let words: Vec<&str> = words.iter().map(String::as_str).collect();
+    match words[..] {
+        ["time"] => time(),
+        ["count"] => count(),
+        ["counted", folder] => table::instructions(&rows(), folder),
+        _ => {
+            eprintln!("bench: time | count | counted FOLDER");
+            return ExitCode::from(2);
+        },
+    }
+    ExitCode::SUCCESS
+}
+
+fn time() {
+    eprintln!("bench: comparing the floor with the library ..");
+    let compared = duty::same_duty();
+    eprintln!("bench: {compared} answers of the floor are those of the library");
+    let mut rows = rows();
+    for pass in 1..=PASSES {
+        eprintln!("bench: timing, pass {pass} of {PASSES} ..");
+        for row in &mut rows {
+            row.time(SAMPLES);
+        }
+    }
+    table::times(&rows);
+}
+
+/// Under callgrind: each contestant once warm, then so many times between two marks.
+fn count() {
+    for mut row in rows() {
+        (row.ready)();
+        let times = if row.copying { 4 } else { 100 };
+        for contestant in &mut row.contestants {
+            let mark = |name: &str| CString::new(name).expect("a name has no zero");
+            let (name, idle) = (format!("{}|{}|{times}", row.name, contestant.who as u32), mark("-"));
+            let name = mark(&name);
+            (contestant.run)(1);
+            // SAFETY: the marks take a string and touch nothing else.
+            unsafe { count_begin() };
+            (contestant.run)(times);
+            // SAFETY: as above.
+            unsafe {
+                count_end(name.as_ptr());
+                count_end(idle.as_ptr());
+            }
+        }
+    }
+}

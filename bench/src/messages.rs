@@ -1,0 +1,55 @@
+//! The messages that are timed, all in published form.
+
+fn words(numbers: &[u32]) -> Vec<u8> {
+    numbers.iter().flat_map(|n| n.to_be_bytes()).collect()
+}
+
+pub fn opaque(bytes: &[u8]) -> Vec<u8> {
+    let mut all = words(&[bytes.len() as u32]);
+    all.extend_from_slice(bytes);
+    all.resize(all.len().next_multiple_of(4), 0);
+    all
+}
+
+pub const HANDLE: [u8; 28] = [0x5A; 28];
+pub const NAME: &[u8] = b"minutes-2026-11.txt";
+
+pub fn auth_unix() -> Vec<u8> {
+    let mut all = words(&[0x5F37_59DF]);
+    all.extend(opaque(b"workstation"));
+    all.extend(words(&[1000, 1000, 5, 4, 24, 27, 30, 1000]));
+    all
+}
+
+/// SETATTR of NFS version 3, by a caller with five groups; without its arguments.
+pub fn call() -> Vec<u8> {
+    let mut all = words(&[0x2A, 0, 2, 100_003, 3, 2, 1]);
+    all.extend(opaque(&auth_unix()));
+    all.extend(words(&[0, 0]));
+    all
+}
+
+pub fn fattr3() -> Vec<u8> {
+    words(&[2, 0o755, 3, 1000, 1000, 0, 4096, 0, 8192, 8, 1, 0, 77, 0, 123_456, 1, 2, 3, 4, 5, 6])
+}
+
+pub fn sattr3_full() -> Vec<u8> {
+    words(&[1, 0o644, 1, 1000, 1, 1000, 1, 0, 4096, 2, 7, 8, 2, 9, 10])
+}
+
+pub fn sattr3_empty() -> Vec<u8> {
+    words(&[0; 6])
+}
+
+pub fn diropargs3() -> Vec<u8> {
+    let mut all = opaque(&HANDLE);
+    all.extend(opaque(NAME));
+    all
+}
+
+/// A REPLY whose body is these words.
+pub fn reply(body: &[u32]) -> Vec<u8> {
+    let mut all = words(&[0x2A, 1]);
+    all.extend(words(body));
+    all
+}

@@ -1,0 +1,103 @@
+//! The C functions: ours, the floor's, and the peers'. A slice passes as its address and its length.
+
+// Each kind of a peer is declared in all three ways.
+#![allow(dead_code)]
+
+macro_rules! readers {
+    ($($name:ident)*) => { extern "C" {
+        $(pub fn $name(src: *const u8, len: usize, at: usize, info: *mut u64, infos: usize) -> u32;)*
+    } };
+}
+macro_rules! writers {
+    ($($name:ident)*) => { extern "C" {
+        $(pub fn $name(
+            fields: *const u64, count: usize, out: *mut u8, room: usize, start: usize, info: *mut u64, infos: usize,
+        ) -> u32;)*
+    } };
+}
+macro_rules! writers_from {
+    ($($name:ident)*) => { extern "C" {
+        $(pub fn $name(
+            src: *const u8, len: usize, fields: *const u64, count: usize, out: *mut u8, room: usize, start: usize,
+            info: *mut u64, infos: usize,
+        ) -> u32;)*
+    } };
+}
+macro_rules! copiers {
+    ($($name:ident)*) => { extern "C" {
+        $(pub fn $name(
+            src: *const u8, len: usize, at: usize, out: *mut u8, room: usize, info: *mut u64, infos: usize,
+        ) -> u32;)*
+    } };
+}
+macro_rules! peers {
+    ($($read:ident $write:ident $copy:ident)*) => { extern "C" {
+        $(
+            pub fn $read(src: *const u8, len: usize) -> u32;
+            pub fn $write(out: *mut u8, room: usize) -> u32;
+            pub fn $copy(src: *const u8, len: usize, out: *mut u8, room: usize) -> u32;
+        )*
+    } };
+}
+
+extern "C" {
+    pub fn yugerzat_read(
+        kind: u32,
+        src: *const u8,
+        len: usize,
+        at: usize,
+        out: *mut u8,
+        room: usize,
+        info: *mut u64,
+        infos: usize,
+    ) -> u32;
+    pub fn yugerzat_feed(
+        state: *mut u64,
+        states: usize,
+        run: *const u8,
+        len: usize,
+        buf: *mut u8,
+        room: usize,
+        info: *mut u64,
+        infos: usize,
+    ) -> u32;
+    pub fn yugerzat_fragment(
+        message: *const u8,
+        len: usize,
+        out: *mut u8,
+        room: usize,
+        start: usize,
+        info: *mut u64,
+        infos: usize,
+    ) -> u32;
+    pub fn yugerzat_read_auth_unix(src: *const u8, len: usize, at: usize, count: usize, info: *mut u64, infos: usize)
+        -> u32;
+    pub fn floor_read_auth_unix(src: *const u8, len: usize, at: usize, count: usize, info: *mut u64, infos: usize) -> u32;
+}
+readers! { yugerzat_judge yugerzat_read_fattr3 yugerzat_read_sattr3 yugerzat_read_diropargs3
+floor_judge floor_read_fattr3 floor_read_sattr3 floor_read_diropargs3 }
+writers! { yugerzat_write_fattr3 yugerzat_write_sattr3 floor_write_fattr3 floor_write_sattr3 }
+writers_from! { yugerzat_write_diropargs3 yugerzat_write_call floor_write_diropargs3 floor_write_call }
+copiers! { floor_copy_rpc_msg floor_copy_auth_unix floor_copy_fattr3 floor_copy_sattr3 floor_copy_diropargs3 floor_copy_opaque }
+
+extern "C" {
+    pub fn tirpc_begin(room: *mut u8);
+    pub fn tirpc_read_call_and_auth_unix(src: *const u8, len: usize) -> u32;
+    pub fn libnfs_begin();
+    pub fn libnfs_where(handle: *const u8, count: u32, name: *const u8);
+    pub fn count_begin();
+    pub fn count_end(name: *const std::ffi::c_char);
+}
+peers! {
+    tirpc_read_rpc_msg tirpc_write_rpc_msg tirpc_copy_rpc_msg
+    tirpc_read_auth_unix tirpc_write_auth_unix tirpc_copy_auth_unix
+    tirpc_read_fattr3 tirpc_write_fattr3 tirpc_copy_fattr3
+    tirpc_read_sattr3 tirpc_write_sattr3 tirpc_copy_sattr3
+    tirpc_read_diropargs3 tirpc_write_diropargs3 tirpc_copy_diropargs3
+    tirpc_read_opaque tirpc_write_opaque tirpc_copy_opaque
+    libnfs_read_rpc_msg libnfs_write_rpc_msg libnfs_copy_rpc_msg
+    libnfs_read_fattr3 libnfs_write_fattr3 libnfs_copy_fattr3
+    libnfs_read_sattr3 libnfs_write_sattr3 libnfs_copy_sattr3
+    libnfs_read_diropargs3 libnfs_write_diropargs3 libnfs_copy_diropargs3
+    libnfs_read_opaque libnfs_write_opaque libnfs_copy_opaque
+}

@@ -1,0 +1,322 @@
+//! What is timed. All contestants of a row read the same bytes; all that write into memory write into the same.
+use std::hint::black_box;
+
+use nfsserve::nfs::{diropargs3, fattr3, sattr3};
+use nfsserve::rpc::{auth_flavor, auth_unix, rpc_body, rpc_msg};
+use nfsserve::xdr::XDR;
+
+use crate::measure::{contestant, Contestant, Row, Who};
+use crate::messages;
+use crate::outside::*;
+
+const ROOM: usize = 2 << 20;
+const BLOCK: usize = 65_536;
+const RECORD: usize = 1_048_576;
+
+/// The memory that the work is done in. It lives as long as the program.
+#[derive(Clone, Copy)]
+struct Memory {
+    out: *mut u8,
+    info: *mut u64,
+    state: *mut u64,
+}
+
+fn memory<T: Copy>(value: T, count: usize) -> *mut T {
+    Vec::leak(vec![value; count]).as_mut_ptr()
+}
+
+fn kept(bytes: Vec<u8>) -> &'static [u8] {
+    Vec::leak(bytes)
+}
+
+// ---- contestants
+
+#[inline(never)]
+fn deserialize<T: XDR>(src: &[u8], value: &mut T) -> usize {
+    let mut rest = src;
+    value.deserialize(&mut rest).expect("the message is whole");
+    src.len() - rest.len()
+}
+
+#[inline(never)]
+fn serialize<T: XDR>(value: &T, out: &mut Vec<u8>) {
+    out.clear();
+    value.serialize(out).expect("a vector can be written");
+}
+
+/// The crate reads into the same value again and again, so that it can keep what it allocated.
+fn nfsserve_reads<T: XDR + 'static>(src: &'static [u8], mut value: T) -> Contestant {
+    contestant(Who::Nfsserve, move || {
+        black_box(deserialize(black_box(src), &mut value));
+        black_box(&value);
+    })
+}
+
+fn nfsserve_writes<T: XDR + 'static>(src: &'static [u8], mut value: T) -> Contestant {
+    let mut out = Vec::with_capacity(ROOM);
+    deserialize(src, &mut value);
+    serialize(&value, &mut out);
+    assert_eq!(out, src);
+    contestant(Who::Nfsserve, move || {
+        serialize(black_box(&value), &mut out);
+        black_box(&out);
+    })
+}
+
+fn nfsserve_copies<T: XDR + 'static>(src: &'static [u8], mut value: T) -> Contestant {
+    let mut out = Vec::with_capacity(ROOM);
+    contestant(Who::Nfsserve, move || {
+        black_box(deserialize(black_box(src), &mut value));
+        serialize(black_box(&value), &mut out);
+        black_box(&out);
+    })
+}
+
+/// A C function, called with the same arguments again and again. It must answer as is due.
+macro_rules! calls {
+    ($who:expr, $due:expr, $function:ident ( $($argument:expr),* )) => {{
+        // SAFETY: every address comes with the length of what lies there.
+        let answer = unsafe { $function($($argument),*) };
+        assert_eq!(answer as usize, $due, stringify!($function));
+        // SAFETY: as above.
+        contestant($who, move || unsafe { black_box($function($($argument),*)); })
+    }};
+}
+
+/// Rows of reading: ours and the floor's of one signature, the crate's value, the peers' functions.
+macro_rules! readings {
+    ($rows:ident $m:ident $($name:literal $src:ident $count:literal $ours:ident $floor:ident $value:ident $tirpc:ident $libnfs:ident;)*) => { $(
+        $rows.push(Row::new($name, vec![
+            calls!(Who::Ours, 0, $ours($src.as_ptr(), $src.len(), 0, $m.info, $count)),
+            calls!(Who::Floor, 0, $floor($src.as_ptr(), $src.len(), 0, $m.info, $count)),
+            nfsserve_reads($src, $value::default()),
+            calls!(Who::Libtirpc, $src.len(), $tirpc($src.as_ptr(), $src.len())),
+            calls!(Who::Libnfs, $src.len(), $libnfs($src.as_ptr(), $src.len())),
+        ]));
+    )* };
+}
+
+/// Rows of writing, from the figures that the floor's reader gives. The peers write what they read last.
+macro_rules! writings {
+    ($rows:ident $m:ident $($name:literal $src:ident $count:literal $read:ident $ours:ident $floor:ident $value:ident $tirpc_read:ident $tirpc:ident $libnfs_read:ident $libnfs:ident;)*) => { $(
+        let fields = figures(|info| unsafe { $read($src.as_ptr(), $src.len(), 0, info, FIGURES) }, 2);
+        let ready = move || {
+            // SAFETY: every address comes with the length of what lies there.
+            unsafe { assert!($tirpc_read($src.as_ptr(), $src.len()) > 0 && $libnfs_read($src.as_ptr(), $src.len()) > 0) }
+        };
+        ready();
+        $rows.push(Row::new($name, vec![
+            calls!(Who::Ours, 0, $ours(fields.as_ptr(), $count, $m.out, ROOM, 0, $m.info, 1)),
+            calls!(Who::Floor, 0, $floor(fields.as_ptr(), $count, $m.out, ROOM, 0, $m.info, 1)),
+            nfsserve_writes($src, $value::default()),
+            calls!(Who::Libtirpc, $src.len(), $tirpc($m.out, ROOM)),
+            calls!(Who::Libnfs, $src.len(), $libnfs($m.out, ROOM)),
+        ]).ready_by(ready));
+    )* };
+}
+
+/// Rows of rewriting a kind: read, and written in published form.
+macro_rules! rewritings {
+    ($rows:ident $m:ident $($name:literal $src:ident $kind:literal $floor:ident $value:ident $tirpc:ident $($libnfs:ident)?;)*) => { $(
+        $rows.push(Row::new($name, vec![
+            calls!(Who::Ours, 0, yugerzat_read($kind, $src.as_ptr(), $src.len(), 0, $m.out, ROOM, $m.info, 3)),
+            calls!(Who::Floor, 0, $floor($src.as_ptr(), $src.len(), 0, $m.out, ROOM, $m.info, 3)),
+            nfsserve_copies($src, $value::default()),
+            calls!(Who::Libtirpc, $src.len(), $tirpc($src.as_ptr(), $src.len(), $m.out, ROOM)),
+            $(calls!(Who::Libnfs, $src.len(), $libnfs($src.as_ptr(), $src.len(), $m.out, ROOM)),)?
+        ]));
+    )* };
+}
+
+const FIGURES: usize = 32;
+
+/// The figures of a reader, from one of them on.
+fn figures(read: impl FnOnce(*mut u64) -> u32, from: usize) -> &'static [u64] {
+    let list = Vec::leak(vec![0; FIGURES]);
+    assert_eq!(read(list.as_mut_ptr()), 0);
+    &list[from..]
+}
+
+// ---- rows
+
+pub fn rows() -> Vec<Row> {
+    let m = Memory { out: memory(0xEE, ROOM), info: memory(0, FIGURES), state: memory(0, 7) };
+    // SAFETY: called before any other function of the two; the room is larger than any message.
+    unsafe {
+        tirpc_begin(memory(0, ROOM));
+        libnfs_begin();
+    }
+    let call = kept(messages::call());
+    let auth = kept(messages::auth_unix());
+    let attributes = kept(messages::fattr3());
+    let full = kept(messages::sattr3_full());
+    let empty = kept(messages::sattr3_empty());
+    let place = kept(messages::diropargs3());
+
+    let mut rows = Vec::new();
+    readings! { rows m
+        "call read" call 14 yugerzat_judge floor_judge rpc_msg tirpc_read_rpc_msg libnfs_read_rpc_msg;
+    }
+    rows.push(call_and_auth_unix(m, call));
+    readings! { rows m
+        "fattr3 read" attributes 19 yugerzat_read_fattr3 floor_read_fattr3 fattr3 tirpc_read_fattr3 libnfs_read_fattr3;
+        "sattr3 full read" full 16 yugerzat_read_sattr3 floor_read_sattr3 sattr3 tirpc_read_sattr3 libnfs_read_sattr3;
+        "sattr3 empty read" empty 16 yugerzat_read_sattr3 floor_read_sattr3 sattr3 tirpc_read_sattr3 libnfs_read_sattr3;
+        "diropargs3 read" place 6 yugerzat_read_diropargs3 floor_read_diropargs3 diropargs3 tirpc_read_diropargs3
+            libnfs_read_diropargs3;
+    }
+    rows.push(call_written(m, call));
+    writings! { rows m
+        "fattr3 written" attributes 17 floor_read_fattr3 yugerzat_write_fattr3 floor_write_fattr3 fattr3
+            tirpc_read_fattr3 tirpc_write_fattr3 libnfs_read_fattr3 libnfs_write_fattr3;
+        "sattr3 full written" full 14 floor_read_sattr3 yugerzat_write_sattr3 floor_write_sattr3 sattr3
+            tirpc_read_sattr3 tirpc_write_sattr3 libnfs_read_sattr3 libnfs_write_sattr3;
+        "sattr3 empty written" empty 14 floor_read_sattr3 yugerzat_write_sattr3 floor_write_sattr3 sattr3
+            tirpc_read_sattr3 tirpc_write_sattr3 libnfs_read_sattr3 libnfs_write_sattr3;
+    }
+    rows.push(diropargs3_written(m, place));
+    rewritings! { rows m
+        "call rewritten" call 20 floor_copy_rpc_msg rpc_msg tirpc_copy_rpc_msg libnfs_copy_rpc_msg;
+        "auth_unix rewritten" auth 18 floor_copy_auth_unix auth_unix tirpc_copy_auth_unix;
+        "fattr3 rewritten" attributes 31 floor_copy_fattr3 fattr3 tirpc_copy_fattr3 libnfs_copy_fattr3;
+        "sattr3 full rewritten" full 44 floor_copy_sattr3 sattr3 tirpc_copy_sattr3 libnfs_copy_sattr3;
+        "sattr3 empty rewritten" empty 44 floor_copy_sattr3 sattr3 tirpc_copy_sattr3 libnfs_copy_sattr3;
+        "diropargs3 rewritten" place 45 floor_copy_diropargs3 diropargs3 tirpc_copy_diropargs3 libnfs_copy_diropargs3;
+    }
+    rows.extend(copies(m));
+    rows
+}
+
+fn call_and_auth_unix(m: Memory, call: &'static [u8]) -> Row {
+    macro_rules! both {
+        ($who:expr, $judge:ident, $read:ident) => {
+            contestant($who, move || {
+                // SAFETY: every address comes with the length of what lies there.
+                let answer = unsafe {
+                    let judged = $judge(call.as_ptr(), call.len(), 0, m.info, 14);
+                    let (at, count) = (*m.info.add(9) as usize, *m.info.add(10) as usize);
+                    judged | $read(call.as_ptr(), call.len(), at, count, m.info.add(14), 9)
+                };
+                assert_eq!(answer, 0);
+            })
+        };
+    }
+    let mut message = rpc_msg::default();
+    let mut auth = auth_unix::default();
+    let nfsserve = contestant(Who::Nfsserve, move || {
+        deserialize(black_box(call), &mut message);
+        let rpc_body::CALL(ref body) = message.body else { unreachable!() };
+        assert!(matches!(body.cred.flavor, auth_flavor::AUTH_UNIX));
+        deserialize(&body.cred.body, &mut auth);
+        black_box((&message, &auth));
+    });
+    Row::new(
+        "call with auth_unix read",
+        vec![
+            both!(Who::Ours, yugerzat_judge, yugerzat_read_auth_unix),
+            both!(Who::Floor, floor_judge, floor_read_auth_unix),
+            nfsserve,
+            calls!(Who::Libtirpc, call.len(), tirpc_read_call_and_auth_unix(call.as_ptr(), call.len())),
+        ],
+    )
+}
+
+fn call_written(m: Memory, call: &'static [u8]) -> Row {
+    let (src, len) = (call.as_ptr(), call.len());
+    // SAFETY: every address comes with the length of what lies there.
+    let judged = figures(|info| unsafe { floor_judge(src, len, 0, info, FIGURES) }, 2);
+    // Without the tag.
+    let fields = Vec::leak([&judged[..1], &judged[2..12]].concat()).as_ptr();
+    let ready = move || {
+        // SAFETY: as above.
+        unsafe { assert!(tirpc_read_rpc_msg(src, len) > 0 && libnfs_read_rpc_msg(src, len) > 0) }
+    };
+    ready();
+    Row::new(
+        "call written",
+        vec![
+            calls!(Who::Ours, 0, yugerzat_write_call(src, len, fields, 11, m.out, ROOM, 0, m.info, 1)),
+            calls!(Who::Floor, 0, floor_write_call(src, len, fields, 11, m.out, ROOM, 0, m.info, 1)),
+            nfsserve_writes(call, rpc_msg::default()),
+            calls!(Who::Libtirpc, len, tirpc_write_rpc_msg(m.out, ROOM)),
+            calls!(Who::Libnfs, len, libnfs_write_rpc_msg(m.out, ROOM)),
+        ],
+    )
+    .ready_by(ready)
+}
+
+fn diropargs3_written(m: Memory, place: &'static [u8]) -> Row {
+    let (src, len) = (place.as_ptr(), place.len());
+    // SAFETY: every address comes with the length of what lies there.
+    let fields = figures(|info| unsafe { floor_read_diropargs3(src, len, 0, info, FIGURES) }, 2).as_ptr();
+    let name = kept([messages::NAME, b"\0"].concat());
+    // SAFETY: as above; the name ends with a zero, as libnfs wants it.
+    let ready = move || unsafe {
+        assert!(tirpc_read_diropargs3(src, len) > 0);
+        libnfs_where(messages::HANDLE.as_ptr(), messages::HANDLE.len() as u32, name.as_ptr());
+    };
+    ready();
+    Row::new(
+        "diropargs3 written",
+        vec![
+            calls!(Who::Ours, 0, yugerzat_write_diropargs3(src, len, fields, 4, m.out, ROOM, 0, m.info, 1)),
+            calls!(Who::Floor, 0, floor_write_diropargs3(src, len, fields, 4, m.out, ROOM, 0, m.info, 1)),
+            nfsserve_writes(place, diropargs3::default()),
+            calls!(Who::Libtirpc, len, tirpc_write_diropargs3(m.out, ROOM)),
+            calls!(Who::Libnfs, len, libnfs_write_diropargs3(m.out, ROOM)),
+        ],
+    )
+    .ready_by(ready)
+}
+
+#[inline(never)]
+fn memcpy(src: &[u8], out: *mut u8) {
+    // SAFETY: the room is larger than any message, and lies apart.
+    unsafe { std::ptr::copy_nonoverlapping(src.as_ptr(), out, src.len()) }
+    black_box(out);
+}
+
+/// Rows whose floor is memcpy, from and to the same places.
+fn copies(m: Memory) -> Vec<Row> {
+    let copied = |src: &'static [u8], to: usize| {
+        // SAFETY: the place lies in the room.
+        let out = unsafe { m.out.add(to) };
+        contestant(Who::Floor, move || memcpy(black_box(src), out))
+    };
+    let some = |count: usize| (0..count).map(|n| (n * 31 % 251) as u8).collect::<Vec<u8>>();
+    let block = kept(some(BLOCK));
+    let opaque = kept(messages::opaque(block));
+    let record = kept(some(RECORD));
+    let stream = kept([&(RECORD as u32 | 1 << 31).to_be_bytes(), record].concat());
+
+    let feed = contestant(Who::Ours, move || {
+        // SAFETY: every address comes with the length of what lies there.
+        let answer = unsafe {
+            *m.state = RECORD as u64;
+            yugerzat_feed(m.state, 7, stream.as_ptr(), stream.len(), m.out, RECORD, m.info, 2)
+        };
+        // Complete; the state is then fresh.
+        assert_eq!(answer, 101);
+    });
+    let rows = [
+        Row::new("record of 1 MiB assembled", vec![feed, copied(&stream[4..], 0)]),
+        Row::new(
+            "opaque of 64 KiB rewritten",
+            vec![
+                calls!(Who::Ours, 0, yugerzat_read(6, opaque.as_ptr(), opaque.len(), 0, m.out, ROOM, m.info, 3)),
+                copied(&opaque[4..], 4),
+                nfsserve_copies(opaque, Vec::<u8>::new()),
+                calls!(Who::Libtirpc, opaque.len(), tirpc_copy_opaque(opaque.as_ptr(), opaque.len(), m.out, ROOM)),
+                calls!(Who::Libnfs, opaque.len(), libnfs_copy_opaque(opaque.as_ptr(), opaque.len(), m.out, ROOM)),
+            ],
+        ),
+        Row::new(
+            "fragment of 64 KiB written",
+            vec![
+                calls!(Who::Ours, 0, yugerzat_fragment(block.as_ptr(), block.len(), m.out, ROOM, 0, m.info, 1)),
+                copied(block, 4),
+            ],
+        ),
+    ];
+    rows.map(|row| Row { copying: true, ..row }).into()
+}

@@ -1,0 +1,74 @@
+/* libtirpc as its users have it: its own routine for a call's header, and what rpcgen makes of nfs3.x for the rest. It
+ * decodes into structs whose pointers already lead to room, so that nothing is allocated. */
+#include <stdint.h>
+#include <rpc/rpc.h>
+#include <rpc/rpc_msg.h>
+#include <rpc/auth_unix.h>
+
+#include "nfs3.h"
+
+static char handle[64], name[256], machine[256], cred[MAX_AUTH_BYTES], verf[MAX_AUTH_BYTES];
+static gid_t gids[NGRPS];
+static char *bytes_at;
+static u_int bytes_count;
+
+static struct rpc_msg call;
+static struct authunix_parms unix_parms;
+static fattr3 attributes;
+static sattr3 change;
+static diropargs3 where;
+
+void tirpc_begin(char *room)
+{
+    call.rm_call.cb_cred.oa_base = cred;
+    call.rm_call.cb_verf.oa_base = verf;
+    unix_parms.aup_machname = machine;
+    unix_parms.aup_gids = gids;
+    where.dir.data.data_val = handle;
+    where.name = name;
+    bytes_at = room;
+}
+
+static bool_t xdr_parms(XDR *x, struct authunix_parms *p)
+{
+    return xdr_authunix_parms(x, p);
+}
+
+static bool_t xdr_whole(XDR *x, char **at)
+{
+    return xdr_bytes(x, at, &bytes_count, 1u << 20);
+}
+
+#define BOTH(kind, routine, value)                                                            \
+    uint32_t tirpc_read_##kind(const uint8_t *src, size_t len)                                \
+    {                                                                                         \
+        XDR x;                                                                                \
+        xdrmem_create(&x, (char *)src, (u_int)len, XDR_DECODE);                               \
+        return routine(&x, value) ? xdr_getpos(&x) : 0;                                       \
+    }                                                                                         \
+    uint32_t tirpc_write_##kind(uint8_t *out, size_t room)                                    \
+    {                                                                                         \
+        XDR x;                                                                                \
+        xdrmem_create(&x, (char *)out, (u_int)room, XDR_ENCODE);                              \
+        return routine(&x, value) ? xdr_getpos(&x) : 0;                                       \
+    }                                                                                         \
+    uint32_t tirpc_copy_##kind(const uint8_t *src, size_t len, uint8_t *out, size_t room)     \
+    {                                                                                         \
+        return tirpc_read_##kind(src, len) ? tirpc_write_##kind(out, room) : 0;               \
+    }
+
+BOTH(rpc_msg, xdr_callmsg, &call)
+BOTH(auth_unix, xdr_parms, &unix_parms)
+BOTH(fattr3, xdr_fattr3, &attributes)
+BOTH(sattr3, xdr_sattr3, &change)
+BOTH(diropargs3, xdr_diropargs3, &where)
+BOTH(opaque, xdr_whole, &bytes_at)
+
+/* The header, then the credential that lies in it. */
+uint32_t tirpc_read_call_and_auth_unix(const uint8_t *src, size_t len)
+{
+    uint32_t used = tirpc_read_rpc_msg(src, len);
+    if (!used || call.rm_call.cb_cred.oa_flavor != AUTH_UNIX)
+        return 0;
+    return tirpc_read_auth_unix((const uint8_t *)call.rm_call.cb_cred.oa_base, call.rm_call.cb_cred.oa_length) ? used : 0;
+}
