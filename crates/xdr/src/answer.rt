@@ -1,6 +1,6 @@
 // What readers and writers answer. `refusal` of an answer that took something is never asked for: it stands for the `else` that cannot bind.
 ghost use mathlib.Core.Path.{_≡_};
-ghost use Rattle.xdr.specs.Meaning.Views.{lostU32, lostU64, lostI32, lostI64, lostBool, lostPiece, lostWrote};
+ghost use Rattle.xdr.specs.Meaning.Views.{lostU32, lostU64, lostI32, lostI64, lostBool, lostPiece, lostWrote, lostU32Pair, lostU64Pair};
 use crate::piece::Piece;
 use crate::refusal::Refusal;
 
@@ -39,6 +39,25 @@ pub enum PieceRead {
         value: Piece,
         next: usize,
         plain: bool,
+    },
+}
+
+// Two numbers that stand together.
+pub enum U32PairRead {
+    Refused(Refusal),
+    Took {
+        first: u32,
+        second: u32,
+        next: usize,
+    },
+}
+
+pub enum U64PairRead {
+    Refused(Refusal),
+    Took {
+        first: u64,
+        second: u64,
+        next: usize,
     },
 }
 
@@ -117,6 +136,36 @@ impl PieceRead {
                 value: _,
                 next: _,
                 plain: _,
+            } => Refusal::PastEnd,
+        }
+    }
+}
+
+impl U32PairRead {
+    pub fn refusal(self) -> Refusal
+        ensures { λ r. ⌜ r ≡ lostU32Pair self ⌝ }
+    {
+        match self {
+            U32PairRead::Refused(r) => r,
+            U32PairRead::Took {
+                first: _,
+                second: _,
+                next: _,
+            } => Refusal::PastEnd,
+        }
+    }
+}
+
+impl U64PairRead {
+    pub fn refusal(self) -> Refusal
+        ensures { λ r. ⌜ r ≡ lostU64Pair self ⌝ }
+    {
+        match self {
+            U64PairRead::Refused(r) => r,
+            U64PairRead::Took {
+                first: _,
+                second: _,
+                next: _,
             } => Refusal::PastEnd,
         }
     }

@@ -5,18 +5,22 @@ ghost use Prim.Native.Nat.{_+_, _<_, _≤_};
 ghost use lib.ListN.{length};
 ghost use mathlib.Core.List.{_++_};
 ghost use Rattle.xdr.specs.Meaning.Bytes.{numberAt, zeros};
-ghost use Rattle.xdr.specs.Meaning.Items.{word, hyper, flag, int, long, opaque, words};
+ghost use Rattle.xdr.specs.Meaning.Items.{word, hyper, word-pair, hyper-pair, flag, int, long, opaque, words};
 ghost use Rattle.xdr.specs.Meaning.Pieces.{pieceAnswer, opaqueSize, sizeUpTo};
 ghost use Rattle.xdr.specs.Meaning.Formats.{eightHeld, pieceHeld, wordsHeld, bytes, wordList};
 ghost use Rattle.xdr.specs.Meaning.Public.{laid, laidOf};
-ghost use Rattle.xdr.specs.Meaning.Views.{viewU32, viewU64, viewI32, viewI64, viewBool, viewPiece};
+ghost use Rattle.xdr.specs.Meaning.Views.{viewU32, viewU64, viewU32Pair, viewU64Pair, viewI32, viewI64, viewBool, viewPiece};
+ghost use Rattle.xdr.specs.declared.refusal.Refusal.the-variants.{Ended};
+ghost use Rattle.xdr.specs.Laws.Answers.{pairEnd};
 ghost use Rattle.xdr.specs.Laws.Write.{Put};
 ghost use Rattle.xdr.specs.Laws.Padding.{lastZeros};
 use crate::answer::BoolRead;
 use crate::answer::I32Read;
 use crate::answer::I64Read;
 use crate::answer::PieceRead;
+use crate::answer::U32PairRead;
 use crate::answer::U32Read;
+use crate::answer::U64PairRead;
 use crate::answer::U64Read;
 use crate::number::hyper_here;
 use crate::number::signed32;
@@ -57,6 +61,53 @@ pub fn u64_at(src: &[u8], at: usize) -> U64Read
     U64Read::Took {
         value: hyper_here(src, at),
         next: at + 8,
+    }
+}
+
+// Where the first of two numbers that is not whole begins.
+fn pair_end(src: &[u8], at: usize, width: usize) -> Refusal
+    requires { ⌜ 0 < width ⌝ }
+    ensures { λ r. ⌜ r ≡ Ended (pairEnd width (length (now (src .entry))) at) ⌝ }
+{
+    if src.len() < width {
+        return Refusal::Ended(at);
+    }
+    if src.len() - width < at {
+        return Refusal::Ended(at);
+    }
+    Refusal::Ended(at + width)
+}
+
+// Two words that stand together, with one test of room for both.
+pub fn u32_pair_at(src: &[u8], at: usize) -> U32PairRead
+    ensures { λ r. ⌜ viewU32Pair r ≡ word-pair .kind .read (now (src .entry)) at ⌝ }
+{
+    if src.len() < 8 {
+        return U32PairRead::Refused(pair_end(src, at, 4));
+    }
+    if src.len() - 8 < at {
+        return U32PairRead::Refused(pair_end(src, at, 4));
+    }
+    U32PairRead::Took {
+        first: word_here(src, at),
+        second: word_here(src, at + 4),
+        next: at + 8,
+    }
+}
+
+pub fn u64_pair_at(src: &[u8], at: usize) -> U64PairRead
+    ensures { λ r. ⌜ viewU64Pair r ≡ hyper-pair .kind .read (now (src .entry)) at ⌝ }
+{
+    if src.len() < 16 {
+        return U64PairRead::Refused(pair_end(src, at, 8));
+    }
+    if src.len() - 16 < at {
+        return U64PairRead::Refused(pair_end(src, at, 8));
+    }
+    U64PairRead::Took {
+        first: hyper_here(src, at),
+        second: hyper_here(src, at + 8),
+        next: at + 16,
     }
 }
 
@@ -192,6 +243,26 @@ pub fn put_u64(v: u64, out: &mut [u8])
     }
     put_u32((v / 4294967296) as u32, &mut out[0..]);
     put_u32((v % 4294967296) as u32, &mut out[4..]);
+}
+
+pub fn put_u32_pair(first: u32, second: u32, out: &mut [u8])
+    ensures { λ _. ⌜ now (out .exit) ≡ laid (word-pair .kind .write (first, second)) (now (out .entry)) ⌝ }
+{
+    if out.len() < 8 {
+        return;
+    }
+    put_u32(first, &mut out[0..]);
+    put_u32(second, &mut out[4..]);
+}
+
+pub fn put_u64_pair(first: u64, second: u64, out: &mut [u8])
+    ensures { λ _. ⌜ now (out .exit) ≡ laid (hyper-pair .kind .write (first, second)) (now (out .entry)) ⌝ }
+{
+    if out.len() < 16 {
+        return;
+    }
+    put_u64(first, &mut out[0..]);
+    put_u64(second, &mut out[8..]);
 }
 
 pub fn put_i32(v: i32, out: &mut [u8])

@@ -11,12 +11,14 @@ use lib.ListN.{length}
 use borrow.Author.Tests.{leb-true, leb-false, le-leb, lt-leb, le-ltb, ne-eqb}
 use Rattle.xdr.specs.Meaning.Bytes.{numberAt, signed}
 use Rattle.xdr.specs.Meaning.Answer.{Answer, took, refused}
-use Rattle.xdr.specs.Meaning.Items.{number, word, hyper, flag, seeFlag, int, long}
+use Rattle.xdr.specs.Meaning.Codecs.{_⨾_}
+use Rattle.xdr.specs.Meaning.Items.{number, word, hyper, word-pair, hyper-pair, flag, seeFlag, int, long}
 use Rattle.xdr.specs.Meaning.Formats.{eightHeld, pieceHeld, wordsHeld}
 use Rattle.xdr.specs.Meaning.Pieces.{pieceAnswer}
 use Rattle.xdr.specs.Meaning.Views.{refusal}
 use Rattle.xdr.specs.Laws.Reading.{number-read}
 use Rattle.xdr.specs.declared.refusal.Refusal.{Refusal}
+use Rattle.xdr.specs.declared.refusal.Refusal.the-variants.{Ended}
 
 -- of any answer of the code: what it says where it was taken apart
 module _ {R A : Type 0} (view : R → Answer A) {x : Answer A} {r t : R} where
@@ -62,6 +64,32 @@ module _ (k : ℕ) (s : List ℕ) (p : ℕ) where
   pub number-without : {r q : ℕ} → number k .kind .read s p ≡ refused r q → (length s - p < k) × (_≡_ {A = Answer ℕ} (refused r q) (refused 1 p))
   number-without f = by-no-room (leb k (length s - p)) refl f
 
+-- two numbers of k bytes that stand together: where the first that is not whole begins, in a source of n bytes
+unfoldable pub pairEnd : ℕ → ℕ → ℕ → ℕ
+pairEnd k n p = cond (leb k (n - p)) (p + k) p
+
+module _ (k n p : ℕ) where
+  pub first-ends : n - p < k → Ended p ≡ Ended (pairEnd k n p)
+  unfolding pairEnd
+  first-ends h = rw (lt-leb k (n - p) h)
+
+  pub second-ends : k ≤ n - p → Ended (p + k) ≡ Ended (pairEnd k n p)
+  unfolding pairEnd
+  second-ends h = rw (le-leb k (n - p) h)
+
+-- by the room for both and for one
+module _ (k : ℕ) (s : List ℕ) (p : ℕ) where
+  pub pair-took : {a b n : ℕ} → k + k ≤ length s - p → a ≡ numberAt k s p → b ≡ numberAt k s (p + k) → n ≡ p + k + k → took (a, b) n true ≡ (number k ⨾ number k) .kind .read s p
+  pair-took {a} {b} h e f g = rw (g, sym (number-took k s p {v = a} (omega arith) e), sym (number-took k s (p + k) {v = b} (omega arith) f))
+
+  pair-end : (t : Bool) → leb k (length s - p) ≡ t → length s - p < k + k → refused 1 (cond t (p + k) p) ≡ (number k ⨾ number k) .kind .read s p
+  pair-end true e h = rw (sym (number-took k s p (leb-true k (length s - p) e) refl), sym (number-short k s (p + k) (omega (arith, leb-true k (length s - p) e))))
+  pair-end false e h = rw (sym (number-short k s p (leb-false k (length s - p) e)))
+
+  pub pair-short : length s - p < k + k → refused 1 (pairEnd k (length s) p) ≡ (number k ⨾ number k) .kind .read s p
+  unfolding pairEnd
+  pair-short h = pair-end (leb k (length s - p)) refl h
+
 module _ (s : List ℕ) (p : ℕ) where
   pub word-short : length s - p < 4 → refused 1 p ≡ word .kind .read s p
   unfolding word
@@ -82,6 +110,22 @@ module _ (s : List ℕ) (p : ℕ) where
   pub word-within : {v n : ℕ} {b : Bool} → word .kind .read s p ≡ took v n b → (4 ≤ length s - p) × (v ≡ numberAt 4 s p) × (n ≡ p + 4)
   unfolding word
   word-within f = number-within 4 s p f
+
+  pub word-pair-took : {a b : ℕ} → 8 ≤ length s - p → a ≡ numberAt 4 s p → b ≡ numberAt 4 s (p + 4) → took (a, b) (p + 8) true ≡ word-pair .kind .read s p
+  unfolding word-pair word
+  word-pair-took h e f = pair-took 4 s p h e f (omega arith)
+
+  pub word-pair-short : length s - p < 8 → refused 1 (pairEnd 4 (length s) p) ≡ word-pair .kind .read s p
+  unfolding word-pair word
+  word-pair-short h = pair-short 4 s p h
+
+  pub hyper-pair-took : {a b : ℕ} → 16 ≤ length s - p → a ≡ numberAt 8 s p → b ≡ numberAt 8 s (p + 8) → took (a, b) (p + 16) true ≡ hyper-pair .kind .read s p
+  unfolding hyper-pair hyper
+  hyper-pair-took h e f = pair-took 8 s p h e f (omega arith)
+
+  pub hyper-pair-short : length s - p < 16 → refused 1 (pairEnd 8 (length s) p) ≡ hyper-pair .kind .read s p
+  unfolding hyper-pair hyper
+  hyper-pair-short h = pair-short 8 s p h
 
   -- signed numbers, flags and eight bytes, by the number that they are
   pub int-took : {v n : ℕ} {b : Bool} {z : ℤ} → z ≡ signed 2147483648 v → word .kind .read s p ≡ took v n b → took z n b ≡ int .kind .read s p

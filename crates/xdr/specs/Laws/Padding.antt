@@ -14,7 +14,7 @@ use lib.Seq.{drop-cons, length-take-le}
 use borrow.Author.Tests.{eq-eqb, ne-eqb, eqb-true, eqb-false, le-leb, lt-leb}
 use Rattle.xdr.specs.Meaning.Bytes.{value, digits, unsigned, numberAt, padding, zeros}
 use Rattle.xdr.specs.Meaning.Answer.{Answer, took, refused, most}
-use Rattle.xdr.specs.Meaning.Items.{number, word, hyper, flag, fromFlag, int, long, eight, opaque}
+use Rattle.xdr.specs.Meaning.Items.{number, word, hyper, word-pair, hyper-pair, flag, fromFlag, int, long, eight, opaque}
 use Rattle.xdr.specs.Meaning.Pieces.{bytesIn, isInside, pieceAnswer, opaqueSize, sizeUpTo}
 use Rattle.xdr.specs.Laws.Digits.{length-digits}
 use Rattle.xdr.specs.Laws.Pieces.{inside-le}
@@ -106,6 +106,21 @@ word-length v = length-digits 4 v
 pub hyper-length : (v : ℕ) → length (hyper .kind .write v) ≡ 8
 unfolding hyper number
 hyper-length v = length-digits 8 v
+
+-- two that stand together are written one after the other
+pub word-pair-bytes : (a b : ℕ) → word .kind .write a ++ word .kind .write b ≡ word-pair .kind .write (a, b)
+unfolding word-pair
+word-pair-bytes a b = refl
+
+pub hyper-pair-bytes : (a b : ℕ) → hyper .kind .write a ++ hyper .kind .write b ≡ hyper-pair .kind .write (a, b)
+unfolding hyper-pair
+hyper-pair-bytes a b = refl
+
+pub word-pair-length : (a b : ℕ) → length (word-pair .kind .write (a, b)) ≡ 8
+word-pair-length a b = ap length (sym (word-pair-bytes a b)) ∙ simp (length-append, word-length)
+
+pub hyper-pair-length : (a b : ℕ) → length (hyper-pair .kind .write (a, b)) ≡ 16
+hyper-pair-length a b = ap length (sym (hyper-pair-bytes a b)) ∙ simp (length-append, hyper-length)
 
 pub flag-length : (v : Bool) → length (flag .kind .write v) ≡ 4
 unfolding flag

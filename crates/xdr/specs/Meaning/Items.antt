@@ -39,6 +39,13 @@ unfoldable pub hyper : Codec ℕ
 unfolding number
 hyper = number 8
 
+-- two that stand together
+unfoldable pub word-pair : Codec (ℕ × ℕ)
+word-pair = word ⨾ word
+
+unfoldable pub hyper-pair : Codec (ℕ × ℕ)
+hyper-pair = hyper ⨾ hyper
+
 -- a flag: 0 is false, 1 is true, and any other word is true too, but loose
 abbrev pub seeFlag : ℕ → Seen Bool
 seeFlag zero = means false []

@@ -14,6 +14,10 @@ use Rattle.xdr.specs.declared.answer.U32Read.{U32Read}
 use Rattle.xdr.specs.declared.answer.U32Read.the-variants as U32
 use Rattle.xdr.specs.declared.answer.U64Read.{U64Read}
 use Rattle.xdr.specs.declared.answer.U64Read.the-variants as U64
+use Rattle.xdr.specs.declared.answer.U32PairRead.{U32PairRead}
+use Rattle.xdr.specs.declared.answer.U32PairRead.the-variants as U32Pair
+use Rattle.xdr.specs.declared.answer.U64PairRead.{U64PairRead}
+use Rattle.xdr.specs.declared.answer.U64PairRead.the-variants as U64Pair
 use Rattle.xdr.specs.declared.answer.I32Read.{I32Read}
 use Rattle.xdr.specs.declared.answer.I32Read.the-variants as I32
 use Rattle.xdr.specs.declared.answer.I64Read.{I64Read}
@@ -66,6 +70,22 @@ viewU64 (U64.Took v n) = took v n true
 abbrev pub lostU64 : U64Read → Refusal
 lostU64 (U64.Refused r) = r
 lostU64 (U64.Took v n) = PastEnd
+
+abbrev pub viewU32Pair : U32PairRead → Answer (ℕ × ℕ)
+viewU32Pair (U32Pair.Refused r) = refusal r
+viewU32Pair (U32Pair.Took a b n) = took (a, b) n true
+
+abbrev pub lostU32Pair : U32PairRead → Refusal
+lostU32Pair (U32Pair.Refused r) = r
+lostU32Pair (U32Pair.Took a b n) = PastEnd
+
+abbrev pub viewU64Pair : U64PairRead → Answer (ℕ × ℕ)
+viewU64Pair (U64Pair.Refused r) = refusal r
+viewU64Pair (U64Pair.Took a b n) = took (a, b) n true
+
+abbrev pub lostU64Pair : U64PairRead → Refusal
+lostU64Pair (U64Pair.Refused r) = r
+lostU64Pair (U64Pair.Took a b n) = PastEnd
 
 abbrev pub viewI32 : I32Read → Answer ℤ
 viewI32 (I32.Refused r) = refusal r
