@@ -13,7 +13,7 @@ use Rattle.xdr.specs.Meaning.Answer.{most}
 use Rattle.xdr.specs.Meaning.Bytes.{Bytes}
 use Rattle.xdr.specs.Meaning.Formats.{pieceHeld}
 use Rattle.xdr.specs.Laws.Pieces.{piece-good}
-use Rattle.xdr.specs.Laws.Ranges.{word-good, hyper-good, flag-good}
+use Rattle.xdr.specs.Laws.Ranges.{word-good, hyper-good, word-pair-good, hyper-pair-good, flag-good}
 use Rattle.nfs.specs.Meaning.Stat.{nfsstat}
 use Rattle.nfs.specs.Meaning.Attr.{ftype, specdata, nfstime, ids, sizes, times, fattr, wcc-attr, pre-op-attr, post-op-attr, wcc-data, transfer, limits, fsinfo}
 use Rattle.nfs.specs.Meaning.Set.{time-how, set-mode, set-uid, set-gid, set-size, set-time, set-atime, set-mtime, sattr}
@@ -129,19 +129,19 @@ pub specdata-good : (m : specdata3) {vs : List Val} → Is specdata3·.the-row m
 unfolding specdata
 specdata-good m p =
     let f = p .1 .1 in
-    (word-good _ (f .0 .1), word-good _ (f .1 .0 .1))
+    word-pair-good _ _ (f .0 .1) (f .1 .0 .1)
 
 pub nfstime-good : (m : nfstime3) {vs : List Val} → Is nfstime3·.the-row m vs → nfstime .kind .Good m
 unfolding nfstime
 nfstime-good m p =
     let f = p .1 .1 in
-    (word-good _ (f .0 .1), word-good _ (f .1 .0 .1))
+    word-pair-good _ _ (f .0 .1) (f .1 .0 .1)
 
 pub fattr-good : (m : fattr3) {vs : List Val} → Is fattr3·.the-row m vs → fattr .kind .Good m
 unfolding fattr ids sizes times
 fattr-good m p =
     let f = p .1 .1 in
-    ((ftype-good (m .ftype), (word-good _ (f .1 .0 .1), (word-good _ (f .1 .1 .0 .1), (word-good _ (f .1 .1 .1 .0 .1), word-good _ (f .1 .1 .1 .1 .0 .1))))), ((hyper-good _ (f .1 .1 .1 .1 .1 .0 .1), (hyper-good _ (f .1 .1 .1 .1 .1 .1 .0 .1), (specdata-good (m .rdev) (f .1 .1 .1 .1 .1 .1 .1 .0), (hyper-good _ (f .1 .1 .1 .1 .1 .1 .1 .1 .0 .1), hyper-good _ (f .1 .1 .1 .1 .1 .1 .1 .1 .1 .0 .1))))), (nfstime-good (m .atime) (f .1 .1 .1 .1 .1 .1 .1 .1 .1 .1 .0), (nfstime-good (m .mtime) (f .1 .1 .1 .1 .1 .1 .1 .1 .1 .1 .1 .0), nfstime-good (m .ctime) (f .1 .1 .1 .1 .1 .1 .1 .1 .1 .1 .1 .1 .0)))))
+    ((ftype-good (m .ftype), (word-pair-good _ _ (f .1 .0 .1) (f .1 .1 .0 .1), word-pair-good _ _ (f .1 .1 .1 .0 .1) (f .1 .1 .1 .1 .0 .1))), ((hyper-pair-good _ _ (f .1 .1 .1 .1 .1 .0 .1) (f .1 .1 .1 .1 .1 .1 .0 .1), (specdata-good (m .rdev) (f .1 .1 .1 .1 .1 .1 .1 .0), hyper-pair-good _ _ (f .1 .1 .1 .1 .1 .1 .1 .1 .0 .1) (f .1 .1 .1 .1 .1 .1 .1 .1 .1 .0 .1))), (nfstime-good (m .atime) (f .1 .1 .1 .1 .1 .1 .1 .1 .1 .1 .0), (nfstime-good (m .mtime) (f .1 .1 .1 .1 .1 .1 .1 .1 .1 .1 .1 .0), nfstime-good (m .ctime) (f .1 .1 .1 .1 .1 .1 .1 .1 .1 .1 .1 .1 .0)))))
 
 pub wcc-attr-good : (m : «wcc_attr») {vs : List Val} → Is wcc-attr·.the-row m vs → wcc-attr .kind .Good m
 unfolding wcc-attr
@@ -169,7 +169,7 @@ pub fsinfo-good : (m : fsinfo3) {vs : List Val} → Is fsinfo3·.the-row m vs �
 unfolding fsinfo transfer limits
 fsinfo-good m p =
     let f = p .1 .1 in
-    (post-op-attr-good (m .«obj_attributes») (f .0), ((word-good _ (f .1 .0 .1), (word-good _ (f .1 .1 .0 .1), word-good _ (f .1 .1 .1 .0 .1))), ((word-good _ (f .1 .1 .1 .1 .0 .1), (word-good _ (f .1 .1 .1 .1 .1 .0 .1), word-good _ (f .1 .1 .1 .1 .1 .1 .0 .1))), (word-good _ (f .1 .1 .1 .1 .1 .1 .1 .0 .1), (hyper-good _ (f .1 .1 .1 .1 .1 .1 .1 .1 .0 .1), (nfstime-good (m .«time_delta») (f .1 .1 .1 .1 .1 .1 .1 .1 .1 .0), word-good _ (f .1 .1 .1 .1 .1 .1 .1 .1 .1 .1 .0 .1)))))))
+    (post-op-attr-good (m .«obj_attributes») (f .0), ((word-good _ (f .1 .0 .1), word-pair-good _ _ (f .1 .1 .0 .1) (f .1 .1 .1 .0 .1)), ((word-good _ (f .1 .1 .1 .1 .0 .1), word-pair-good _ _ (f .1 .1 .1 .1 .1 .0 .1) (f .1 .1 .1 .1 .1 .1 .0 .1)), (word-good _ (f .1 .1 .1 .1 .1 .1 .1 .0 .1), (hyper-good _ (f .1 .1 .1 .1 .1 .1 .1 .1 .0 .1), (nfstime-good (m .«time_delta») (f .1 .1 .1 .1 .1 .1 .1 .1 .1 .0), word-good _ (f .1 .1 .1 .1 .1 .1 .1 .1 .1 .1 .0 .1)))))))
 
 pub set-mode-good : (m : «set_mode3») {vs : List Val} → Is set-mode3·.the-row m vs → set-mode .kind .Good m
 unfolding set-mode

@@ -5,7 +5,7 @@ use mathlib.Core.Bool.{false}
 use mathlib.Core.List.{List, [], _∷_}
 use Prim.Native.Nat.{ℕ}
 use Rattle.xdr.specs.Meaning.Answer.{took, refused}
-use Rattle.xdr.specs.Meaning.Items.{number, word, hyper, flag, opaque}
+use Rattle.xdr.specs.Meaning.Items.{number, word, word-pair, hyper, flag, opaque}
 use Rattle.xdr.specs.Meaning.Formats.{pieceHeld}
 use Rattle.rpc.specs.Meaning.Closed.{auth-flavor}
 use Rattle.rpc.specs.Meaning.Auth.{opaque-auth}
@@ -63,10 +63,10 @@ pub taken : mkdir .held .read bytes 0
       ),
     )
     84 false
-unfolding mkdir number word hyper flag opaque pieceHeld auth-flavor opaque-auth reply-body call-body rpc-body rpc-msg nfs-fh diropargs nfstime set-mode set-uid set-gid set-size set-time set-atime set-mtime sattr
+unfolding mkdir number word word-pair hyper flag opaque pieceHeld auth-flavor opaque-auth reply-body call-body rpc-body rpc-msg nfs-fh diropargs nfstime set-mode set-uid set-gid set-size set-time set-atime set-mtime sattr
 taken = refl
 
 -- cut in the attributes: the refusal has the place of the item that is cut
 pub cut : mkdir .held .read (header (dirops (0 ∷ 0 ∷ 0 ∷ 0 ∷ 0 ∷ 0 ∷ []))) 0 ≡ refused 1 60
-unfolding mkdir number word hyper flag opaque pieceHeld auth-flavor opaque-auth reply-body call-body rpc-body rpc-msg nfs-fh diropargs nfstime set-mode set-uid set-gid set-size set-time set-atime set-mtime sattr
+unfolding mkdir number word word-pair hyper flag opaque pieceHeld auth-flavor opaque-auth reply-body call-body rpc-body rpc-msg nfs-fh diropargs nfstime set-mode set-uid set-gid set-size set-time set-atime set-mtime sattr
 cut = refl

@@ -11,7 +11,7 @@ use lib.ListN.{length}
 use borrow.Author.Tests.{leb-true, ltb-true, eq-eqb}
 use Rattle.xdr.specs.Meaning.Bytes.{Bytes}
 use Rattle.xdr.specs.Meaning.Answer.{Answer, took, refused, Taken, most, opened}
-use Rattle.xdr.specs.Meaning.Items.{number, word, hyper, flag, int, long, eight, opaque, words}
+use Rattle.xdr.specs.Meaning.Items.{number, word, word-pair, hyper-pair, hyper, flag, int, long, eight, opaque, words}
 use Rattle.xdr.specs.Meaning.Format.{Format, Branch}
 use Rattle.xdr.specs.Meaning.Formats.{eightHeld, pieceHeld, wordsHeld}
 use Rattle.xdr.specs.Meaning.Pieces.{partOf, wordsPartOf}
@@ -109,7 +109,7 @@ module _ {M S : Type 0} (F : Format M S) where
   by-zero = two (again 1 1) (again 1 0) (again-bytes 1 1 (omega arith)) (again-bytes 1 0 (omega arith))
 
 pub every-kind : Each kinds
-unfolding opened number word hyper flag int long eight opaque words eightHeld pieceHeld wordsHeld partOf wordsPartOf msg-type reply-stat accept-stat reject-stat auth-stat auth-flavor auth-unix opaque-auth rpc-msg rpc-body call-body reply-body accepted-reply accept-body rejected-reply mismatch-info nfsstat ftype specdata nfstime ids sizes times fattr transfer limits fsinfo wcc-attr pre-op-attr post-op-attr wcc-data time-how set-mode set-uid set-gid set-size set-time set-atime set-mtime sattr nfs-fh post-op-fh diropargs symlinkdata
+unfolding opened number word word-pair hyper-pair hyper flag int long eight opaque words eightHeld pieceHeld wordsHeld partOf wordsPartOf msg-type reply-stat accept-stat reject-stat auth-stat auth-flavor auth-unix opaque-auth rpc-msg rpc-body call-body reply-body accepted-reply accept-body rejected-reply mismatch-info nfsstat ftype specdata nfstime ids sizes times fattr transfer limits fsinfo wcc-attr pre-op-attr post-op-attr wcc-data time-how set-mode set-uid set-gid set-size set-time set-atime set-mtime sattr nfs-fh post-op-fh diropargs symlinkdata
 every-kind =
     (by-zero _ refl refl refl, (by-two _ refl refl refl, (by-two _ refl refl refl, (by-two _ refl refl refl, (by-two _ refl refl refl, (by-two _ refl refl refl, (by-two _ refl refl refl, (by-two _ refl refl refl, (by-two _ refl refl refl, (by-zero _ refl refl refl, (by-zero _ refl refl refl, (by-two _ refl refl refl, (by-zero _ refl refl refl, (by-two _ refl refl refl, (by-two _ refl refl refl, (by-two _ refl refl refl, (by-two _ refl refl refl, (by-two _ refl refl refl, (by-two _ refl refl refl, (by-two _ refl refl refl, (by-two _ refl refl refl, (by-two _ refl refl refl, (by-two _ refl refl refl, (by-two _ refl refl refl, (by-two _ refl refl refl, (by-two _ refl refl refl, (by-two _ refl refl refl, (by-two _ refl refl refl, (by-two _ refl refl refl, (by-two _ refl refl refl, (by-two _ refl refl refl, (by-two _ refl refl refl, (by-two _ refl refl refl, (by-two _ refl refl refl, (by-two _ refl refl refl, (by-two _ refl refl refl, (by-two _ refl refl refl, (by-two _ refl refl refl, (by-two _ refl refl refl, (by-two _ refl refl refl, (by-two _ refl refl refl, (by-two _ refl refl refl, (by-two _ refl refl refl, (by-two _ refl refl refl, (by-two _ refl refl refl, (by-two _ refl refl refl, (by-two _ refl refl refl, tt)))))))))))))))))))))))))))))))))))))))))))))))
 

@@ -12,7 +12,7 @@ use Rattle.xdr.specs.Meaning.Answer.{Answer, took, refused, mapAnswer, most, op
 use Rattle.xdr.specs.Meaning.Kind.{Codec}
 use Rattle.xdr.specs.Meaning.Combinators.{first, second, Seen, means, undeclared, View, meant, look, whole}
 use Rattle.xdr.specs.Meaning.Codecs.{block, void, chain, view, item, _⨾_, times}
-use Rattle.xdr.specs.Meaning.Items.{number, word, hyper, flag, int, long, eight, pad, opaque, words, if, option}
+use Rattle.xdr.specs.Meaning.Items.{number, word, hyper, word-pair, hyper-pair, flag, int, long, eight, pad, opaque, words, if, option}
 use Rattle.xdr.specs.Meaning.Bytes.{padding}
 use Rattle.xdr.specs.Meaning.Format.{Format, Branch, ifFormat, optional}
 use Rattle.xdr.specs.Meaning.Public.{Answers}
@@ -122,6 +122,14 @@ opaque-ends =
     item-ends _
     (view-ends (chain word (λ n. block n ⨾ pad (padding n))) (tag-ends word-ends (λ n. block-ends n then view-ends (block (padding n)) (block-ends (padding n)))))
 
+word-pair-ends : Numbered word-pair
+unfolding word-pair
+word-pair-ends = word-ends then word-ends
+
+hyper-pair-ends : Numbered hyper-pair
+unfolding hyper-pair
+hyper-pair-ends = hyper-ends then hyper-ends
+
 words-ends : Numbered words
 unfolding words
 words-ends = item-ends _ (view-ends (chain word (times word)) (tag-ends word-ends (times-ends word word-ends)))
@@ -207,18 +215,18 @@ ftype-ends = view-ends word word-ends
 
 specdata-ends : Numbered specdata
 unfolding specdata
-specdata-ends = view-ends (word ⨾ word) (word-ends then word-ends)
+specdata-ends = view-ends word-pair word-pair-ends
 
 time-ends : Numbered nfstime
 unfolding nfstime
-time-ends = view-ends (word ⨾ word) (word-ends then word-ends)
+time-ends = view-ends word-pair word-pair-ends
 
 fattr-ends : Numbered fattr
 unfolding fattr ids sizes attr.times
 fattr-ends =
     view-ends (ids ⨾ sizes ⨾ attr.times)
-    (view-ends (ftype ⨾ word ⨾ word ⨾ word ⨾ word) (ftype-ends then word-ends then word-ends then word-ends then word-ends)
-    then view-ends (hyper ⨾ hyper ⨾ specdata ⨾ hyper ⨾ hyper) (hyper-ends then hyper-ends then specdata-ends then hyper-ends then hyper-ends)
+    (view-ends (ftype ⨾ word-pair ⨾ word-pair) (ftype-ends then word-pair-ends then word-pair-ends)
+    then view-ends (hyper-pair ⨾ specdata ⨾ hyper-pair) (hyper-pair-ends then specdata-ends then hyper-pair-ends)
     then view-ends (nfstime ⨾ nfstime ⨾ nfstime) (time-ends then time-ends then time-ends))
 
 maybe-ends : {M N : Type 0} (C : Codec M) {W : View _ (option C .kind .Good) N} → Numbered C → Numbered (view (option C) W)
@@ -241,8 +249,8 @@ unfolding fsinfo transfer limits
 fsinfo-ends =
     view-ends (post-op-attr ⨾ transfer ⨾ transfer ⨾ limits)
     (post-ends
-    then view-ends (word ⨾ word ⨾ word) (word-ends then word-ends then word-ends)
-    then view-ends (word ⨾ word ⨾ word) (word-ends then word-ends then word-ends)
+    then view-ends (word ⨾ word-pair) (word-ends then word-pair-ends)
+    then view-ends (word ⨾ word-pair) (word-ends then word-pair-ends)
     then view-ends (word ⨾ hyper ⨾ nfstime ⨾ word) (word-ends then hyper-ends then time-ends then word-ends))
 
 mode-ends : Numbered set-mode

@@ -6,7 +6,7 @@ use mathlib.Core.List.{List, _++_, append-assoc}
 use Prim.Native.Nat.{ℕ, _+_}
 use native.Mathlib.Omega.{arith}
 use lib.ListN.{length, length-append}
-use Rattle.xdr.specs.Meaning.Items.{word, hyper}
+use Rattle.xdr.specs.Meaning.Items.{word, hyper, word-pair, hyper-pair}
 use Rattle.nfs.specs.Meaning.Attr.{ftype, specdata, nfstime, ids, sizes, times, fattr, wcc-attr, pre-op-attr, preCases, post-op-attr, postCases, wcc-data, transfer, limits, fsinfo}
 use Rattle.nfs.specs.Meaning.Set.{set-mode, modeCases, set-uid, uidCases, set-gid, gidCases, set-size, sizeCases, set-atime, atimeCases, set-mtime, mtimeCases, sattr}
 use Rattle.nfs.specs.Laws.Fixed.{word-fixed, hyper-fixed}
@@ -35,22 +35,22 @@ use Rattle.nfs.specs.declared.set.set_atime.{«set_atime»}
 use Rattle.nfs.specs.declared.set.set_mtime.{«set_mtime»}
 
 pub specdata-bytes : (m : specdata3)
-    → word .kind .write (m .specdata1) ++ word .kind .write (m .specdata2) ≡ specdata .kind .write m
+    → word-pair .kind .write (m .specdata1, m .specdata2) ≡ specdata .kind .write m
 unfolding specdata
 specdata-bytes m = refl
 
 pub nfstime-bytes : (m : nfstime3)
-    → word .kind .write (m .seconds) ++ word .kind .write (m .nseconds) ≡ nfstime .kind .write m
+    → word-pair .kind .write (m .seconds, m .nseconds) ≡ nfstime .kind .write m
 unfolding nfstime
 nfstime-bytes m = refl
 
 pub ids-bytes : (m : Ids)
-    → (((ftype .kind .write (m .ftype) ++ word .kind .write (m .mode)) ++ word .kind .write (m .nlink)) ++ word .kind .write (m .uid)) ++ word .kind .write (m .gid) ≡ ids .kind .write m
+    → (ftype .kind .write (m .ftype) ++ word-pair .kind .write (m .mode, m .nlink)) ++ word-pair .kind .write (m .uid, m .gid) ≡ ids .kind .write m
 unfolding ids
 ids-bytes m = simp append-assoc
 
 pub sizes-bytes : (m : Sizes)
-    → (((hyper .kind .write (m .size) ++ hyper .kind .write (m .used)) ++ specdata .kind .write (m .rdev)) ++ hyper .kind .write (m .fsid)) ++ hyper .kind .write (m .fileid) ≡ sizes .kind .write m
+    → (hyper-pair .kind .write (m .size, m .used) ++ specdata .kind .write (m .rdev)) ++ hyper-pair .kind .write (m .fsid, m .fileid) ≡ sizes .kind .write m
 unfolding sizes
 sizes-bytes m = simp append-assoc
 
@@ -70,9 +70,9 @@ unfolding wcc-data
 wcc-data-bytes m = refl
 
 pub transfer-bytes : (m : Transfer)
-    → (word .kind .write (m .max) ++ word .kind .write (m .pref)) ++ word .kind .write (m .mult) ≡ transfer .kind .write m
+    → word .kind .write (m .max) ++ word-pair .kind .write (m .pref, m .mult) ≡ transfer .kind .write m
 unfolding transfer
-transfer-bytes m = simp append-assoc
+transfer-bytes m = refl
 
 pub limits-bytes : (m : Limits)
     → ((word .kind .write (m .dtpref) ++ hyper .kind .write (m .maxfilesize)) ++ nfstime .kind .write (m .«time_delta»)) ++ word .kind .write (m .properties) ≡ limits .kind .write m

@@ -10,7 +10,7 @@ use Rattle.xdr.specs.Meaning.Answer.{Answer, took, refused}
 use Rattle.xdr.specs.Meaning.Kind.{Codec}
 use Rattle.xdr.specs.Meaning.Combinators.{Seen, means, undeclared, second, first, meant, look}
 use Rattle.xdr.specs.Meaning.Codecs.{_⨾_, seen, exactView}
-use Rattle.xdr.specs.Meaning.Items.{word, hyper}
+use Rattle.xdr.specs.Meaning.Items.{word, hyper, word-pair, hyper-pair}
 use Rattle.xdr.specs.Meaning.Combinators.{Exact}
 use Rattle.xdr.specs.Laws.Answers.{word-within, number-within}
 use Rattle.xdr.specs.Laws.Padding.{word-length, hyper-length}
@@ -57,6 +57,14 @@ module _ {M N : Type 0} {i j : ℕ} {A : Codec M} {B : Codec N} (F : Fixed i A) 
         reads = λ s p e. pair-first s p (A .kind .read s p) refl e;
         writes = λ m. length-append (A .kind .write (m .0)) (B .kind .write (m .1)) ∙ ap₂ (λ x y. x + y) (F .writes (m .0)) (G .writes (m .1));
       }
+
+pub word-pair-fixed : Fixed 8 word-pair
+unfolding word-pair
+word-pair-fixed = pair-fixed word-fixed word-fixed
+
+pub hyper-pair-fixed : Fixed 16 hyper-pair
+unfolding hyper-pair
+hyper-pair-fixed = pair-fixed hyper-fixed hyper-fixed
 
 -- seen as another
 module _ {M N : Type 0} {k : ℕ} {C : Codec M} (F : Fixed k C) (see : M → Seen N) (to : N → M) (exact : (x : M) → Exact (C .kind .Good) to x (see x))

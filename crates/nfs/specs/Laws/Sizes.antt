@@ -3,7 +3,7 @@
 use Rattle.nfs.specs.Meaning.Stat.{nfsstat}
 use Rattle.nfs.specs.Meaning.Attr.{ftype, specdata, nfstime, ids, sizes, times, fattr, wcc-attr, transfer, limits}
 use Rattle.nfs.specs.Meaning.Set.{time-how}
-use Rattle.nfs.specs.Laws.Fixed.{Fixed, word-fixed, hyper-fixed, pair-fixed, seen-fixed}
+use Rattle.nfs.specs.Laws.Fixed.{Fixed, word-fixed, hyper-fixed, pair-fixed, seen-fixed, word-pair-fixed, hyper-pair-fixed}
 
 pub nfsstat-fixed : Fixed 4 nfsstat
 unfolding nfsstat
@@ -19,20 +19,19 @@ time-how-fixed = seen-fixed word-fixed _ _ _ _
 
 pub specdata-fixed : Fixed 8 specdata
 unfolding specdata
-specdata-fixed = seen-fixed (pair-fixed word-fixed word-fixed) _ _ _ _
+specdata-fixed = seen-fixed word-pair-fixed _ _ _ _
 
 pub nfstime-fixed : Fixed 8 nfstime
 unfolding nfstime
-nfstime-fixed = seen-fixed (pair-fixed word-fixed word-fixed) _ _ _ _
+nfstime-fixed = seen-fixed word-pair-fixed _ _ _ _
 
 pub ids-fixed : Fixed 20 ids
 unfolding ids
-ids-fixed = seen-fixed (pair-fixed ftype-fixed (pair-fixed word-fixed (pair-fixed word-fixed (pair-fixed word-fixed word-fixed)))) _ _ _ _
+ids-fixed = seen-fixed (pair-fixed ftype-fixed (pair-fixed word-pair-fixed word-pair-fixed)) _ _ _ _
 
 pub sizes-fixed : Fixed 40 sizes
 unfolding sizes
-sizes-fixed =
-    seen-fixed (pair-fixed hyper-fixed (pair-fixed hyper-fixed (pair-fixed specdata-fixed (pair-fixed hyper-fixed hyper-fixed)))) _ _ _ _
+sizes-fixed = seen-fixed (pair-fixed hyper-pair-fixed (pair-fixed specdata-fixed hyper-pair-fixed)) _ _ _ _
 
 pub times-fixed : Fixed 24 times
 unfolding times
@@ -48,7 +47,7 @@ wcc-attr-fixed = seen-fixed (pair-fixed hyper-fixed (pair-fixed nfstime-fixed nf
 
 pub transfer-fixed : Fixed 12 transfer
 unfolding transfer
-transfer-fixed = seen-fixed (pair-fixed word-fixed (pair-fixed word-fixed word-fixed)) _ _ _ _
+transfer-fixed = seen-fixed (pair-fixed word-fixed word-pair-fixed) _ _ _ _
 
 pub limits-fixed : Fixed 24 limits
 unfolding limits

@@ -7,7 +7,7 @@ use Prim.Native.Nat.{ℕ}
 use Rattle.xdr.specs.Meaning.Kind.{Codec}
 use Rattle.xdr.specs.Meaning.Combinators.{means}
 use Rattle.xdr.specs.Meaning.Codecs.{_⨾_, mapped}
-use Rattle.xdr.specs.Meaning.Items.{word, hyper, closed}
+use Rattle.xdr.specs.Meaning.Items.{word, hyper, word-pair, hyper-pair, closed}
 use Rattle.xdr.specs.Meaning.Combinators.{among}
 use Rattle.nfs.specs.Meaning.Cases.{Cases, maybe}
 use Rattle.nfs.specs.declared.attr.ftype3.{ftype3}
@@ -56,24 +56,24 @@ ftype = closed ftypeNumber ftypes each-ftype
 -- specdata3
 unfoldable pub specdata : Codec specdata3
 specdata =
-    mapped (word ⨾ word) (λ x. record { specdata1 = x .0; specdata2 = x .1 }) (λ m. (m .specdata1, m .specdata2))
+    mapped word-pair (λ x. record { specdata1 = x .0; specdata2 = x .1 }) (λ m. (m .specdata1, m .specdata2))
     (λ x. refl) (λ m. refl)
 
 -- nfstime3
 unfoldable pub nfstime : Codec nfstime3
 nfstime =
-    mapped (word ⨾ word) (λ x. record { seconds = x .0; nseconds = x .1 }) (λ m. (m .seconds, m .nseconds))
+    mapped word-pair (λ x. record { seconds = x .0; nseconds = x .1 }) (λ m. (m .seconds, m .nseconds))
     (λ x. refl) (λ m. refl)
 
 -- fattr3, in three groups
 unfoldable pub ids : Codec Ids
 ids =
-    mapped (ftype ⨾ word ⨾ word ⨾ word ⨾ word) (λ x. record { ftype = x .0; mode = x .1 .0; nlink = x .1 .1 .0; uid = x .1 .1 .1 .0; gid = x .1 .1 .1 .1 }) (λ m. (m .ftype, (m .mode, (m .nlink, (m .uid, m .gid)))))
+    mapped (ftype ⨾ word-pair ⨾ word-pair) (λ x. record { ftype = x .0; mode = x .1 .0 .0; nlink = x .1 .0 .1; uid = x .1 .1 .0; gid = x .1 .1 .1 }) (λ m. (m .ftype, ((m .mode, m .nlink), (m .uid, m .gid))))
     (λ x. refl) (λ m. refl)
 
 unfoldable pub sizes : Codec Sizes
 sizes =
-    mapped (hyper ⨾ hyper ⨾ specdata ⨾ hyper ⨾ hyper) (λ x. record { size = x .0; used = x .1 .0; rdev = x .1 .1 .0; fsid = x .1 .1 .1 .0; fileid = x .1 .1 .1 .1 }) (λ m. (m .size, (m .used, (m .rdev, (m .fsid, m .fileid)))))
+    mapped (hyper-pair ⨾ specdata ⨾ hyper-pair) (λ x. record { size = x .0 .0; used = x .0 .1; rdev = x .1 .0; fsid = x .1 .1 .0; fileid = x .1 .1 .1 }) (λ m. ((m .size, m .used), (m .rdev, (m .fsid, m .fileid))))
     (λ x. refl) (λ m. refl)
 
 unfoldable pub times : Codec Times
@@ -164,7 +164,7 @@ wcc-data =
 -- fsinfo3: after the attributes, the most, the preferred and the multiple of bytes of a READ, the same of a WRITE, and the rest
 unfoldable pub transfer : Codec Transfer
 transfer =
-    mapped (word ⨾ word ⨾ word) (λ x. record { max = x .0; pref = x .1 .0; mult = x .1 .1 }) (λ m. (m .max, (m .pref, m .mult)))
+    mapped (word ⨾ word-pair) (λ x. record { max = x .0; pref = x .1 .0; mult = x .1 .1 }) (λ m. (m .max, (m .pref, m .mult)))
     (λ x. refl) (λ m. refl)
 
 unfoldable pub limits : Codec Limits

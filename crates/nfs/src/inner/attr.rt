@@ -29,11 +29,15 @@ use crate::attr::wcc_attr;
 use crate::attr::wcc_data;
 use xdr::BoolRead;
 use xdr::Refusal;
+use xdr::U32PairRead;
 use xdr::U32Read;
+use xdr::U64PairRead;
 use xdr::U64Read;
 use xdr::inner::bool_at;
 use xdr::inner::u32_at;
+use xdr::inner::u32_pair_at;
 use xdr::inner::u64_at;
+use xdr::inner::u64_pair_at;
 
 // Fields that stand together in `fattr3`: its readers and writers go by these.
 pub struct Ids {
@@ -189,53 +193,39 @@ pub fn ftype3_at(src: &[u8], at: usize) -> Ftype3Read
 pub fn specdata3_at(src: &[u8], at: usize) -> Specdata3Read
     ensures { λ r. ⌜ viewSpecdata3 r ≡ specdata .kind .read (now (src .entry)) at ⌝ }
 {
-    let r1 = u32_at(src, at);
-    let U32Read::Took {
-        value: specdata1,
+    let r1 = u32_pair_at(src, at);
+    let U32PairRead::Took {
+        first: specdata1,
+        second: specdata2,
         next: n1,
     } = r1
     else {
         return Specdata3Read::Refused(r1.refusal());
-    };
-    let r2 = u32_at(src, n1);
-    let U32Read::Took {
-        value: specdata2,
-        next: _,
-    } = r2
-    else {
-        return Specdata3Read::Refused(r2.refusal());
     };
     Specdata3Read::Took {
         value: specdata3 {
             specdata1,
             specdata2,
         },
-        next: at + specdata3::SIZE,
+        next: n1,
     }
 }
 
 pub fn nfstime3_at(src: &[u8], at: usize) -> Nfstime3Read
     ensures { λ r. ⌜ viewNfstime3 r ≡ nfstime .kind .read (now (src .entry)) at ⌝ }
 {
-    let r1 = u32_at(src, at);
-    let U32Read::Took {
-        value: seconds,
+    let r1 = u32_pair_at(src, at);
+    let U32PairRead::Took {
+        first: seconds,
+        second: nseconds,
         next: n1,
     } = r1
     else {
         return Nfstime3Read::Refused(r1.refusal());
     };
-    let r2 = u32_at(src, n1);
-    let U32Read::Took {
-        value: nseconds,
-        next: _,
-    } = r2
-    else {
-        return Nfstime3Read::Refused(r2.refusal());
-    };
     Nfstime3Read::Took {
         value: nfstime3 { seconds, nseconds },
-        next: at + nfstime3::SIZE,
+        next: n1,
     }
 }
 
@@ -250,37 +240,23 @@ pub fn ids_at(src: &[u8], at: usize) -> IdsRead
     else {
         return IdsRead::Refused(r1.refusal());
     };
-    let r2 = u32_at(src, n1);
-    let U32Read::Took {
-        value: mode,
+    let r2 = u32_pair_at(src, n1);
+    let U32PairRead::Took {
+        first: mode,
+        second: nlink,
         next: n2,
     } = r2
     else {
         return IdsRead::Refused(r2.refusal());
     };
-    let r3 = u32_at(src, n2);
-    let U32Read::Took {
-        value: nlink,
+    let r3 = u32_pair_at(src, n2);
+    let U32PairRead::Took {
+        first: uid,
+        second: gid,
         next: n3,
     } = r3
     else {
         return IdsRead::Refused(r3.refusal());
-    };
-    let r4 = u32_at(src, n3);
-    let U32Read::Took {
-        value: uid,
-        next: n4,
-    } = r4
-    else {
-        return IdsRead::Refused(r4.refusal());
-    };
-    let r5 = u32_at(src, n4);
-    let U32Read::Took {
-        value: gid,
-        next: _,
-    } = r5
-    else {
-        return IdsRead::Refused(r5.refusal());
     };
     IdsRead::Took {
         value: Ids {
@@ -290,52 +266,38 @@ pub fn ids_at(src: &[u8], at: usize) -> IdsRead
             uid,
             gid,
         },
-        next: at + Ids::SIZE,
+        next: n3,
     }
 }
 
 pub fn sizes_at(src: &[u8], at: usize) -> SizesRead
     ensures { λ r. ⌜ viewSizes r ≡ sizes .kind .read (now (src .entry)) at ⌝ }
 {
-    let r1 = u64_at(src, at);
-    let U64Read::Took {
-        value: size,
+    let r1 = u64_pair_at(src, at);
+    let U64PairRead::Took {
+        first: size,
+        second: used,
         next: n1,
     } = r1
     else {
         return SizesRead::Refused(r1.refusal());
     };
-    let r2 = u64_at(src, n1);
-    let U64Read::Took {
-        value: used,
+    let r2 = specdata3_at(src, n1);
+    let Specdata3Read::Took {
+        value: rdev,
         next: n2,
     } = r2
     else {
         return SizesRead::Refused(r2.refusal());
     };
-    let r3 = specdata3_at(src, n2);
-    let Specdata3Read::Took {
-        value: rdev,
+    let r3 = u64_pair_at(src, n2);
+    let U64PairRead::Took {
+        first: fsid,
+        second: fileid,
         next: n3,
     } = r3
     else {
         return SizesRead::Refused(r3.refusal());
-    };
-    let r4 = u64_at(src, n3);
-    let U64Read::Took {
-        value: fsid,
-        next: n4,
-    } = r4
-    else {
-        return SizesRead::Refused(r4.refusal());
-    };
-    let r5 = u64_at(src, n4);
-    let U64Read::Took {
-        value: fileid,
-        next: _,
-    } = r5
-    else {
-        return SizesRead::Refused(r5.refusal());
     };
     SizesRead::Took {
         value: Sizes {
@@ -345,7 +307,7 @@ pub fn sizes_at(src: &[u8], at: usize) -> SizesRead
             fsid,
             fileid,
         },
-        next: at + Sizes::SIZE,
+        next: n3,
     }
 }
 
@@ -570,25 +532,18 @@ pub fn transfer_at(src: &[u8], at: usize) -> TransferRead
     else {
         return TransferRead::Refused(r1.refusal());
     };
-    let r2 = u32_at(src, n1);
-    let U32Read::Took {
-        value: pref,
+    let r2 = u32_pair_at(src, n1);
+    let U32PairRead::Took {
+        first: pref,
+        second: mult,
         next: n2,
     } = r2
     else {
         return TransferRead::Refused(r2.refusal());
     };
-    let r3 = u32_at(src, n2);
-    let U32Read::Took {
-        value: mult,
-        next: _,
-    } = r3
-    else {
-        return TransferRead::Refused(r3.refusal());
-    };
     TransferRead::Took {
         value: Transfer { max, pref, mult },
-        next: at + Transfer::SIZE,
+        next: n2,
     }
 }
 

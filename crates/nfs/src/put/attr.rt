@@ -19,7 +19,9 @@ use crate::inner::attr::Times;
 use crate::inner::attr::Transfer;
 use xdr::inner::put_bool;
 use xdr::inner::put_u32;
+use xdr::inner::put_u32_pair;
 use xdr::inner::put_u64;
+use xdr::inner::put_u64_pair;
 
 pub fn put_ftype3(v: ftype3, out: &mut [u8])
     ensures { λ _. ⌜ now (out .exit) ≡ laid (ftype .kind .write v) (now (out .entry)) ⌝ }
@@ -30,21 +32,13 @@ pub fn put_ftype3(v: ftype3, out: &mut [u8])
 pub fn put_specdata3(v: specdata3, out: &mut [u8])
     ensures { λ _. ⌜ now (out .exit) ≡ laid (specdata .kind .write v) (now (out .entry)) ⌝ }
 {
-    if out.len() < specdata3::SIZE {
-        return;
-    }
-    put_u32(v.specdata1, &mut out[0..]);
-    put_u32(v.specdata2, &mut out[4..]);
+    put_u32_pair(v.specdata1, v.specdata2, out);
 }
 
 pub fn put_nfstime3(v: nfstime3, out: &mut [u8])
     ensures { λ _. ⌜ now (out .exit) ≡ laid (nfstime .kind .write v) (now (out .entry)) ⌝ }
 {
-    if out.len() < nfstime3::SIZE {
-        return;
-    }
-    put_u32(v.seconds, &mut out[0..]);
-    put_u32(v.nseconds, &mut out[4..]);
+    put_u32_pair(v.seconds, v.nseconds, out);
 }
 
 pub fn put_ids(v: Ids, out: &mut [u8])
@@ -55,10 +49,8 @@ pub fn put_ids(v: Ids, out: &mut [u8])
     }
     let ftype = v.ftype;
     put_ftype3(ftype, &mut out[0..]);
-    put_u32(v.mode, &mut out[4..]);
-    put_u32(v.nlink, &mut out[8..]);
-    put_u32(v.uid, &mut out[12..]);
-    put_u32(v.gid, &mut out[16..]);
+    put_u32_pair(v.mode, v.nlink, &mut out[4..]);
+    put_u32_pair(v.uid, v.gid, &mut out[12..]);
 }
 
 pub fn put_sizes(v: Sizes, out: &mut [u8])
@@ -68,11 +60,9 @@ pub fn put_sizes(v: Sizes, out: &mut [u8])
         return;
     }
     let rdev = v.rdev;
-    put_u64(v.size, &mut out[0..]);
-    put_u64(v.used, &mut out[8..]);
+    put_u64_pair(v.size, v.used, &mut out[0..]);
     put_specdata3(rdev, &mut out[16..]);
-    put_u64(v.fsid, &mut out[24..]);
-    put_u64(v.fileid, &mut out[32..]);
+    put_u64_pair(v.fsid, v.fileid, &mut out[24..]);
 }
 
 pub fn put_times(v: Times, out: &mut [u8])
@@ -213,8 +203,7 @@ pub fn put_transfer(v: Transfer, out: &mut [u8])
         return;
     }
     put_u32(v.max, &mut out[0..]);
-    put_u32(v.pref, &mut out[4..]);
-    put_u32(v.mult, &mut out[8..]);
+    put_u32_pair(v.pref, v.mult, &mut out[4..]);
 }
 
 pub fn put_limits(v: Limits, out: &mut [u8])

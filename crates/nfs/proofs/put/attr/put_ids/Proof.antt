@@ -1,7 +1,7 @@
 use borrow.Author.Needs.{needs}
 use native.Mathlib.Omega.{arith}
 use Rattle.xdr.specs.Laws.Write.{laid-short, laid-is, put-same, lent, lent-first}
-use Rattle.nfs.specs.Laws.Fixed.{word-fixed}
+use Rattle.nfs.specs.Laws.Fixed.{word-pair-fixed}
 use Rattle.nfs.specs.Laws.Sizes.{ftype-fixed, ids-fixed}
 use Rattle.nfs.specs.Laws.Bytes.{ids-bytes}
 use Rattle.nfs.proofs.put.attr.put_ids.Statement.{statement}
@@ -11,12 +11,10 @@ returns : tie.Need-returns
 returns c = laid-short _ _ (omega (arith, ids-fixed .writes (c .before .before .args .v)))
 
 returns-2 : tie.Need-returns-2
-returns-2 c = laid-is (omega arith) (put-same (ids-bytes (c .before .before .before .before .before .before .before .before .before .before .before .before .before .before .before .before .before .before .before .before .before .before .args .v)) (lent _ (lent _ (lent _ (lent _ (lent-first _ (omega arith) (ftype-fixed .writes _) (c .before .before .before .before .before .before .before .before .before .before .before .before .before .before .before .before .before .before .put-ftype3 .ensures)) (omega arith) (word-fixed .writes _) (c .before .before .before .before .before .before .before .before .before .before .before .before .before .before .put-u32 .ensures)) (omega arith) (word-fixed .writes _) (c .before .before .before .before .before .before .before .before .before .before .put-u322 .ensures)) (omega arith) (word-fixed .writes _) (c .before .before .before .before .before .before .put-u323 .ensures)) (omega arith) (word-fixed .writes _) (c .before .before .put-u324 .ensures)))
+returns-2 c = laid-is (omega arith) (put-same (ids-bytes (c .before .before .before .before .before .before .before .before .before .before .before .before .before .before .args .v)) (lent _ (lent _ (lent-first _ (omega arith) (ftype-fixed .writes _) (c .before .before .before .before .before .before .before .before .before .before .put-ftype3 .ensures)) (omega arith) (word-pair-fixed .writes _) (c .before .before .before .before .before .before .put-u32-pair .ensures)) (omega arith) (word-pair-fixed .writes _) (c .before .before .put-u32-pair2 .ensures)))
 
 pub put-ids-spec : {M : Type 1} → statement M
 put-ids-spec =
     tie.close
     (tie.spec
-    returns (search needs) (search needs) (search needs) (search needs) (search needs) (search needs) (search needs) (search needs)
-    (search needs) (search needs) (search needs) (search needs) (search needs) (search needs) (search needs) (search needs) (search needs)
-    (search needs) (search needs) (search needs) (search needs) returns-2)
+    returns (search needs) (search needs) (search needs) (search needs) (search needs) (search needs) (search needs) (search needs) (search needs) (search needs) (search needs) (search needs) (search needs) returns-2)
