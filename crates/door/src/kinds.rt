@@ -1,6 +1,6 @@
 // A message of a kind that is named by its number.
 ghost use Rattle.door.specs.Meaning.Copy.{viewCopied};
-ghost use Rattle.door.specs.Meaning.Kinds.{kinds, CopiesOf};
+ghost use Rattle.door.specs.Meaning.Kinds.{itemKinds, closedKinds, messageKinds, attributeKinds, changeKinds, kinds, CopiesOf};
 use crate::copy::Copied;
 use crate::files::copy_diropargs3;
 use crate::files::copy_fattr3;
@@ -49,9 +49,9 @@ use crate::messages::copy_reply_stat;
 use crate::messages::copy_rpc_body;
 use crate::messages::copy_rpc_msg;
 
-// Reads a message of the kind from a place of one buffer and writes it, in published form, from a place of another.
-pub fn copy_kind(kind: u32, src: &[u8], at: usize, out: &mut [u8], start: usize) -> Copied
-    ensures { λ r. ⌜ CopiesOf kinds kind (now (src .entry)) at start (now (out .entry)) (viewCopied r) (now (out .exit)) ⌝ }
+// The items.
+fn copy_item(kind: u32, src: &[u8], at: usize, out: &mut [u8], start: usize) -> Copied
+    ensures { λ r. ⌜ CopiesOf itemKinds kind (now (src .entry)) at start (now (out .entry)) (viewCopied r) (now (out .exit)) ⌝ }
 {
     match kind {
         0 => copy_bool(src, at, out, start),
@@ -63,44 +63,99 @@ pub fn copy_kind(kind: u32, src: &[u8], at: usize, out: &mut [u8], start: usize)
         6 => copy_opaque(src, at, out, start),
         7 => copy_opaque(src, at, out, start),
         8 => copy_words(src, at, out, start),
-        9 => copy_msg_type(src, at, out, start),
-        10 => copy_reply_stat(src, at, out, start),
-        11 => copy_accept_stat(src, at, out, start),
-        12 => copy_reject_stat(src, at, out, start),
-        13 => copy_auth_stat(src, at, out, start),
-        14 => copy_auth_flavor(src, at, out, start),
-        15 => copy_time_how(src, at, out, start),
-        16 => copy_nfsstat3(src, at, out, start),
-        17 => copy_ftype3(src, at, out, start),
-        18 => copy_auth_unix(src, at, out, start),
-        19 => copy_opaque_auth(src, at, out, start),
-        20 => copy_rpc_msg(src, at, out, start),
-        21 => copy_rpc_body(src, at, out, start),
-        22 => copy_call_body(src, at, out, start),
-        23 => copy_reply_body(src, at, out, start),
-        24 => copy_accepted_reply(src, at, out, start),
-        25 => copy_accept_body(src, at, out, start),
-        26 => copy_rejected_reply(src, at, out, start),
-        27 => copy_mismatch_info(src, at, out, start),
-        28 => copy_specdata3(src, at, out, start),
-        29 => copy_nfs_fh3(src, at, out, start),
-        30 => copy_nfstime3(src, at, out, start),
-        31 => copy_fattr3(src, at, out, start),
-        32 => copy_fsinfo3(src, at, out, start),
-        33 => copy_wcc_attr(src, at, out, start),
-        34 => copy_pre_op_attr(src, at, out, start),
-        35 => copy_post_op_attr(src, at, out, start),
-        36 => copy_wcc_data(src, at, out, start),
-        37 => copy_post_op_fh3(src, at, out, start),
-        38 => copy_set_mode3(src, at, out, start),
-        39 => copy_set_uid3(src, at, out, start),
-        40 => copy_set_gid3(src, at, out, start),
-        41 => copy_set_size3(src, at, out, start),
-        42 => copy_set_atime(src, at, out, start),
-        43 => copy_set_mtime(src, at, out, start),
-        44 => copy_sattr3(src, at, out, start),
-        45 => copy_diropargs3(src, at, out, start),
-        46 => copy_symlinkdata3(src, at, out, start),
         _ => Copied::Unknown,
     }
+}
+
+// The closed enumerations.
+fn copy_closed(kind: u32, src: &[u8], at: usize, out: &mut [u8], start: usize) -> Copied
+    ensures { λ r. ⌜ CopiesOf closedKinds kind (now (src .entry)) at start (now (out .entry)) (viewCopied r) (now (out .exit)) ⌝ }
+{
+    match kind {
+        0 => copy_msg_type(src, at, out, start),
+        1 => copy_reply_stat(src, at, out, start),
+        2 => copy_accept_stat(src, at, out, start),
+        3 => copy_reject_stat(src, at, out, start),
+        4 => copy_auth_stat(src, at, out, start),
+        5 => copy_auth_flavor(src, at, out, start),
+        6 => copy_time_how(src, at, out, start),
+        7 => copy_nfsstat3(src, at, out, start),
+        8 => copy_ftype3(src, at, out, start),
+        _ => Copied::Unknown,
+    }
+}
+
+// The messages of RFC 5531.
+fn copy_message(kind: u32, src: &[u8], at: usize, out: &mut [u8], start: usize) -> Copied
+    ensures { λ r. ⌜ CopiesOf messageKinds kind (now (src .entry)) at start (now (out .entry)) (viewCopied r) (now (out .exit)) ⌝ }
+{
+    match kind {
+        0 => copy_auth_unix(src, at, out, start),
+        1 => copy_opaque_auth(src, at, out, start),
+        2 => copy_rpc_msg(src, at, out, start),
+        3 => copy_rpc_body(src, at, out, start),
+        4 => copy_call_body(src, at, out, start),
+        5 => copy_reply_body(src, at, out, start),
+        6 => copy_accepted_reply(src, at, out, start),
+        7 => copy_accept_body(src, at, out, start),
+        8 => copy_rejected_reply(src, at, out, start),
+        9 => copy_mismatch_info(src, at, out, start),
+        _ => Copied::Unknown,
+    }
+}
+
+// Attributes and what holds them (RFC 1813).
+fn copy_attributes(kind: u32, src: &[u8], at: usize, out: &mut [u8], start: usize) -> Copied
+    ensures { λ r. ⌜ CopiesOf attributeKinds kind (now (src .entry)) at start (now (out .entry)) (viewCopied r) (now (out .exit)) ⌝ }
+{
+    match kind {
+        0 => copy_specdata3(src, at, out, start),
+        1 => copy_nfs_fh3(src, at, out, start),
+        2 => copy_nfstime3(src, at, out, start),
+        3 => copy_fattr3(src, at, out, start),
+        4 => copy_fsinfo3(src, at, out, start),
+        5 => copy_wcc_attr(src, at, out, start),
+        6 => copy_pre_op_attr(src, at, out, start),
+        7 => copy_post_op_attr(src, at, out, start),
+        8 => copy_wcc_data(src, at, out, start),
+        9 => copy_post_op_fh3(src, at, out, start),
+        _ => Copied::Unknown,
+    }
+}
+
+// What a call changes, and names (RFC 1813).
+fn copy_change(kind: u32, src: &[u8], at: usize, out: &mut [u8], start: usize) -> Copied
+    ensures { λ r. ⌜ CopiesOf changeKinds kind (now (src .entry)) at start (now (out .entry)) (viewCopied r) (now (out .exit)) ⌝ }
+{
+    match kind {
+        0 => copy_set_mode3(src, at, out, start),
+        1 => copy_set_uid3(src, at, out, start),
+        2 => copy_set_gid3(src, at, out, start),
+        3 => copy_set_size3(src, at, out, start),
+        4 => copy_set_atime(src, at, out, start),
+        5 => copy_set_mtime(src, at, out, start),
+        6 => copy_sattr3(src, at, out, start),
+        7 => copy_diropargs3(src, at, out, start),
+        8 => copy_symlinkdata3(src, at, out, start),
+        _ => Copied::Unknown,
+    }
+}
+
+// Reads a message of the kind from a place of one buffer and writes it, in published form, from a place of another.
+pub fn copy_kind(kind: u32, src: &[u8], at: usize, out: &mut [u8], start: usize) -> Copied
+    ensures { λ r. ⌜ CopiesOf kinds kind (now (src .entry)) at start (now (out .entry)) (viewCopied r) (now (out .exit)) ⌝ }
+{
+    if kind < 9 {
+        return copy_item(kind, src, at, out, start);
+    }
+    if kind < 18 {
+        return copy_closed(kind - 9, src, at, out, start);
+    }
+    if kind < 28 {
+        return copy_message(kind - 18, src, at, out, start);
+    }
+    if kind < 38 {
+        return copy_attributes(kind - 28, src, at, out, start);
+    }
+    copy_change(kind - 38, src, at, out, start)
 }

@@ -3,7 +3,7 @@
 use mathlib.Core.Path.{_≡_, refl, sym, ap, subst, _∙_}
 use mathlib.Core.Bool.{Bool, true, false}
 use mathlib.Core.List.{List, [], _∷_, _++_}
-use Prim.Native.Nat.{ℕ, zero, suc, _≤_, _<_}
+use Prim.Native.Nat.{ℕ, zero, suc, _+_, _≤_, _<_}
 use native.Mathlib.Omega.{arith}
 use lib.ListN.{length, take, drop}
 use lib.Dec.{leb}
@@ -87,3 +87,16 @@ none-of {m} {k} h n = by-order (leb (suc m) k) refl
     by-order : (t : Bool) → leb (suc m) k ≡ t → suc m ≤ k
     by-order true e = leb-true (suc m) k e
     by-order false e = let g : k < suc m = leb-false (suc m) k e in absurd (n (omega arith))
+
+-- a kind of the front of a list, and one behind it
+pub in-front : (l r : List Branch) (k : ℕ) (s : List ℕ) (at start : ℕ) (o : List ℕ) (c : Copy) (o′ : List ℕ) → k < length l → CopiesOf l k s at start o c o′
+    → CopiesOf (l ++ r) k s at start o c o′
+in-front [] r k s at start o c o′ h p = absurd (omega arith)
+in-front (b ∷ l) r zero s at start o c o′ h p = p
+in-front (b ∷ l) r (suc k) s at start o c o′ h p = in-front l r k s at start o c o′ (omega arith) p
+
+pub behind : (l r : List Branch) (j k : ℕ) (s : List ℕ) (at start : ℕ) (o : List ℕ) (c : Copy) (o′ : List ℕ) → k ≡ length l + j → CopiesOf r j s at start o c o′
+    → CopiesOf (l ++ r) k s at start o c o′
+behind [] r j k s at start o c o′ e p = let f : j ≡ k = omega arith in subst (λ i. CopiesOf r i s at start o c o′) f p
+behind (b ∷ l) r j zero s at start o c o′ e p = absurd (omega arith)
+behind (b ∷ l) r j (suc k) s at start o c o′ e p = behind l r j k s at start o c o′ (omega arith) p

@@ -1,7 +1,7 @@
 -- The kinds by their numbers, in the order of the answering program's list.
 -- Assumes nothing.
 use mathlib.Core.Path.{_≡_}
-use mathlib.Core.List.{List, [], _∷_}
+use mathlib.Core.List.{List, [], _∷_, _++_}
 use Prim.Native.Nat.{ℕ, zero, suc}
 use Rattle.xdr.specs.Meaning.Items.{word, hyper, flag, int, long}
 use Rattle.xdr.specs.Meaning.Format.{Branch, branch, exactly}
@@ -16,9 +16,9 @@ use Rattle.nfs.specs.Meaning.Set.{time-how, set-mode, set-uid, set-gid, set-siz
 use Rattle.nfs.specs.Meaning.Dir.{nfs-fh, post-op-fh, diropargs, symlinkdata}
 use Rattle.door.specs.Meaning.Copy.{Copy, unknown, Copies}
 
-abbrev pub kinds : List Branch
-kinds =
-    -- the items
+-- the items
+abbrev pub itemKinds : List Branch
+itemKinds =
     branch (exactly flag)
     ∷ branch (exactly int)
     ∷ branch (exactly long)
@@ -28,19 +28,26 @@ kinds =
     ∷ branch bytes
     ∷ branch bytes
     ∷ branch wordList
-    -- RFC 5531, closed enumerations
-    ∷ branch (exactly msg-type)
+    ∷ []
+
+-- the closed enumerations of RFC 5531 and RFC 1813
+abbrev pub closedKinds : List Branch
+closedKinds =
+    branch (exactly msg-type)
     ∷ branch (exactly reply-stat)
     ∷ branch (exactly accept-stat)
     ∷ branch (exactly reject-stat)
     ∷ branch (exactly auth-stat)
     ∷ branch (exactly auth-flavor)
-    -- RFC 1813, closed enumerations
     ∷ branch (exactly time-how)
     ∷ branch (exactly nfsstat)
     ∷ branch (exactly ftype)
-    -- RFC 5531
-    ∷ branch auth-unix
+    ∷ []
+
+-- the messages of RFC 5531
+abbrev pub messageKinds : List Branch
+messageKinds =
+    branch auth-unix
     ∷ branch opaque-auth
     ∷ branch rpc-msg
     ∷ branch rpc-body
@@ -50,8 +57,12 @@ kinds =
     ∷ branch (exactly accept-body)
     ∷ branch (exactly rejected-reply)
     ∷ branch (exactly mismatch-info)
-    -- RFC 1813
-    ∷ branch (exactly specdata)
+    ∷ []
+
+-- attributes and what holds them (RFC 1813)
+abbrev pub attributeKinds : List Branch
+attributeKinds =
+    branch (exactly specdata)
     ∷ branch nfs-fh
     ∷ branch (exactly nfstime)
     ∷ branch (exactly fattr)
@@ -61,7 +72,12 @@ kinds =
     ∷ branch (exactly post-op-attr)
     ∷ branch (exactly wcc-data)
     ∷ branch post-op-fh
-    ∷ branch (exactly set-mode)
+    ∷ []
+
+-- what a call changes, and names (RFC 1813)
+abbrev pub changeKinds : List Branch
+changeKinds =
+    branch (exactly set-mode)
     ∷ branch (exactly set-uid)
     ∷ branch (exactly set-gid)
     ∷ branch (exactly set-size)
@@ -71,6 +87,9 @@ kinds =
     ∷ branch diropargs
     ∷ branch symlinkdata
     ∷ []
+
+abbrev pub kinds : List Branch
+kinds = itemKinds ++ closedKinds ++ messageKinds ++ attributeKinds ++ changeKinds
 
 -- the message of the k-th kind of a list, copied; past the list's end the kind is unknown
 abbrev pub CopiesOf : List Branch → ℕ → List ℕ → ℕ → ℕ → List ℕ → Copy → List ℕ → Type 0
