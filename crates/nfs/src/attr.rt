@@ -20,6 +20,13 @@ pub type mode3 = u32;
 
 pub type count3 = u32;
 
+// Eight fixed bytes, held as the number that they write.
+pub type cookieverf3 = u64;
+
+pub type createverf3 = u64;
+
+pub type writeverf3 = u64;
+
 pub enum ftype3 {
     NF3REG,
     NF3DIR,
