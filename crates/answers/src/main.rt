@@ -10,34 +10,80 @@ mod records;
 mod usage;
 mod words;
 
+// What a line asks for, by its first word; 8 where it is none of these.
+fn verb_of(word: &[u8]) -> u32 {
+    if check::same(word, b"read") {
+        return 0;
+    }
+    if check::same(word, b"write") {
+        return 1;
+    }
+    if check::same(word, b"part") {
+        return 2;
+    }
+    if check::same(word, b"words") {
+        return 3;
+    }
+    if check::same(word, b"fragment") {
+        return 4;
+    }
+    if check::same(word, b"feed") {
+        return 5;
+    }
+    if check::same(word, b"state") {
+        return 6;
+    }
+    if check::same(word, b"choose") {
+        return 7;
+    }
+    8
+}
+
+// The answer to a question about a message.
+fn of_message(
+    verb: u32,
+    line: &[u8],
+    s: usize,
+    message: &mut [u8],
+    room: &mut [u8],
+    out: &mut [u8],
+    at: usize,
+) -> usize {
+    match verb {
+        0 => items::read(line, s, message, room, out, at),
+        1 => items::write(line, s, message, room, out, at),
+        2 => items::part(line, s, false, message, out, at),
+        _ => items::part(line, s, true, message, out, at),
+    }
+}
+
+// The answer to a question about a stream or a call.
+fn of_stream(
+    verb: u32,
+    line: &[u8],
+    s: usize,
+    message: &mut [u8],
+    room: &mut [u8],
+    out: &mut [u8],
+    at: usize,
+) -> usize {
+    match verb {
+        4 => records::fragment(line, s, message, room, out, at),
+        5 => records::feed(line, s, message, room, out, at),
+        6 => records::state(line, s, message, room, out, at),
+        _ => programs::choose(line, s, message, room, out, at),
+    }
+}
+
 // The answer to a line, without its end.
 fn answer(line: &[u8], message: &mut [u8], room: &mut [u8], out: &mut [u8], at: usize) -> usize {
     let end = text::word_end(line, 0);
-    let verb = &line[0..end];
-    let s = end + 1;
-    if check::same(verb, b"read") {
-        return items::read(line, s, message, room, out, at);
+    let verb = verb_of(&line[0..end]);
+    if verb < 4 {
+        return of_message(verb, line, end + 1, message, room, out, at);
     }
-    if check::same(verb, b"write") {
-        return items::write(line, s, message, room, out, at);
-    }
-    if check::same(verb, b"part") {
-        return items::part(line, s, false, message, out, at);
-    }
-    if check::same(verb, b"words") {
-        return items::part(line, s, true, message, out, at);
-    }
-    if check::same(verb, b"fragment") {
-        return records::fragment(line, s, message, room, out, at);
-    }
-    if check::same(verb, b"feed") {
-        return records::feed(line, s, message, room, out, at);
-    }
-    if check::same(verb, b"state") {
-        return records::state(line, s, message, room, out, at);
-    }
-    if check::same(verb, b"choose") {
-        return programs::choose(line, s, message, room, out, at);
+    if verb < 8 {
+        return of_stream(verb, line, end + 1, message, room, out, at);
     }
     print::unknown(out, at)
 }
