@@ -21,14 +21,14 @@ use crate::reply::reply_body;
 use xdr::inner::opaque_size;
 use xdr::inner::put_opaque;
 use xdr::inner::put_u32;
+use xdr::inner::put_u32_pair;
 use xdr::inner::put_words;
 
 pub(crate) fn put_mismatch_info(m: mismatch_info, out: &mut [u8])
     requires { ⌜ 8 ≤ length (now out) ⌝ }
     ensures { λ _. ⌜ Put (now (out .entry)) (now (out .exit)) 8 (mismatch-info .kind .write m) ⌝ }
 {
-    put_u32(m.low, out);
-    put_u32(m.high, &mut out[4..]);
+    put_u32_pair(m.low, m.high, out);
 }
 
 pub(crate) fn put_opaque_auth(src: &[u8], m: opaque_auth, out: &mut [u8])
@@ -52,11 +52,9 @@ pub(crate) fn put_auth_unix(src: &[u8], m: auth_unix, out: &mut [u8])
     put_u32(m.stamp, out);
     put_opaque(src, machinename, &mut out[4..]);
     let a = 4 + opaque_size(machinename.count);
-    let b = a + 4;
-    let c = b + 4;
-    put_u32(m.uid, &mut out[a..]);
-    put_u32(m.gid, &mut out[b..]);
-    put_words(src, gids, &mut out[c..]);
+    let b = a + 8;
+    put_u32_pair(m.uid, m.gid, &mut out[a..]);
+    put_words(src, gids, &mut out[b..]);
 }
 
 pub(crate) fn put_call_body(src: &[u8], m: call_body, out: &mut [u8])
@@ -66,10 +64,8 @@ pub(crate) fn put_call_body(src: &[u8], m: call_body, out: &mut [u8])
 {
     let cred = m.cred;
     let verf = m.verf;
-    put_u32(m.rpcvers, out);
-    put_u32(m.prog, &mut out[4..]);
-    put_u32(m.vers, &mut out[8..]);
-    put_u32(m.proc, &mut out[12..]);
+    put_u32_pair(m.rpcvers, m.prog, out);
+    put_u32_pair(m.vers, m.proc, &mut out[8..]);
     put_opaque_auth(src, cred, &mut out[16..]);
     let a = 16 + opaque_auth_size(cred);
     put_opaque_auth(src, verf, &mut out[a..]);

@@ -35,8 +35,8 @@ module _ {xs ys : List ℕ} where
   body-put s {m} {k} e f = put-sized (ap bodySize (sym e)) (put-same (ap (bodyWritten s) (sym e) ∙ body-is s m) f)
 
 -- a call that fits, field by field
-pub call-bounds : (m : «call_body») (n : ℕ) → callSize m ≤ n → (4 ≤ n) × (8 ≤ n) × (12 ≤ n) × (16 ≤ n) × (16 + authSize (m .cred) ≤ n)
-call-bounds m n h = (omega arith, omega arith, omega arith, omega arith, omega arith)
+pub call-bounds : (m : «call_body») (n : ℕ) → callSize m ≤ n → (8 ≤ n) × (16 ≤ n) × (16 + authSize (m .cred) ≤ n)
+call-bounds m n h = (omega arith, omega arith, omega arith)
 
 pub call-last : (m : «call_body») (n r : ℕ) → callSize m ≤ n → r ≡ authSize (m .cred) → 16 + r + authSize (m .verf) ≤ n
 call-last m n r h e = omega arith

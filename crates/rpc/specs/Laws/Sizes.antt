@@ -10,12 +10,12 @@ use lib.ListN.{length, length-append}
 use borrow.Author.Tests.{le-leb, lt-leb, leb-true}
 use Rattle.xdr.specs.Meaning.Bytes.{Bytes}
 use Rattle.xdr.specs.Meaning.Answer.{most}
-use Rattle.xdr.specs.Meaning.Items.{word}
+use Rattle.xdr.specs.Meaning.Items.{word, word-pair}
 use Rattle.xdr.specs.Meaning.Formats.{bytes, wordList, pieceHeld, wordsHeld}
 use Rattle.xdr.specs.Meaning.Pieces.{isInside, areInside, opaqueSize, sizeUpTo}
 use Rattle.xdr.specs.Meaning.Public.{output}
 use Rattle.xdr.specs.Laws.Marks.{and-left, and-right}
-use Rattle.xdr.specs.Laws.Padding.{word-length}
+use Rattle.xdr.specs.Laws.Padding.{word-length, word-pair-bytes, word-pair-length}
 use Rattle.xdr.specs.Laws.Words.{words-le}
 use Rattle.xdr.specs.Laws.LayPieces.{bytes-size, words-long}
 use Rattle.xdr.specs.Laws.Write.{Ready}
@@ -133,14 +133,12 @@ unfolding auth-stat
 auth-stat-length a = word-length (authStatNumber a)
 
 -- and mismatch_info 8
-pub info-written : (m : «mismatch_info») → word .kind .write (m .low) ++ word .kind .write (m .high) ≡ mismatch-info .kind .write m
-unfolding mismatch-info
+pub info-written : (m : «mismatch_info») → word-pair .kind .write (m .low, m .high) ≡ mismatch-info .kind .write m
+unfolding word-pair mismatch-info
 info-written m = refl
 
 pub info-length : (m : «mismatch_info») → length (mismatch-info .kind .write m) ≡ 8
-info-length m =
-    ap length (sym (info-written m)) ∙ length-append (word .kind .write (m .low)) (word .kind .write (m .high))
-    ∙ ap₂ (λ a b. a + b) (word-length (m .low)) (word-length (m .high))
+info-length m = ap length (sym (info-written m)) ∙ word-pair-length (m .low) (m .high)
 
 -- accept_body: what is written, in each case
 abbrev pub acceptWritten : «accept_body» → List ℕ
@@ -226,9 +224,9 @@ module _ (s : List ℕ) where
       record { short = h .short; inside = and-right (isInside s (m .machinename)) (areInside s (m .gids)) (sym (unix-fields m) ∙ h .inside) }
 
   pub unix-written : (m : «auth_unix»)
-      → (((word .kind .write (m .stamp) ++ output bytes s (m .machinename)) ++ word .kind .write (m .uid)) ++ word .kind .write (m .gid))
-      ++ output wordList s (m .gids) ≡ output auth-unix s m
-  unfolding auth-unix
+      → ((word .kind .write (m .stamp) ++ output bytes s (m .machinename)) ++ word-pair .kind .write (m .uid, m .gid)) ++ output wordList s (m .gids)
+      ≡ output auth-unix s m
+  unfolding word-pair auth-unix
   unix-written m = simp append-assoc
 
   pub name-size : (m : «auth_unix») → Ready auth-unix s m → length (output bytes s (m .machinename)) ≡ sizeUpTo (m .machinename .count)
@@ -245,7 +243,7 @@ module _ (s : List ℕ) where
   pub unix-length : Bytes s → (m : «auth_unix») → Ready auth-unix s m → length (output auth-unix s m) ≡ unixSize m
   unix-length b m h =
       ap length (sym (unix-written m))
-      ∙ simp (length-append, word-length) (omega (arith, name-size m h, gids-size b m h))
+      ∙ simp (length-append, word-length, word-pair-length) (omega (arith, name-size m h, gids-size b m h))
 
   -- call_body
   pub call-fields : (m : «call_body») → call-body .held .inside s m ≡ (opaque-auth .held .inside s (m .cred) && opaque-auth .held .inside s (m .verf))
@@ -267,15 +265,15 @@ module _ (s : List ℕ) where
       }
 
   pub call-written : (m : «call_body»)
-      → ((((word .kind .write (m .rpcvers) ++ word .kind .write (m .prog)) ++ word .kind .write (m .vers)) ++ word .kind .write (m .proc))
-      ++ output opaque-auth s (m .cred)) ++ output opaque-auth s (m .verf) ≡ output call-body s m
-  unfolding call-body
+      → ((word-pair .kind .write (m .rpcvers, m .prog) ++ word-pair .kind .write (m .vers, m .proc)) ++ output opaque-auth s (m .cred))
+      ++ output opaque-auth s (m .verf) ≡ output call-body s m
+  unfolding word-pair call-body
   call-written m = simp append-assoc
 
   pub call-length : (m : «call_body») → Ready call-body s m → length (output call-body s m) ≡ callSize m
   call-length m h =
       ap length (sym (call-written m))
-      ∙ simp (length-append, word-length) (omega (arith, auth-length (m .cred) (call-cred m h), auth-length (m .verf) (call-verf m h)))
+      ∙ simp (length-append, word-pair-length) (omega (arith, auth-length (m .cred) (call-cred m h), auth-length (m .verf) (call-verf m h)))
 
   -- accepted_reply
   pub accepted-fields : (m : «accepted_reply») → accepted-reply .held .inside s m ≡ opaque-auth .held .inside s (m .verf)
