@@ -6,7 +6,6 @@ pub mod Length
 pub mod Sizes
 pub mod UnixIn
 pub mod Tags
-pub mod Info
 pub mod Fields
 pub mod Placing
 pub mod Puts

@@ -43,9 +43,11 @@ use crate::reply::reply_stat;
 use xdr::Piece;
 use xdr::PieceRead;
 use xdr::Refusal;
+use xdr::U32PairRead;
 use xdr::U32Read;
 use xdr::inner::opaque_at;
 use xdr::inner::u32_at;
+use xdr::inner::u32_pair_at;
 use xdr::inner::words_at;
 use xdr::inside;
 
@@ -204,25 +206,18 @@ pub fn auth_stat_at(src: &[u8], at: usize) -> AuthStatRead
 pub fn mismatch_info_at(src: &[u8], at: usize) -> MismatchInfoRead
     ensures { λ r. ⌜ viewMismatchInfo r ≡ mismatch-info .kind .read (now (src .entry)) at ⌝ }
 {
-    let r1 = u32_at(src, at);
-    let U32Read::Took {
-        value: low,
-        next: n1,
-    } = r1
+    let r = u32_pair_at(src, at);
+    let U32PairRead::Took {
+        first: low,
+        second: high,
+        next: n,
+    } = r
     else {
-        return MismatchInfoRead::Refused(r1.refusal());
-    };
-    let r2 = u32_at(src, n1);
-    let U32Read::Took {
-        value: high,
-        next: _,
-    } = r2
-    else {
-        return MismatchInfoRead::Refused(r2.refusal());
+        return MismatchInfoRead::Refused(r.refusal());
     };
     MismatchInfoRead::Took {
         value: mismatch_info { low, high },
-        next: at + mismatch_info::SIZE,
+        next: n,
     }
 }
 
@@ -273,30 +268,23 @@ pub fn auth_unix_at(src: &[u8], at: usize) -> AuthUnixRead
     else {
         return AuthUnixRead::Refused(r2.refusal());
     };
-    let r3 = u32_at(src, n2);
-    let U32Read::Took {
-        value: uid,
+    let r3 = u32_pair_at(src, n2);
+    let U32PairRead::Took {
+        first: uid,
+        second: gid,
         next: n3,
     } = r3
     else {
         return AuthUnixRead::Refused(r3.refusal());
     };
-    let r4 = u32_at(src, n3);
-    let U32Read::Took {
-        value: gid,
+    let r4 = words_at(src, n3);
+    let PieceRead::Took {
+        value: gids,
         next: n4,
+        plain: p2,
     } = r4
     else {
         return AuthUnixRead::Refused(r4.refusal());
-    };
-    let r5 = words_at(src, n4);
-    let PieceRead::Took {
-        value: gids,
-        next: n5,
-        plain: p2,
-    } = r5
-    else {
-        return AuthUnixRead::Refused(r5.refusal());
     };
     AuthUnixRead::Took {
         value: auth_unix {
@@ -306,7 +294,7 @@ pub fn auth_unix_at(src: &[u8], at: usize) -> AuthUnixRead
             gid,
             gids,
         },
-        next: n5,
+        next: n4,
         plain: p1 & p2,
     }
 }
@@ -326,55 +314,41 @@ pub fn auth_unix_in(src: &[u8], body: Piece) -> AuthUnixRead
 pub fn call_body_at(src: &[u8], at: usize) -> CallBodyRead
     ensures { λ r. ⌜ viewCallBody r ≡ call-body .held .read (now (src .entry)) at ⌝ }
 {
-    let r1 = u32_at(src, at);
-    let U32Read::Took {
-        value: rpcvers,
+    let r1 = u32_pair_at(src, at);
+    let U32PairRead::Took {
+        first: rpcvers,
+        second: prog,
         next: n1,
     } = r1
     else {
         return CallBodyRead::Refused(r1.refusal());
     };
-    let r2 = u32_at(src, n1);
-    let U32Read::Took {
-        value: prog,
+    let r2 = u32_pair_at(src, n1);
+    let U32PairRead::Took {
+        first: vers,
+        second: proc,
         next: n2,
     } = r2
     else {
         return CallBodyRead::Refused(r2.refusal());
     };
-    let r3 = u32_at(src, n2);
-    let U32Read::Took {
-        value: vers,
+    let r3 = opaque_auth_at(src, n2);
+    let OpaqueAuthRead::Took {
+        value: cred,
         next: n3,
+        plain: p1,
     } = r3
     else {
         return CallBodyRead::Refused(r3.refusal());
     };
-    let r4 = u32_at(src, n3);
-    let U32Read::Took {
-        value: proc,
+    let r4 = opaque_auth_at(src, n3);
+    let OpaqueAuthRead::Took {
+        value: verf,
         next: n4,
+        plain: p2,
     } = r4
     else {
         return CallBodyRead::Refused(r4.refusal());
-    };
-    let r5 = opaque_auth_at(src, n4);
-    let OpaqueAuthRead::Took {
-        value: cred,
-        next: n5,
-        plain: p1,
-    } = r5
-    else {
-        return CallBodyRead::Refused(r5.refusal());
-    };
-    let r6 = opaque_auth_at(src, n5);
-    let OpaqueAuthRead::Took {
-        value: verf,
-        next: n6,
-        plain: p2,
-    } = r6
-    else {
-        return CallBodyRead::Refused(r6.refusal());
     };
     CallBodyRead::Took {
         value: call_body {
@@ -385,7 +359,7 @@ pub fn call_body_at(src: &[u8], at: usize) -> CallBodyRead
             cred,
             verf,
         },
-        next: n6,
+        next: n4,
         plain: p1 & p2,
     }
 }

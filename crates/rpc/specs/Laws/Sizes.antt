@@ -15,7 +15,7 @@ use Rattle.xdr.specs.Meaning.Formats.{bytes, wordList, pieceHeld, wordsHeld}
 use Rattle.xdr.specs.Meaning.Pieces.{isInside, areInside, opaqueSize, sizeUpTo}
 use Rattle.xdr.specs.Meaning.Public.{output}
 use Rattle.xdr.specs.Laws.Marks.{and-left, and-right}
-use Rattle.xdr.specs.Laws.Padding.{word-length, word-pair-bytes, word-pair-length}
+use Rattle.xdr.specs.Laws.Padding.{word-length, word-pair-length}
 use Rattle.xdr.specs.Laws.Words.{words-le}
 use Rattle.xdr.specs.Laws.LayPieces.{bytes-size, words-long}
 use Rattle.xdr.specs.Laws.Write.{Ready}
