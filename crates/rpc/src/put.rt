@@ -1,4 +1,5 @@
 // Kinds laid at the front of a buffer that has room, field by field: each field's writer is lent the tail.
+ghost use mathlib.Core.Path.{_≡_};
 ghost use Prim.Native.Nat.{_≤_};
 ghost use lib.ListN.{length};
 ghost use Rattle.xdr.specs.Meaning.Public.{output};
@@ -6,7 +7,7 @@ ghost use Rattle.xdr.specs.Laws.Write.{Put, Ready};
 ghost use Rattle.rpc.specs.Meaning.Auth.{opaque-auth, auth-unix};
 ghost use Rattle.rpc.specs.Meaning.Reply.{mismatch-info, accept-body, accepted-reply, rejected-reply, reply-body};
 ghost use Rattle.rpc.specs.Meaning.Message.{call-body, rpc-body, rpc-msg};
-ghost use Rattle.rpc.specs.Laws.Sizes.{authSize, unixSize, callSize, acceptSize, acceptedSize, rejectSize, replySize, bodySize, msgSize};
+ghost use Rattle.rpc.specs.Laws.Sizes.{authSize, unixSize, callSize, acceptTag, acceptSize, acceptedSize, rejectSize, replySize, bodySize, msgSize};
 use crate::auth::auth_unix;
 use crate::auth::opaque_auth;
 use crate::fit::opaque_auth_size;
@@ -71,20 +72,27 @@ pub(crate) fn put_call_body(src: &[u8], m: call_body, out: &mut [u8])
     put_opaque_auth(src, verf, &mut out[a..]);
 }
 
+fn accept_tag(m: accept_body) -> u32
+    ensures { λ r. ⌜ r ≡ acceptTag m ⌝ }
+{
+    match m {
+        accept_body::SUCCESS => 0,
+        accept_body::PROG_UNAVAIL => 1,
+        accept_body::PROG_MISMATCH(_) => 2,
+        accept_body::PROC_UNAVAIL => 3,
+        accept_body::GARBAGE_ARGS => 4,
+    }
+}
+
 pub(crate) fn put_accept_body(m: accept_body, out: &mut [u8])
     requires { ⌜ acceptSize m ≤ length (now out) ⌝ }
     ensures { λ _. ⌜ Put (now (out .entry)) (now (out .exit)) (acceptSize m) (accept-body .kind .write m) ⌝ }
 {
-    match m {
-        accept_body::SUCCESS => put_u32(0, out),
-        accept_body::PROG_UNAVAIL => put_u32(1, out),
-        accept_body::PROG_MISMATCH(v) => {
-            put_u32(2, out);
-            put_mismatch_info(v, &mut out[4..]);
-        }
-        accept_body::PROC_UNAVAIL => put_u32(3, out),
-        accept_body::GARBAGE_ARGS => put_u32(4, out),
-    }
+    put_u32(accept_tag(m), out);
+    let accept_body::PROG_MISMATCH(v) = m else {
+        return;
+    };
+    put_mismatch_info(v, &mut out[4..]);
 }
 
 pub(crate) fn put_accepted_reply(src: &[u8], m: accepted_reply, out: &mut [u8])

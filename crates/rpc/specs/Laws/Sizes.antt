@@ -57,6 +57,13 @@ unixSize m = 12 + sizeUpTo (m .machinename .count) + wordsUpTo (m .gids .count)
 abbrev pub callSize : «call_body» → ℕ
 callSize m = 16 + authSize (m .cred) + authSize (m .verf)
 
+abbrev pub acceptTag : «accept_body» → ℕ
+acceptTag SUCCESS = 0
+acceptTag «PROG_UNAVAIL» = 1
+acceptTag («PROG_MISMATCH» v) = 2
+acceptTag «PROC_UNAVAIL» = 3
+acceptTag «GARBAGE_ARGS» = 4
+
 abbrev pub acceptSize : «accept_body» → ℕ
 acceptSize SUCCESS = 4
 acceptSize «PROG_UNAVAIL» = 4
