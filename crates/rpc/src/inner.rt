@@ -1,11 +1,14 @@
 // For the crates above, and no door for users: the kinds of a message whose length and start were tested already. Each is total all the
 // same, and exact; it only leaves out refusals 3 and 9.
 ghost use mathlib.Core.Path.{_≡_};
+ghost use mathlib.Core.Bool.{false};
+ghost use Rattle.xdr.specs.Meaning.Answer.{took};
 ghost use Rattle.rpc.specs.Meaning.Closed.{msg-type, reply-stat, accept-stat, reject-stat, auth-flavor, auth-stat};
 ghost use Rattle.rpc.specs.Meaning.Auth.{opaque-auth, auth-unix};
 ghost use Rattle.rpc.specs.Meaning.UnixIn.{unixIn};
 ghost use Rattle.rpc.specs.Meaning.Reply.{mismatch-info, accept-body, accepted-reply, rejected-reply, reply-body};
 ghost use Rattle.rpc.specs.Meaning.Message.{call-body, rpc-body, rpc-msg};
+ghost use Rattle.rpc.specs.Laws.Tags.{strayReply, strayBody};
 ghost use Rattle.rpc.specs.Meaning.Views.{viewMsgType, viewReplyStat, viewAcceptStat, viewRejectStat, viewAuthFlavor, viewAuthStat, viewMismatchInfo, viewOpaqueAuth, viewAuthUnix, viewCallBody, viewAcceptedReply, viewRpcMsg, viewAcceptBody, viewRejectedReply, viewReplyBody, viewRpcBody};
 use crate::answer::AcceptBodyRead;
 use crate::answer::AcceptStatRead;
@@ -499,6 +502,19 @@ pub fn rejected_reply_at(src: &[u8], at: usize) -> RejectedReplyRead
     }
 }
 
+fn stray_reply(n: usize) -> ReplyBodyRead
+    ensures { λ r. ⌜ viewReplyBody r ≡ took strayReply n false ⌝ }
+{
+    ReplyBodyRead::Took {
+        value: reply_body::MSG_ACCEPTED(accepted_reply {
+            verf: no_auth(),
+            reply_data: accept_body::SUCCESS,
+        }),
+        next: n,
+        plain: false,
+    }
+}
+
 // Tolerance 4: a tag of 2 or more is MSG_ACCEPTED, null verifier, SUCCESS, and nothing more is read.
 pub fn reply_body_at(src: &[u8], at: usize) -> ReplyBodyRead
     ensures { λ r. ⌜ viewReplyBody r ≡ reply-body .held .read (now (src .entry)) at ⌝ }
@@ -544,14 +560,24 @@ pub fn reply_body_at(src: &[u8], at: usize) -> ReplyBodyRead
                 plain: p,
             }
         }
-        _ => ReplyBodyRead::Took {
-            value: reply_body::MSG_ACCEPTED(accepted_reply {
-                verf: no_auth(),
-                reply_data: accept_body::SUCCESS,
-            }),
-            next: n,
-            plain: false,
-        },
+        _ => stray_reply(n),
+    }
+}
+
+fn stray_body(n: usize) -> RpcBodyRead
+    ensures { λ r. ⌜ viewRpcBody r ≡ took strayBody n false ⌝ }
+{
+    RpcBodyRead::Took {
+        value: rpc_body::CALL(call_body {
+            rpcvers: 0,
+            prog: 0,
+            vers: 0,
+            proc: 0,
+            cred: no_auth(),
+            verf: no_auth(),
+        }),
+        next: n,
+        plain: false,
     }
 }
 
@@ -600,18 +626,7 @@ pub fn rpc_body_at(src: &[u8], at: usize) -> RpcBodyRead
                 plain: p,
             }
         }
-        _ => RpcBodyRead::Took {
-            value: rpc_body::CALL(call_body {
-                rpcvers: 0,
-                prog: 0,
-                vers: 0,
-                proc: 0,
-                cred: no_auth(),
-                verf: no_auth(),
-            }),
-            next: n,
-            plain: false,
-        },
+        _ => stray_body(n),
     }
 }
 

@@ -30,7 +30,7 @@ returns-5 c = rw (on viewU32 (c .before .before .before .before .before .before 
 
 returns-6 : tie.Need-returns-6
 unfolding reply-body
-returns-6 c = rw (on viewU32 (c .before .before .before .before .before .u32-at .ensures) (c .before .before .before .r .given .1), above2 _ (c .before .match2 .rest .0 .1) (c .before .match2 .rest .1), c .no-auth .ensures)
+returns-6 c = rw (on viewU32 (c .before .before .before .before .before .u32-at .ensures) (c .before .before .before .r .given .1), above2 _ (c .before .match2 .rest .0 .1) (c .before .match2 .rest .1), c .stray-reply .ensures)
 
 pub reply-body-at-spec : {M : Type 1} → statement M
 reply-body-at-spec =

@@ -30,12 +30,12 @@ returns-5 c = rw (on viewU32 (c .before .before .before .before .before .before 
 
 returns-6 : tie.Need-returns-6
 unfolding rpc-body
-returns-6 c = rw (on viewU32 (c .before .before .before .before .before .before .u32-at .ensures) (c .before .before .before .before .r .given .1), above2 _ (c .before .before .match2 .rest .0 .1) (c .before .before .match2 .rest .1), c .before .no-auth .ensures, c .no-auth2 .ensures)
+returns-6 c = rw (on viewU32 (c .before .before .before .before .before .u32-at .ensures) (c .before .before .before .r .given .1), above2 _ (c .before .match2 .rest .0 .1) (c .before .match2 .rest .1), c .stray-body .ensures)
 
 pub rpc-body-at-spec : {M : Type 1} → statement M
 rpc-body-at-spec =
     tie.close
     (tie.spec
     (search needs) (search needs) (search needs) (search needs) returns (search needs) (search needs) (search needs) (search needs)
-    returns-2 (search needs) (search needs) (search needs) (search needs) returns-3 (search needs) (search needs) returns-4 returns-5
+    returns-2 (search needs) (search needs) (search needs) (search needs) returns-3 (search needs) returns-4 returns-5
     returns-6)
