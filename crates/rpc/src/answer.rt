@@ -141,10 +141,10 @@ impl MsgTypeRead {
     pub fn refusal(self) -> Refusal
         ensures { λ r. ⌜ r ≡ lostMsgType self ⌝ }
     {
-        match self {
-            MsgTypeRead::Refused(r) => r,
-            MsgTypeRead::Took { value: _, next: _ } => Refusal::PastEnd,
-        }
+        let MsgTypeRead::Refused(r) = self else {
+            return Refusal::PastEnd;
+        };
+        r
     }
 }
 
@@ -152,10 +152,10 @@ impl ReplyStatRead {
     pub fn refusal(self) -> Refusal
         ensures { λ r. ⌜ r ≡ lostReplyStat self ⌝ }
     {
-        match self {
-            ReplyStatRead::Refused(r) => r,
-            ReplyStatRead::Took { value: _, next: _ } => Refusal::PastEnd,
-        }
+        let ReplyStatRead::Refused(r) = self else {
+            return Refusal::PastEnd;
+        };
+        r
     }
 }
 
@@ -163,10 +163,10 @@ impl AcceptStatRead {
     pub fn refusal(self) -> Refusal
         ensures { λ r. ⌜ r ≡ lostAcceptStat self ⌝ }
     {
-        match self {
-            AcceptStatRead::Refused(r) => r,
-            AcceptStatRead::Took { value: _, next: _ } => Refusal::PastEnd,
-        }
+        let AcceptStatRead::Refused(r) = self else {
+            return Refusal::PastEnd;
+        };
+        r
     }
 }
 
@@ -174,10 +174,10 @@ impl RejectStatRead {
     pub fn refusal(self) -> Refusal
         ensures { λ r. ⌜ r ≡ lostRejectStat self ⌝ }
     {
-        match self {
-            RejectStatRead::Refused(r) => r,
-            RejectStatRead::Took { value: _, next: _ } => Refusal::PastEnd,
-        }
+        let RejectStatRead::Refused(r) = self else {
+            return Refusal::PastEnd;
+        };
+        r
     }
 }
 
@@ -185,10 +185,10 @@ impl AuthFlavorRead {
     pub fn refusal(self) -> Refusal
         ensures { λ r. ⌜ r ≡ lostAuthFlavor self ⌝ }
     {
-        match self {
-            AuthFlavorRead::Refused(r) => r,
-            AuthFlavorRead::Took { value: _, next: _ } => Refusal::PastEnd,
-        }
+        let AuthFlavorRead::Refused(r) = self else {
+            return Refusal::PastEnd;
+        };
+        r
     }
 }
 
@@ -196,10 +196,10 @@ impl AuthStatRead {
     pub fn refusal(self) -> Refusal
         ensures { λ r. ⌜ r ≡ lostAuthStat self ⌝ }
     {
-        match self {
-            AuthStatRead::Refused(r) => r,
-            AuthStatRead::Took { value: _, next: _ } => Refusal::PastEnd,
-        }
+        let AuthStatRead::Refused(r) = self else {
+            return Refusal::PastEnd;
+        };
+        r
     }
 }
 
@@ -207,10 +207,10 @@ impl MismatchInfoRead {
     pub fn refusal(self) -> Refusal
         ensures { λ r. ⌜ r ≡ lostMismatchInfo self ⌝ }
     {
-        match self {
-            MismatchInfoRead::Refused(r) => r,
-            MismatchInfoRead::Took { value: _, next: _ } => Refusal::PastEnd,
-        }
+        let MismatchInfoRead::Refused(r) = self else {
+            return Refusal::PastEnd;
+        };
+        r
     }
 }
 
@@ -218,14 +218,10 @@ impl OpaqueAuthRead {
     pub fn refusal(self) -> Refusal
         ensures { λ r. ⌜ r ≡ lostOpaqueAuth self ⌝ }
     {
-        match self {
-            OpaqueAuthRead::Refused(r) => r,
-            OpaqueAuthRead::Took {
-                value: _,
-                next: _,
-                plain: _,
-            } => Refusal::PastEnd,
-        }
+        let OpaqueAuthRead::Refused(r) = self else {
+            return Refusal::PastEnd;
+        };
+        r
     }
 }
 
@@ -233,14 +229,10 @@ impl AuthUnixRead {
     pub fn refusal(self) -> Refusal
         ensures { λ r. ⌜ r ≡ lostAuthUnix self ⌝ }
     {
-        match self {
-            AuthUnixRead::Refused(r) => r,
-            AuthUnixRead::Took {
-                value: _,
-                next: _,
-                plain: _,
-            } => Refusal::PastEnd,
-        }
+        let AuthUnixRead::Refused(r) = self else {
+            return Refusal::PastEnd;
+        };
+        r
     }
 }
 
@@ -248,14 +240,10 @@ impl CallBodyRead {
     pub fn refusal(self) -> Refusal
         ensures { λ r. ⌜ r ≡ lostCallBody self ⌝ }
     {
-        match self {
-            CallBodyRead::Refused(r) => r,
-            CallBodyRead::Took {
-                value: _,
-                next: _,
-                plain: _,
-            } => Refusal::PastEnd,
-        }
+        let CallBodyRead::Refused(r) = self else {
+            return Refusal::PastEnd;
+        };
+        r
     }
 }
 
@@ -263,14 +251,10 @@ impl AcceptBodyRead {
     pub fn refusal(self) -> Refusal
         ensures { λ r. ⌜ r ≡ lostAcceptBody self ⌝ }
     {
-        match self {
-            AcceptBodyRead::Refused(r) => r,
-            AcceptBodyRead::Took {
-                value: _,
-                next: _,
-                plain: _,
-            } => Refusal::PastEnd,
-        }
+        let AcceptBodyRead::Refused(r) = self else {
+            return Refusal::PastEnd;
+        };
+        r
     }
 }
 
@@ -278,14 +262,10 @@ impl AcceptedReplyRead {
     pub fn refusal(self) -> Refusal
         ensures { λ r. ⌜ r ≡ lostAcceptedReply self ⌝ }
     {
-        match self {
-            AcceptedReplyRead::Refused(r) => r,
-            AcceptedReplyRead::Took {
-                value: _,
-                next: _,
-                plain: _,
-            } => Refusal::PastEnd,
-        }
+        let AcceptedReplyRead::Refused(r) = self else {
+            return Refusal::PastEnd;
+        };
+        r
     }
 }
 
@@ -293,14 +273,10 @@ impl RejectedReplyRead {
     pub fn refusal(self) -> Refusal
         ensures { λ r. ⌜ r ≡ lostRejectedReply self ⌝ }
     {
-        match self {
-            RejectedReplyRead::Refused(r) => r,
-            RejectedReplyRead::Took {
-                value: _,
-                next: _,
-                plain: _,
-            } => Refusal::PastEnd,
-        }
+        let RejectedReplyRead::Refused(r) = self else {
+            return Refusal::PastEnd;
+        };
+        r
     }
 }
 
@@ -308,14 +284,10 @@ impl ReplyBodyRead {
     pub fn refusal(self) -> Refusal
         ensures { λ r. ⌜ r ≡ lostReplyBody self ⌝ }
     {
-        match self {
-            ReplyBodyRead::Refused(r) => r,
-            ReplyBodyRead::Took {
-                value: _,
-                next: _,
-                plain: _,
-            } => Refusal::PastEnd,
-        }
+        let ReplyBodyRead::Refused(r) = self else {
+            return Refusal::PastEnd;
+        };
+        r
     }
 }
 
@@ -323,14 +295,10 @@ impl RpcBodyRead {
     pub fn refusal(self) -> Refusal
         ensures { λ r. ⌜ r ≡ lostRpcBody self ⌝ }
     {
-        match self {
-            RpcBodyRead::Refused(r) => r,
-            RpcBodyRead::Took {
-                value: _,
-                next: _,
-                plain: _,
-            } => Refusal::PastEnd,
-        }
+        let RpcBodyRead::Refused(r) = self else {
+            return Refusal::PastEnd;
+        };
+        r
     }
 }
 
@@ -338,13 +306,9 @@ impl RpcMsgRead {
     pub fn refusal(self) -> Refusal
         ensures { λ r. ⌜ r ≡ lostRpcMsg self ⌝ }
     {
-        match self {
-            RpcMsgRead::Refused(r) => r,
-            RpcMsgRead::Took {
-                value: _,
-                next: _,
-                plain: _,
-            } => Refusal::PastEnd,
-        }
+        let RpcMsgRead::Refused(r) = self else {
+            return Refusal::PastEnd;
+        };
+        r
     }
 }

@@ -116,10 +116,7 @@ pub(crate) fn put_rejected_reply(m: rejected_reply, out: &mut [u8])
             put_u32(0, out);
             put_mismatch_info(v, &mut out[4..]);
         }
-        rejected_reply::AUTH_ERROR(a) => {
-            put_u32(1, out);
-            put_u32(a.number(), &mut out[4..]);
-        }
+        rejected_reply::AUTH_ERROR(a) => put_u32_pair(1, a.number(), out),
     }
 }
 
