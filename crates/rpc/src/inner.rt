@@ -61,17 +61,12 @@ pub fn msg_type_at(src: &[u8], at: usize) -> MsgTypeRead
     let U32Read::Took { value: v, next: n } = r else {
         return MsgTypeRead::Refused(r.refusal());
     };
-    match v {
-        0 => MsgTypeRead::Took {
-            value: msg_type::CALL,
-            next: n,
-        },
-        1 => MsgTypeRead::Took {
-            value: msg_type::REPLY,
-            next: n,
-        },
-        _ => MsgTypeRead::Refused(Refusal::Undeclared(at)),
-    }
+    let value = match v {
+        0 => msg_type::CALL,
+        1 => msg_type::REPLY,
+        _ => return MsgTypeRead::Refused(Refusal::Undeclared(at)),
+    };
+    MsgTypeRead::Took { value, next: n }
 }
 
 pub fn reply_stat_at(src: &[u8], at: usize) -> ReplyStatRead
@@ -81,17 +76,12 @@ pub fn reply_stat_at(src: &[u8], at: usize) -> ReplyStatRead
     let U32Read::Took { value: v, next: n } = r else {
         return ReplyStatRead::Refused(r.refusal());
     };
-    match v {
-        0 => ReplyStatRead::Took {
-            value: reply_stat::MSG_ACCEPTED,
-            next: n,
-        },
-        1 => ReplyStatRead::Took {
-            value: reply_stat::MSG_DENIED,
-            next: n,
-        },
-        _ => ReplyStatRead::Refused(Refusal::Undeclared(at)),
-    }
+    let value = match v {
+        0 => reply_stat::MSG_ACCEPTED,
+        1 => reply_stat::MSG_DENIED,
+        _ => return ReplyStatRead::Refused(Refusal::Undeclared(at)),
+    };
+    ReplyStatRead::Took { value, next: n }
 }
 
 pub fn accept_stat_at(src: &[u8], at: usize) -> AcceptStatRead
@@ -101,29 +91,15 @@ pub fn accept_stat_at(src: &[u8], at: usize) -> AcceptStatRead
     let U32Read::Took { value: v, next: n } = r else {
         return AcceptStatRead::Refused(r.refusal());
     };
-    match v {
-        0 => AcceptStatRead::Took {
-            value: accept_stat::SUCCESS,
-            next: n,
-        },
-        1 => AcceptStatRead::Took {
-            value: accept_stat::PROG_UNAVAIL,
-            next: n,
-        },
-        2 => AcceptStatRead::Took {
-            value: accept_stat::PROG_MISMATCH,
-            next: n,
-        },
-        3 => AcceptStatRead::Took {
-            value: accept_stat::PROC_UNAVAIL,
-            next: n,
-        },
-        4 => AcceptStatRead::Took {
-            value: accept_stat::GARBAGE_ARGS,
-            next: n,
-        },
-        _ => AcceptStatRead::Refused(Refusal::Undeclared(at)),
-    }
+    let value = match v {
+        0 => accept_stat::SUCCESS,
+        1 => accept_stat::PROG_UNAVAIL,
+        2 => accept_stat::PROG_MISMATCH,
+        3 => accept_stat::PROC_UNAVAIL,
+        4 => accept_stat::GARBAGE_ARGS,
+        _ => return AcceptStatRead::Refused(Refusal::Undeclared(at)),
+    };
+    AcceptStatRead::Took { value, next: n }
 }
 
 pub fn reject_stat_at(src: &[u8], at: usize) -> RejectStatRead
@@ -133,17 +109,12 @@ pub fn reject_stat_at(src: &[u8], at: usize) -> RejectStatRead
     let U32Read::Took { value: v, next: n } = r else {
         return RejectStatRead::Refused(r.refusal());
     };
-    match v {
-        0 => RejectStatRead::Took {
-            value: reject_stat::RPC_MISMATCH,
-            next: n,
-        },
-        1 => RejectStatRead::Took {
-            value: reject_stat::AUTH_ERROR,
-            next: n,
-        },
-        _ => RejectStatRead::Refused(Refusal::Undeclared(at)),
-    }
+    let value = match v {
+        0 => reject_stat::RPC_MISMATCH,
+        1 => reject_stat::AUTH_ERROR,
+        _ => return RejectStatRead::Refused(Refusal::Undeclared(at)),
+    };
+    RejectStatRead::Took { value, next: n }
 }
 
 pub fn auth_flavor_at(src: &[u8], at: usize) -> AuthFlavorRead
@@ -153,25 +124,14 @@ pub fn auth_flavor_at(src: &[u8], at: usize) -> AuthFlavorRead
     let U32Read::Took { value: v, next: n } = r else {
         return AuthFlavorRead::Refused(r.refusal());
     };
-    match v {
-        0 => AuthFlavorRead::Took {
-            value: auth_flavor::AUTH_NULL,
-            next: n,
-        },
-        1 => AuthFlavorRead::Took {
-            value: auth_flavor::AUTH_UNIX,
-            next: n,
-        },
-        2 => AuthFlavorRead::Took {
-            value: auth_flavor::AUTH_SHORT,
-            next: n,
-        },
-        3 => AuthFlavorRead::Took {
-            value: auth_flavor::AUTH_DES,
-            next: n,
-        },
-        _ => AuthFlavorRead::Refused(Refusal::Undeclared(at)),
-    }
+    let value = match v {
+        0 => auth_flavor::AUTH_NULL,
+        1 => auth_flavor::AUTH_UNIX,
+        2 => auth_flavor::AUTH_SHORT,
+        3 => auth_flavor::AUTH_DES,
+        _ => return AuthFlavorRead::Refused(Refusal::Undeclared(at)),
+    };
+    AuthFlavorRead::Took { value, next: n }
 }
 
 pub fn auth_stat_at(src: &[u8], at: usize) -> AuthStatRead
@@ -181,29 +141,15 @@ pub fn auth_stat_at(src: &[u8], at: usize) -> AuthStatRead
     let U32Read::Took { value: v, next: n } = r else {
         return AuthStatRead::Refused(r.refusal());
     };
-    match v {
-        1 => AuthStatRead::Took {
-            value: auth_stat::AUTH_BADCRED,
-            next: n,
-        },
-        2 => AuthStatRead::Took {
-            value: auth_stat::AUTH_REJECTEDCRED,
-            next: n,
-        },
-        3 => AuthStatRead::Took {
-            value: auth_stat::AUTH_BADVERF,
-            next: n,
-        },
-        4 => AuthStatRead::Took {
-            value: auth_stat::AUTH_REJECTEDVERF,
-            next: n,
-        },
-        5 => AuthStatRead::Took {
-            value: auth_stat::AUTH_TOOWEAK,
-            next: n,
-        },
-        _ => AuthStatRead::Refused(Refusal::Undeclared(at)),
-    }
+    let value = match v {
+        1 => auth_stat::AUTH_BADCRED,
+        2 => auth_stat::AUTH_REJECTEDCRED,
+        3 => auth_stat::AUTH_BADVERF,
+        4 => auth_stat::AUTH_REJECTEDVERF,
+        5 => auth_stat::AUTH_TOOWEAK,
+        _ => return AuthStatRead::Refused(Refusal::Undeclared(at)),
+    };
+    AuthStatRead::Took { value, next: n }
 }
 
 pub fn mismatch_info_at(src: &[u8], at: usize) -> MismatchInfoRead
