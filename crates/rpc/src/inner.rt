@@ -325,17 +325,9 @@ pub fn accept_body_at(src: &[u8], at: usize) -> AcceptBodyRead
     else {
         return AcceptBodyRead::Refused(r.refusal());
     };
-    match tag {
-        0 => AcceptBodyRead::Took {
-            value: accept_body::SUCCESS,
-            next: n,
-            plain: true,
-        },
-        1 => AcceptBodyRead::Took {
-            value: accept_body::PROG_UNAVAIL,
-            next: n,
-            plain: true,
-        },
+    let value = match tag {
+        0 => accept_body::SUCCESS,
+        1 => accept_body::PROG_UNAVAIL,
         2 => {
             let r2 = mismatch_info_at(src, n);
             let MismatchInfoRead::Took {
@@ -345,27 +337,26 @@ pub fn accept_body_at(src: &[u8], at: usize) -> AcceptBodyRead
             else {
                 return AcceptBodyRead::Refused(r2.refusal());
             };
-            AcceptBodyRead::Took {
+            return AcceptBodyRead::Took {
                 value: accept_body::PROG_MISMATCH(m),
                 next: next,
                 plain: true,
-            }
+            };
         }
-        3 => AcceptBodyRead::Took {
-            value: accept_body::PROC_UNAVAIL,
-            next: n,
-            plain: true,
-        },
-        4 => AcceptBodyRead::Took {
-            value: accept_body::GARBAGE_ARGS,
-            next: n,
-            plain: true,
-        },
-        _ => AcceptBodyRead::Took {
-            value: accept_body::GARBAGE_ARGS,
-            next: n,
-            plain: false,
-        },
+        3 => accept_body::PROC_UNAVAIL,
+        4 => accept_body::GARBAGE_ARGS,
+        _ => {
+            return AcceptBodyRead::Took {
+                value: accept_body::GARBAGE_ARGS,
+                next: n,
+                plain: false,
+            };
+        }
+    };
+    AcceptBodyRead::Took {
+        value,
+        next: n,
+        plain: true,
     }
 }
 
@@ -419,11 +410,11 @@ pub fn rejected_reply_at(src: &[u8], at: usize) -> RejectedReplyRead
             else {
                 return RejectedReplyRead::Refused(r0.refusal());
             };
-            RejectedReplyRead::Took {
+            return RejectedReplyRead::Took {
                 value: rejected_reply::RPC_MISMATCH(m),
                 next: next,
                 plain: true,
-            }
+            };
         }
         1 => {
             let r1 = auth_stat_at(src, n);
@@ -434,17 +425,18 @@ pub fn rejected_reply_at(src: &[u8], at: usize) -> RejectedReplyRead
             else {
                 return RejectedReplyRead::Refused(r1.refusal());
             };
-            RejectedReplyRead::Took {
+            return RejectedReplyRead::Took {
                 value: rejected_reply::AUTH_ERROR(a),
                 next: next,
                 plain: true,
-            }
+            };
         }
-        _ => RejectedReplyRead::Took {
-            value: rejected_reply::RPC_MISMATCH(mismatch_info { low: 0, high: 0 }),
-            next: n,
-            plain: false,
-        },
+        _ => {}
+    }
+    RejectedReplyRead::Took {
+        value: rejected_reply::RPC_MISMATCH(mismatch_info { low: 0, high: 0 }),
+        next: n,
+        plain: false,
     }
 }
 
@@ -484,11 +476,11 @@ pub fn reply_body_at(src: &[u8], at: usize) -> ReplyBodyRead
             else {
                 return ReplyBodyRead::Refused(r0.refusal());
             };
-            ReplyBodyRead::Took {
+            return ReplyBodyRead::Took {
                 value: reply_body::MSG_ACCEPTED(a),
                 next: next,
                 plain: p,
-            }
+            };
         }
         1 => {
             let r1 = rejected_reply_at(src, n);
@@ -500,14 +492,15 @@ pub fn reply_body_at(src: &[u8], at: usize) -> ReplyBodyRead
             else {
                 return ReplyBodyRead::Refused(r1.refusal());
             };
-            ReplyBodyRead::Took {
+            return ReplyBodyRead::Took {
                 value: reply_body::MSG_DENIED(d),
                 next: next,
                 plain: p,
-            }
+            };
         }
-        _ => stray_reply(n),
+        _ => {}
     }
+    stray_reply(n)
 }
 
 fn stray_body(n: usize) -> RpcBodyRead
@@ -550,11 +543,11 @@ pub fn rpc_body_at(src: &[u8], at: usize) -> RpcBodyRead
             else {
                 return RpcBodyRead::Refused(r0.refusal());
             };
-            RpcBodyRead::Took {
+            return RpcBodyRead::Took {
                 value: rpc_body::CALL(c),
                 next: next,
                 plain: p,
-            }
+            };
         }
         1 => {
             let r1 = reply_body_at(src, n);
@@ -566,14 +559,15 @@ pub fn rpc_body_at(src: &[u8], at: usize) -> RpcBodyRead
             else {
                 return RpcBodyRead::Refused(r1.refusal());
             };
-            RpcBodyRead::Took {
+            return RpcBodyRead::Took {
                 value: rpc_body::REPLY(r),
                 next: next,
                 plain: p,
-            }
+            };
         }
-        _ => stray_body(n),
+        _ => {}
     }
+    stray_body(n)
 }
 
 pub fn rpc_msg_at(src: &[u8], at: usize) -> RpcMsgRead

@@ -18,31 +18,30 @@ returns-2 c = rw (on viewU32 (c .before .before .before .before .before .before 
 
 returns-3 : tie.Need-returns-3
 unfolding accept-body
-returns-3 c = rw (on viewU32 (c .before .before .before .before .u32-at .ensures) (c .before .before .r .given .1), c .match2 .keys1)
+returns-3 c = rw (on viewU32 (c .before .before .before .before .before .before .before .before .u32-at .ensures) (c .before .before .before .before .before .before .r .given .1), c .before .before .before .before .match2 .keys3, on viewMismatchInfo (c .before .before .before .mismatch-info-at .ensures) (c .before .r2 .given .1))
 
 returns-4 : tie.Need-returns-4
 unfolding accept-body
-returns-4 c = rw (on viewU32 (c .before .before .before .before .u32-at .ensures) (c .before .before .r .given .1), c .match2 .keys2)
+returns-4 c = rw (on viewU32 (c .before .before .before .before .u32-at .ensures) (c .before .before .r .given .1), above5 _ (c .match2 .rest .0 .0 .0 .0 .1) (c .match2 .rest .0 .0 .0 .1) (c .match2 .rest .0 .0 .1) (c .match2 .rest .0 .1) (c .match2 .rest .1))
 
 returns-5 : tie.Need-returns-5
 unfolding accept-body
-returns-5 c = rw (on viewU32 (c .before .before .before .before .before .before .before .before .u32-at .ensures) (c .before .before .before .before .before .before .r .given .1), c .before .before .before .before .match2 .keys3, on viewMismatchInfo (c .before .before .before .mismatch-info-at .ensures) (c .before .r2 .given .1))
+returns-5 c = rw (on viewU32 (c .before .before .before .before .u32-at .ensures) (c .before .before .r .given .1), c .match2 .keys1)
 
 returns-6 : tie.Need-returns-6
 unfolding accept-body
-returns-6 c = rw (on viewU32 (c .before .before .before .before .u32-at .ensures) (c .before .before .r .given .1), c .match2 .keys4)
+returns-6 c = rw (on viewU32 (c .before .before .before .before .u32-at .ensures) (c .before .before .r .given .1), c .match2 .keys2)
 
 returns-7 : tie.Need-returns-7
 unfolding accept-body
-returns-7 c = rw (on viewU32 (c .before .before .before .before .u32-at .ensures) (c .before .before .r .given .1), c .match2 .keys5)
+returns-7 c = rw (on viewU32 (c .before .before .before .before .u32-at .ensures) (c .before .before .r .given .1), c .match2 .keys4)
 
 returns-8 : tie.Need-returns-8
 unfolding accept-body
-returns-8 c = rw (on viewU32 (c .before .before .before .before .u32-at .ensures) (c .before .before .r .given .1), above5 _ (c .match2 .rest .0 .0 .0 .0 .1) (c .match2 .rest .0 .0 .0 .1) (c .match2 .rest .0 .0 .1) (c .match2 .rest .0 .1) (c .match2 .rest .1))
+returns-8 c = rw (on viewU32 (c .before .before .before .before .u32-at .ensures) (c .before .before .r .given .1), c .match2 .keys5)
 
 pub accept-body-at-spec : {M : Type 1} → statement M
 accept-body-at-spec =
     tie.close
     (tie.spec
-    (search needs) (search needs) (search needs) (search needs) returns (search needs) (search needs) (search needs) (search needs)
-    returns-2 returns-3 returns-4 returns-5 returns-6 returns-7 returns-8)
+    (search needs) (search needs) (search needs) (search needs) returns (search needs) (search needs) (search needs) (search needs) returns-2 returns-3 returns-4 returns-5 returns-6 returns-7 returns-8)

@@ -18,11 +18,11 @@ returns-2 c = rw (on viewU32 (c .before .before .before .before .before .before 
 
 returns-3 : tie.Need-returns-3
 unfolding rpc-body
-returns-3 c = rw (on viewU32 (c .before .before .before .before .before .before .before .before .u32-at .ensures) (c .before .before .before .before .before .before .r .given .1), c .before .before .before .before .match2 .keys2, off viewReplyBody lostReplyBody (c .before .before .before .reply-body-at .ensures) (c .before .enum-told3 .given .1) (c .refusal3 .ensures) refl)
+returns-3 c = rw (on viewU32 (c .before .before .before .before .before .before .before .before .u32-at .ensures) (c .before .before .before .before .before .before .r .given .1), c .before .before .before .before .match2 .keys1, on viewCallBody (c .before .before .before .call-body-at .ensures) (c .before .r0 .given .1))
 
 returns-4 : tie.Need-returns-4
 unfolding rpc-body
-returns-4 c = rw (on viewU32 (c .before .before .before .before .before .before .before .before .u32-at .ensures) (c .before .before .before .before .before .before .r .given .1), c .before .before .before .before .match2 .keys1, on viewCallBody (c .before .before .before .call-body-at .ensures) (c .before .r0 .given .1))
+returns-4 c = rw (on viewU32 (c .before .before .before .before .before .before .before .before .u32-at .ensures) (c .before .before .before .before .before .before .r .given .1), c .before .before .before .before .match2 .keys2, off viewReplyBody lostReplyBody (c .before .before .before .reply-body-at .ensures) (c .before .enum-told3 .given .1) (c .refusal3 .ensures) refl)
 
 returns-5 : tie.Need-returns-5
 unfolding rpc-body
@@ -36,6 +36,4 @@ pub rpc-body-at-spec : {M : Type 1} → statement M
 rpc-body-at-spec =
     tie.close
     (tie.spec
-    (search needs) (search needs) (search needs) (search needs) returns (search needs) (search needs) (search needs) (search needs)
-    returns-2 (search needs) (search needs) (search needs) (search needs) returns-3 (search needs) returns-4 returns-5
-    returns-6)
+    (search needs) (search needs) (search needs) (search needs) returns (search needs) (search needs) (search needs) (search needs) returns-2 returns-3 (search needs) (search needs) (search needs) (search needs) returns-4 returns-5 (search needs) returns-6)
