@@ -4,14 +4,13 @@ ghost use Prim.Native.Nat.{_≤_};
 ghost use Rattle.xdr.specs.Meaning.Views.{viewWrote};
 ghost use Rattle.rpc.specs.Meaning.Auth.{opaque-auth, auth-unix};
 ghost use Rattle.rpc.specs.Meaning.Reply.{accepted-reply, reply-body};
-ghost use Rattle.rpc.specs.Meaning.Message.{call-body, rpc-body, rpc-msg};
+ghost use Rattle.rpc.specs.Meaning.Message.{call-body, rpc-body};
 ghost use Rattle.rpc.specs.Laws.Placing.{placing};
-ghost use Rattle.rpc.specs.Laws.Sizes.{wordsUpTo, authSize, unixSize, callSize, acceptSize, acceptedSize, rejectSize, replySize, bodySize, msgSize};
+ghost use Rattle.rpc.specs.Laws.Sizes.{wordsUpTo, authSize, unixSize, callSize, acceptSize, acceptedSize, rejectSize, replySize, bodySize};
 use crate::auth::auth_unix;
 use crate::auth::opaque_auth;
 use crate::message::call_body;
 use crate::message::rpc_body;
-use crate::message::rpc_msg;
 use crate::reply::accept_body;
 use crate::reply::accepted_reply;
 use crate::reply::mismatch_info;
@@ -93,13 +92,6 @@ pub(crate) fn rpc_body_inside(src: &[u8], m: rpc_body) -> bool
     }
 }
 
-pub(crate) fn rpc_msg_inside(src: &[u8], m: rpc_msg) -> bool
-    ensures { λ r. ⌜ r ≡ rpc-msg .held .inside (now (src .entry)) m ⌝ }
-{
-    let body = m.body;
-    rpc_body_inside(src, body)
-}
-
 // How many bytes a list of n words takes; 0 where n is over the limit.
 fn words_size(n: usize) -> usize
     ensures { λ r. ⌜ (r ≡ wordsUpTo n) × (r ≤ 4194308) ⌝ }
@@ -178,11 +170,4 @@ pub(crate) fn rpc_body_size(m: rpc_body) -> usize
         rpc_body::CALL(c) => 4 + call_body_size(c),
         rpc_body::REPLY(r) => 4 + reply_body_size(r),
     }
-}
-
-pub(crate) fn rpc_msg_size(m: rpc_msg) -> usize
-    ensures { λ r. ⌜ (r ≡ msgSize m) × (r ≤ 2097192) ⌝ }
-{
-    let body = m.body;
-    4 + rpc_body_size(body)
 }

@@ -27,8 +27,6 @@ use crate::fit::reply_body_inside;
 use crate::fit::reply_body_size;
 use crate::fit::rpc_body_inside;
 use crate::fit::rpc_body_size;
-use crate::fit::rpc_msg_inside;
-use crate::fit::rpc_msg_size;
 use crate::message::call_body;
 use crate::message::msg_type;
 use crate::message::rpc_body;
@@ -229,10 +227,11 @@ pub fn write_rpc_body(src: &[u8], m: rpc_body, out: &mut [u8], at: usize) -> Wro
 pub fn write_rpc_msg(src: &[u8], m: rpc_msg, out: &mut [u8], at: usize) -> Wrote
     ensures { λ r. ⌜ Writes rpc-msg (now (src .entry)) m at (now (out .entry)) (viewWrote r) (now (out .exit)) ⌝ }
 {
+    let body = m.body;
     let w = place(
         src.len(),
-        rpc_msg_inside(src, m),
-        rpc_msg_size(m),
+        rpc_body_inside(src, body),
+        4 + rpc_body_size(body),
         out.len(),
         at,
     );
