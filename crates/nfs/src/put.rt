@@ -4,3 +4,4 @@ pub mod attr;
 pub mod dir;
 pub mod set;
 pub mod stat;
+pub mod words;

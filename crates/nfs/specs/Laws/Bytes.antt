@@ -10,7 +10,8 @@ use Rattle.xdr.specs.Meaning.Items.{word, hyper, word-pair, hyper-pair}
 use Rattle.nfs.specs.Meaning.Attr.{ftype, specdata, nfstime, ids, sizes, times, fattr, wcc-attr, pre-op-attr, preCases, post-op-attr, postCases, wcc-data, transfer, limits, fsinfo}
 use Rattle.nfs.specs.Meaning.Set.{set-mode, modeCases, set-uid, uidCases, set-gid, gidCases, set-size, sizeCases, set-atime, atimeCases, set-mtime, mtimeCases, sattr}
 use Rattle.nfs.specs.Laws.Fixed.{word-fixed, hyper-fixed}
-use Rattle.nfs.specs.Laws.Sizes.{fattr-fixed, wcc-attr-fixed, transfer-fixed, limits-fixed}
+use Rattle.nfs.specs.Laws.Sizes.{fattr-fixed, wcc-attr-fixed}
+use Rattle.nfs.specs.Laws.Words.{bounds-length}
 use Rattle.nfs.specs.Laws.Write.{Between, maybe-length, maybe-between, time-between}
 use Rattle.nfs.specs.declared.attr.specdata3.{specdata3}
 use Rattle.nfs.specs.declared.attr.nfstime3.{nfstime3}
@@ -55,14 +56,14 @@ unfolding sizes
 sizes-bytes m = simp append-assoc
 
 pub times-bytes : (m : Times)
-    → (nfstime .kind .write (m .atime) ++ nfstime .kind .write (m .mtime)) ++ nfstime .kind .write (m .ctime) ≡ times .kind .write m
+    → nfstime .kind .write (m .atime) ++ (nfstime .kind .write (m .mtime) ++ nfstime .kind .write (m .ctime)) ≡ times .kind .write m
 unfolding times
-times-bytes m = simp append-assoc
+times-bytes m = refl
 
 pub wcc-attr-bytes : (m : «wcc_attr»)
-    → (hyper .kind .write (m .size) ++ nfstime .kind .write (m .mtime)) ++ nfstime .kind .write (m .ctime) ≡ wcc-attr .kind .write m
+    → hyper .kind .write (m .size) ++ (nfstime .kind .write (m .mtime) ++ nfstime .kind .write (m .ctime)) ≡ wcc-attr .kind .write m
 unfolding wcc-attr
-wcc-attr-bytes m = simp append-assoc
+wcc-attr-bytes m = refl
 
 pub wcc-data-bytes : (m : «wcc_data»)
     → pre-op-attr .kind .write (m .before) ++ post-op-attr .kind .write (m .after) ≡ wcc-data .kind .write m
@@ -75,8 +76,8 @@ unfolding transfer
 transfer-bytes m = refl
 
 pub limits-bytes : (m : Limits)
-    → ((word .kind .write (m .dtpref) ++ hyper .kind .write (m .maxfilesize)) ++ nfstime .kind .write (m .«time_delta»)) ++ word .kind .write (m .properties) ≡ limits .kind .write m
-unfolding limits
+    → (word .kind .write (m .dtpref) ++ hyper .kind .write (m .maxfilesize)) ++ (word .kind .write (m .«time_delta» .seconds) ++ word-pair .kind .write (m .«time_delta» .nseconds, m .properties)) ≡ limits .kind .write m
+unfolding limits nfstime word-pair
 limits-bytes m = simp append-assoc
 
 pub fattr-bytes : (m : fattr3)
@@ -86,7 +87,7 @@ unfolding fattr
 fattr-bytes m = simp append-assoc
 
 pub fsinfo-bytes : (m : fsinfo3)
-    → ((post-op-attr .kind .write (m .«obj_attributes») ++ transfer .kind .write (record { max = m .rtmax; pref = m .rtpref; mult = m .rtmult })) ++ transfer .kind .write (record { max = m .wtmax; pref = m .wtpref; mult = m .wtmult })) ++ limits .kind .write (record { dtpref = m .dtpref; maxfilesize = m .maxfilesize; «time_delta» = m .«time_delta»; properties = m .properties })
+    → post-op-attr .kind .write (m .«obj_attributes») ++ ((transfer .kind .write (record { max = m .rtmax; pref = m .rtpref; mult = m .rtmult }) ++ transfer .kind .write (record { max = m .wtmax; pref = m .wtpref; mult = m .wtmult })) ++ limits .kind .write (record { dtpref = m .dtpref; maxfilesize = m .maxfilesize; «time_delta» = m .«time_delta»; properties = m .properties }))
     ≡ fsinfo .kind .write m
 unfolding fsinfo
 fsinfo-bytes m = simp append-assoc
@@ -134,8 +135,9 @@ wcc-data-between m =
     let b = post-op-attr-between (m .after) in
     record { least = omega (arith, wcc-data-length m); greatest = omega (arith, wcc-data-length m) }
 
-pub fsinfo-length : (m : fsinfo3) → length (fsinfo .kind .write m) ≡ length (post-op-attr .kind .write (m .«obj_attributes»)) + 12 + 12 + 24
-fsinfo-length m = ap length (sym (fsinfo-bytes m)) ∙ simp (length-append, transfer-fixed .writes, limits-fixed .writes)
+pub fsinfo-length : (m : fsinfo3) → length (fsinfo .kind .write m) ≡ length (post-op-attr .kind .write (m .«obj_attributes»)) + 48
+fsinfo-length m =
+    ap length (sym (fsinfo-bytes m)) ∙ length-append (post-op-attr .kind .write (m .«obj_attributes»)) _ ∙ ap (λ k. length (post-op-attr .kind .write (m .«obj_attributes»)) + k) (bounds-length _ _ _)
 
 -- sattr3, in two halves
 module _ (mode : «set_mode3») (uid : «set_uid3») (gid : «set_gid3») where

@@ -1,5 +1,6 @@
 // Attributes.
 ghost use mathlib.Core.Path.{_≡_};
+ghost use mathlib.Core.List.{_++_};
 ghost use lib.ListN.{length};
 ghost use Rattle.nfs.specs.Meaning.Attr.{ftype, specdata, nfstime, ids, sizes, times, fattr, wcc-attr, pre-op-attr, post-op-attr, wcc-data, transfer, limits, fsinfo};
 ghost use Rattle.xdr.specs.Meaning.Public.{laid};
@@ -17,6 +18,8 @@ use crate::inner::attr::Limits;
 use crate::inner::attr::Sizes;
 use crate::inner::attr::Times;
 use crate::inner::attr::Transfer;
+use crate::put::words::put_u32_three;
+use crate::put::words::put_u32_u64;
 use xdr::inner::put_bool;
 use xdr::inner::put_u32;
 use xdr::inner::put_u32_pair;
@@ -65,6 +68,16 @@ pub fn put_sizes(v: Sizes, out: &mut [u8])
     put_u64_pair(v.fsid, v.fileid, &mut out[24..]);
 }
 
+fn put_two_times(first: nfstime3, second: nfstime3, out: &mut [u8])
+    ensures { λ _. ⌜ now (out .exit) ≡ laid (nfstime .kind .write first ++ nfstime .kind .write second) (now (out .entry)) ⌝ }
+{
+    if out.len() < 16 {
+        return;
+    }
+    put_nfstime3(first, &mut out[0..]);
+    put_nfstime3(second, &mut out[8..]);
+}
+
 pub fn put_times(v: Times, out: &mut [u8])
     ensures { λ _. ⌜ now (out .exit) ≡ laid (times .kind .write v) (now (out .entry)) ⌝ }
 {
@@ -75,8 +88,7 @@ pub fn put_times(v: Times, out: &mut [u8])
     let mtime = v.mtime;
     let ctime = v.ctime;
     put_nfstime3(atime, &mut out[0..]);
-    put_nfstime3(mtime, &mut out[8..]);
-    put_nfstime3(ctime, &mut out[16..]);
+    put_two_times(mtime, ctime, &mut out[8..]);
 }
 
 pub fn put_fattr3(v: fattr3, out: &mut [u8])
@@ -123,8 +135,7 @@ pub fn put_wcc_attr(v: wcc_attr, out: &mut [u8])
     let mtime = v.mtime;
     let ctime = v.ctime;
     put_u64(v.size, &mut out[0..]);
-    put_nfstime3(mtime, &mut out[8..]);
-    put_nfstime3(ctime, &mut out[16..]);
+    put_two_times(mtime, ctime, &mut out[8..]);
 }
 
 pub fn put_pre_op_attr(v: pre_op_attr, out: &mut [u8])
@@ -199,11 +210,7 @@ pub fn wcc_data_size(v: wcc_data) -> usize
 pub fn put_transfer(v: Transfer, out: &mut [u8])
     ensures { λ _. ⌜ now (out .exit) ≡ laid (transfer .kind .write v) (now (out .entry)) ⌝ }
 {
-    if out.len() < Transfer::SIZE {
-        return;
-    }
-    put_u32(v.max, &mut out[0..]);
-    put_u32_pair(v.pref, v.mult, &mut out[4..]);
+    put_u32_three(v.max, v.pref, v.mult, out);
 }
 
 pub fn put_limits(v: Limits, out: &mut [u8])
@@ -212,11 +219,36 @@ pub fn put_limits(v: Limits, out: &mut [u8])
     if out.len() < Limits::SIZE {
         return;
     }
-    let time_delta = v.time_delta;
-    put_u32(v.dtpref, &mut out[0..]);
-    put_u64(v.maxfilesize, &mut out[4..]);
-    put_nfstime3(time_delta, &mut out[12..]);
-    put_u32(v.properties, &mut out[20..]);
+    put_u32_u64(v.dtpref, v.maxfilesize, &mut out[0..]);
+    put_u32_three(
+        v.time_delta.seconds,
+        v.time_delta.nseconds,
+        v.properties,
+        &mut out[12..],
+    );
+}
+
+fn put_transfers(rt: Transfer, wt: Transfer, out: &mut [u8])
+    ensures { λ _. ⌜ now (out .exit) ≡ laid (transfer .kind .write rt ++ transfer .kind .write wt) (now (out .entry)) ⌝ }
+{
+    if out.len() < 24 {
+        return;
+    }
+    put_transfer(rt, &mut out[0..]);
+    put_transfer(wt, &mut out[12..]);
+}
+
+// What stands behind the attributes of `fsinfo3`.
+const BOUNDS: usize = 48;
+
+fn put_bounds(rt: Transfer, wt: Transfer, rest: Limits, out: &mut [u8])
+    ensures { λ _. ⌜ now (out .exit) ≡ laid ((transfer .kind .write rt ++ transfer .kind .write wt) ++ limits .kind .write rest) (now (out .entry)) ⌝ }
+{
+    if out.len() < BOUNDS {
+        return;
+    }
+    put_transfers(rt, wt, &mut out[0..]);
+    put_limits(rest, &mut out[24..]);
 }
 
 pub fn put_fsinfo3(v: fsinfo3, out: &mut [u8])
@@ -240,21 +272,17 @@ pub fn put_fsinfo3(v: fsinfo3, out: &mut [u8])
         time_delta,
         properties: v.properties,
     };
-    let n1 = post_op_attr_size(attributes);
-    let n2 = n1 + Transfer::SIZE;
-    let n3 = n2 + Transfer::SIZE;
-    if out.len() < n3 + Limits::SIZE {
+    let n = post_op_attr_size(attributes);
+    if out.len() < n + BOUNDS {
         return;
     }
     put_post_op_attr(attributes, &mut out[0..]);
-    put_transfer(rt, &mut out[n1..]);
-    put_transfer(wt, &mut out[n2..]);
-    put_limits(rest, &mut out[n3..]);
+    put_bounds(rt, wt, rest, &mut out[n..]);
 }
 
 pub fn fsinfo3_size(v: fsinfo3) -> usize
     ensures { λ r. ⌜ r ≡ length (fsinfo .kind .write v) ⌝ }
 {
     let attributes = v.obj_attributes;
-    post_op_attr_size(attributes) + Transfer::SIZE + Transfer::SIZE + Limits::SIZE
+    post_op_attr_size(attributes) + BOUNDS
 }

@@ -5,7 +5,8 @@ ghost use Rattle.nfs.specs.Meaning.Set.{time-how, set-mode, set-uid, set
 ghost use Rattle.xdr.specs.Meaning.Public.{laid};
 ghost use Rattle.nfs.specs.Laws.Bytes.{ownerBytes, changeBytes};
 use crate::attr::nfstime3;
-use crate::put::attr::put_nfstime3;
+use crate::put::words::put_u32_three;
+use crate::put::words::put_u32_u64;
 use crate::set::_time_how;
 use crate::set::sattr3;
 use crate::set::set_atime;
@@ -16,7 +17,7 @@ use crate::set::set_size3;
 use crate::set::set_uid3;
 use xdr::inner::put_bool;
 use xdr::inner::put_u32;
-use xdr::inner::put_u64;
+use xdr::inner::put_u32_pair;
 
 pub fn put_time_how(v: _time_how, out: &mut [u8])
     ensures { λ _. ⌜ now (out .exit) ≡ laid (time-how .kind .write v) (now (out .entry)) ⌝ }
@@ -29,13 +30,7 @@ pub fn put_set_mode3(v: set_mode3, out: &mut [u8])
 {
     match v {
         set_mode3::Void => put_bool(false, out),
-        set_mode3::mode(x) => {
-            if out.len() < 8 {
-                return;
-            }
-            put_bool(true, &mut out[0..]);
-            put_u32(x, &mut out[4..]);
-        }
+        set_mode3::mode(x) => put_u32_pair(1, x, out),
     }
 }
 
@@ -53,13 +48,7 @@ pub fn put_set_uid3(v: set_uid3, out: &mut [u8])
 {
     match v {
         set_uid3::Void => put_bool(false, out),
-        set_uid3::uid(x) => {
-            if out.len() < 8 {
-                return;
-            }
-            put_bool(true, &mut out[0..]);
-            put_u32(x, &mut out[4..]);
-        }
+        set_uid3::uid(x) => put_u32_pair(1, x, out),
     }
 }
 
@@ -77,13 +66,7 @@ pub fn put_set_gid3(v: set_gid3, out: &mut [u8])
 {
     match v {
         set_gid3::Void => put_bool(false, out),
-        set_gid3::gid(x) => {
-            if out.len() < 8 {
-                return;
-            }
-            put_bool(true, &mut out[0..]);
-            put_u32(x, &mut out[4..]);
-        }
+        set_gid3::gid(x) => put_u32_pair(1, x, out),
     }
 }
 
@@ -101,13 +84,7 @@ pub fn put_set_size3(v: set_size3, out: &mut [u8])
 {
     match v {
         set_size3::Void => put_bool(false, out),
-        set_size3::size(x) => {
-            if out.len() < 12 {
-                return;
-            }
-            put_bool(true, &mut out[0..]);
-            put_u64(x, &mut out[4..]);
-        }
+        set_size3::size(x) => put_u32_u64(1, x, out),
     }
 }
 
@@ -126,13 +103,7 @@ pub fn put_set_atime(v: set_atime, out: &mut [u8])
     match v {
         set_atime::DONT_CHANGE => put_u32(0, out),
         set_atime::SET_TO_SERVER_TIME => put_u32(1, out),
-        set_atime::SET_TO_CLIENT_TIME(t) => {
-            if out.len() < 4 + nfstime3::SIZE {
-                return;
-            }
-            put_u32(2, &mut out[0..]);
-            put_nfstime3(t, &mut out[4..]);
-        }
+        set_atime::SET_TO_CLIENT_TIME(t) => put_u32_three(2, t.seconds, t.nseconds, out),
     }
 }
 
@@ -152,13 +123,7 @@ pub fn put_set_mtime(v: set_mtime, out: &mut [u8])
     match v {
         set_mtime::DONT_CHANGE => put_u32(0, out),
         set_mtime::SET_TO_SERVER_TIME => put_u32(1, out),
-        set_mtime::SET_TO_CLIENT_TIME(t) => {
-            if out.len() < 4 + nfstime3::SIZE {
-                return;
-            }
-            put_u32(2, &mut out[0..]);
-            put_nfstime3(t, &mut out[4..]);
-        }
+        set_mtime::SET_TO_CLIENT_TIME(t) => put_u32_three(2, t.seconds, t.nseconds, out),
     }
 }
 

@@ -7,12 +7,6 @@ use Rattle.nfs.proofs.put.attr.fsinfo3_size.Tie as tie
 add-result : tie.Need-add-result
 add-result c = omega (arith, c .post-op-attr-size .ensures, post-op-attr-between (c .before .args .v .«obj_attributes»))
 
-add-result-2 : tie.Need-add-result-2
-add-result-2 c = omega (arith, c .post-op-attr-size .ensures, post-op-attr-between (c .before .args .v .«obj_attributes»))
-
-add-result-3 : tie.Need-add-result-3
-add-result-3 c = omega (arith, c .post-op-attr-size .ensures, post-op-attr-between (c .before .args .v .«obj_attributes»))
-
 returns : tie.Need-returns
 returns c = omega (arith, fsinfo-length (c .before .args .v), c .post-op-attr-size .ensures)
 
@@ -20,4 +14,4 @@ pub fsinfo3-size-spec : {M : Type 1} → statement M
 fsinfo3-size-spec =
     tie.close
     (tie.spec
-    (search needs) add-result add-result-2 add-result-3 returns)
+    (search needs) add-result returns)

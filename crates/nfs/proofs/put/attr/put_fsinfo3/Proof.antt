@@ -2,16 +2,10 @@ use borrow.Author.Needs.{needs}
 use native.Mathlib.Omega.{arith}
 use mathlib.Core.Path.{sym}
 use Rattle.xdr.specs.Laws.Write.{laid-short, laid-is, put-same, lent, lent-first}
-use Rattle.nfs.specs.Laws.Sizes.{transfer-fixed, limits-fixed}
+use Rattle.nfs.specs.Laws.Words.{bounds-length}
 use Rattle.nfs.specs.Laws.Bytes.{fsinfo-bytes, fsinfo-length, post-op-attr-between}
 use Rattle.nfs.proofs.put.attr.put_fsinfo3.Statement.{statement}
 use Rattle.nfs.proofs.put.attr.put_fsinfo3.Tie as tie
-
-add-n2 : tie.Need-add-n2
-add-n2 c = omega (arith, c .post-op-attr-size .ensures, post-op-attr-between (c .before .before .before .args .v .«obj_attributes»))
-
-add-n3 : tie.Need-add-n3
-add-n3 c = omega (arith, c .post-op-attr-size .ensures, post-op-attr-between (c .before .before .before .args .v .«obj_attributes»))
 
 add-if1 : tie.Need-add-if1
 add-if1 c = omega (arith, c .post-op-attr-size .ensures, post-op-attr-between (c .before .before .before .args .v .«obj_attributes»))
@@ -20,12 +14,10 @@ returns : tie.Need-returns
 returns c = laid-short _ _ (omega (arith, fsinfo-length (c .before .before .before .before .args .v), c .before .post-op-attr-size .ensures))
 
 returns-2 : tie.Need-returns-2
-returns-2 c = laid-is (omega arith) (put-same (fsinfo-bytes (c .before .before .before .before .before .before .before .before .before .before .before .before .before .before .before .before .before .before .before .before .args .v)) (lent _ (lent _ (lent _ (lent-first _ (omega arith) (sym (c .before .before .before .before .before .before .before .before .before .before .before .before .before .before .before .before .before .post-op-attr-size .ensures)) (c .before .before .before .before .before .before .before .before .before .before .before .before .before .before .put-post-op-attr .ensures)) (omega arith) (transfer-fixed .writes _) (c .before .before .before .before .before .before .before .before .before .before .put-transfer .ensures)) (omega arith) (transfer-fixed .writes _) (c .before .before .before .before .before .before .put-transfer2 .ensures)) (omega arith) (limits-fixed .writes _) (c .before .before .put-limits .ensures)))
+returns-2 c = laid-is (omega arith) (put-same (fsinfo-bytes (c .before .before .before .before .before .before .before .before .before .before .before .before .args .v)) (lent _ (lent-first _ (omega arith) (sym (c .before .before .before .before .before .before .before .before .before .post-op-attr-size .ensures)) (c .before .before .before .before .before .before .put-post-op-attr .ensures)) (omega arith) (bounds-length _ _ _) (c .before .before .put-bounds .ensures)))
 
 pub put-fsinfo3-spec : {M : Type 1} → statement M
 put-fsinfo3-spec =
     tie.close
     (tie.spec
-    (search needs) add-n2 add-n3 add-if1 returns (search needs) (search needs) (search needs) (search needs) (search needs) (search needs)
-    (search needs) (search needs) (search needs) (search needs) (search needs) (search needs) (search needs) (search needs) (search needs)
-    (search needs) (search needs) returns-2)
+    (search needs) add-if1 returns (search needs) (search needs) (search needs) (search needs) (search needs) (search needs) (search needs) (search needs) (search needs) returns-2)

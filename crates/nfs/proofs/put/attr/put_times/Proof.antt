@@ -2,6 +2,7 @@ use borrow.Author.Needs.{needs}
 use native.Mathlib.Omega.{arith}
 use Rattle.xdr.specs.Laws.Write.{laid-short, laid-is, put-same, lent, lent-first}
 use Rattle.nfs.specs.Laws.Sizes.{nfstime-fixed, times-fixed}
+use Rattle.nfs.specs.Laws.Words.{two-times-length}
 use Rattle.nfs.specs.Laws.Bytes.{times-bytes}
 use Rattle.nfs.proofs.put.attr.put_times.Statement.{statement}
 use Rattle.nfs.proofs.put.attr.put_times.Tie as tie
@@ -10,11 +11,10 @@ returns : tie.Need-returns
 returns c = laid-short _ _ (omega (arith, times-fixed .writes (c .before .before .args .v)))
 
 returns-2 : tie.Need-returns-2
-returns-2 c = laid-is (omega arith) (put-same (times-bytes (c .before .before .before .before .before .before .before .before .before .before .before .before .before .before .before .before .before .args .v)) (lent _ (lent _ (lent-first _ (omega arith) (nfstime-fixed .writes _) (c .before .before .before .before .before .before .before .before .before .before .put-nfstime3 .ensures)) (omega arith) (nfstime-fixed .writes _) (c .before .before .before .before .before .before .put-nfstime32 .ensures)) (omega arith) (nfstime-fixed .writes _) (c .before .before .put-nfstime33 .ensures)))
+returns-2 c = laid-is (omega arith) (put-same (times-bytes (c .before .before .before .before .before .before .before .before .before .before .before .before .before .args .v)) (lent _ (lent-first _ (omega arith) (nfstime-fixed .writes _) (c .before .before .before .before .before .before .put-nfstime3 .ensures)) (omega arith) (two-times-length _ _) (c .before .before .put-two-times .ensures)))
 
 pub put-times-spec : {M : Type 1} → statement M
 put-times-spec =
     tie.close
     (tie.spec
-    returns (search needs) (search needs) (search needs) (search needs) (search needs) (search needs) (search needs) (search needs)
-    (search needs) (search needs) (search needs) (search needs) (search needs) returns-2)
+    returns (search needs) (search needs) (search needs) (search needs) (search needs) (search needs) (search needs) (search needs) (search needs) returns-2)

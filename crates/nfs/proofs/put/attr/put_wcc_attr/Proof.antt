@@ -2,7 +2,8 @@ use borrow.Author.Needs.{needs}
 use native.Mathlib.Omega.{arith}
 use Rattle.xdr.specs.Laws.Write.{laid-short, laid-is, put-same, lent, lent-first}
 use Rattle.nfs.specs.Laws.Fixed.{hyper-fixed}
-use Rattle.nfs.specs.Laws.Sizes.{nfstime-fixed, wcc-attr-fixed}
+use Rattle.nfs.specs.Laws.Sizes.{wcc-attr-fixed}
+use Rattle.nfs.specs.Laws.Words.{two-times-length}
 use Rattle.nfs.specs.Laws.Bytes.{wcc-attr-bytes}
 use Rattle.nfs.proofs.put.attr.put_wcc_attr.Statement.{statement}
 use Rattle.nfs.proofs.put.attr.put_wcc_attr.Tie as tie
@@ -11,11 +12,10 @@ returns : tie.Need-returns
 returns c = laid-short _ _ (omega (arith, wcc-attr-fixed .writes (c .before .before .args .v)))
 
 returns-2 : tie.Need-returns-2
-returns-2 c = laid-is (omega arith) (put-same (wcc-attr-bytes (c .before .before .before .before .before .before .before .before .before .before .before .before .before .before .before .before .args .v)) (lent _ (lent _ (lent-first _ (omega arith) (hyper-fixed .writes _) (c .before .before .before .before .before .before .before .before .before .before .put-u64 .ensures)) (omega arith) (nfstime-fixed .writes _) (c .before .before .before .before .before .before .put-nfstime3 .ensures)) (omega arith) (nfstime-fixed .writes _) (c .before .before .put-nfstime32 .ensures)))
+returns-2 c = laid-is (omega arith) (put-same (wcc-attr-bytes (c .before .before .before .before .before .before .before .before .before .before .before .before .args .v)) (lent _ (lent-first _ (omega arith) (hyper-fixed .writes _) (c .before .before .before .before .before .before .put-u64 .ensures)) (omega arith) (two-times-length _ _) (c .before .before .put-two-times .ensures)))
 
 pub put-wcc-attr-spec : {M : Type 1} → statement M
 put-wcc-attr-spec =
     tie.close
     (tie.spec
-    returns (search needs) (search needs) (search needs) (search needs) (search needs) (search needs) (search needs) (search needs)
-    (search needs) (search needs) (search needs) (search needs) (search needs) returns-2)
+    returns (search needs) (search needs) (search needs) (search needs) (search needs) (search needs) (search needs) (search needs) (search needs) returns-2)
