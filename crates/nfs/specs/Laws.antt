@@ -2,6 +2,8 @@
 pub mod Fixed
 pub mod Sizes
 pub mod Words
+pub mod Room
+pub mod Closed
 pub mod Read
 pub mod Write
 pub mod Bytes

@@ -1,6 +1,8 @@
 // The public writers, from any place of a larger buffer: refusal 9, 3 for the source, 4, 3 for the encoding, 5. A refusal leaves the buffer
 // as it was, and a writing leaves every byte but its own.
+ghost use mathlib.Core.Path.{_≡_};
 ghost use mathlib.Core.List.{[]};
+ghost use Rattle.nfs.specs.Laws.Room.{roomed};
 ghost use Rattle.nfs.specs.Meaning.Stat.{nfsstat};
 ghost use Rattle.nfs.specs.Meaning.Attr.{ftype, specdata, nfstime, fattr, wcc-attr, pre-op-attr, post-op-attr, wcc-data, fsinfo};
 ghost use Rattle.nfs.specs.Meaning.Set.{time-how, set-mode, set-uid, set-gid, set-size, set-atime, set-mtime, sattr};
@@ -28,7 +30,6 @@ use crate::put::attr::post_op_attr_size;
 use crate::put::attr::pre_op_attr_size;
 use crate::put::attr::put_fattr3;
 use crate::put::attr::put_fsinfo3;
-use crate::put::attr::put_ftype3;
 use crate::put::attr::put_nfstime3;
 use crate::put::attr::put_post_op_attr;
 use crate::put::attr::put_pre_op_attr;
@@ -52,7 +53,6 @@ use crate::put::set::put_set_mode3;
 use crate::put::set::put_set_mtime;
 use crate::put::set::put_set_size3;
 use crate::put::set::put_set_uid3;
-use crate::put::set::put_time_how;
 use crate::put::set::sattr3_size;
 use crate::put::set::set_atime_size;
 use crate::put::set::set_gid3_size;
@@ -60,7 +60,6 @@ use crate::put::set::set_mode3_size;
 use crate::put::set::set_mtime_size;
 use crate::put::set::set_size3_size;
 use crate::put::set::set_uid3_size;
-use crate::put::stat::put_nfsstat3;
 use crate::set::_time_how;
 use crate::set::sattr3;
 use crate::set::set_atime;
@@ -74,250 +73,202 @@ use xdr::MOST;
 use xdr::Refusal;
 use xdr::Wrote;
 use xdr::write_opaque;
+use xdr::write_u32;
+
+// What a writer of `size` bytes answers, by its room alone.
+fn room(len: usize, at: usize, size: usize) -> Wrote
+    ensures { λ r. ⌜ viewWrote r ≡ roomed len at size ⌝ }
+{
+    if len < at {
+        return Wrote::Refused(Refusal::PastEnd);
+    }
+    if len - at < size {
+        return Wrote::Refused(Refusal::NoRoom);
+    }
+    Wrote::Done(at + size)
+}
 
 pub fn write_nfsstat3(v: nfsstat3, out: &mut [u8], at: usize) -> Wrote
     ensures { λ r. ⌜ Writes (exactly nfsstat) [] v at (now (out .entry)) (viewWrote r) (now (out .exit)) ⌝ }
 {
-    if out.len() < at {
-        return Wrote::Refused(Refusal::PastEnd);
-    }
-    if out.len() - at < nfsstat3::SIZE {
-        return Wrote::Refused(Refusal::NoRoom);
-    }
-    put_nfsstat3(v, &mut out[at..]);
-    Wrote::Done(at + nfsstat3::SIZE)
+    write_u32(v.number(), out, at)
 }
 
 pub fn write_ftype3(v: ftype3, out: &mut [u8], at: usize) -> Wrote
     ensures { λ r. ⌜ Writes (exactly ftype) [] v at (now (out .entry)) (viewWrote r) (now (out .exit)) ⌝ }
 {
-    if out.len() < at {
-        return Wrote::Refused(Refusal::PastEnd);
-    }
-    if out.len() - at < ftype3::SIZE {
-        return Wrote::Refused(Refusal::NoRoom);
-    }
-    put_ftype3(v, &mut out[at..]);
-    Wrote::Done(at + ftype3::SIZE)
+    write_u32(v.number(), out, at)
 }
 
 pub fn write_specdata3(v: specdata3, out: &mut [u8], at: usize) -> Wrote
     ensures { λ r. ⌜ Writes (exactly specdata) [] v at (now (out .entry)) (viewWrote r) (now (out .exit)) ⌝ }
 {
-    if out.len() < at {
-        return Wrote::Refused(Refusal::PastEnd);
-    }
-    if out.len() - at < specdata3::SIZE {
-        return Wrote::Refused(Refusal::NoRoom);
-    }
+    let w = room(out.len(), at, specdata3::SIZE);
+    let Wrote::Done(_) = w else {
+        return w;
+    };
     put_specdata3(v, &mut out[at..]);
-    Wrote::Done(at + specdata3::SIZE)
+    w
 }
 
 pub fn write_nfstime3(v: nfstime3, out: &mut [u8], at: usize) -> Wrote
     ensures { λ r. ⌜ Writes (exactly nfstime) [] v at (now (out .entry)) (viewWrote r) (now (out .exit)) ⌝ }
 {
-    if out.len() < at {
-        return Wrote::Refused(Refusal::PastEnd);
-    }
-    if out.len() - at < nfstime3::SIZE {
-        return Wrote::Refused(Refusal::NoRoom);
-    }
+    let w = room(out.len(), at, nfstime3::SIZE);
+    let Wrote::Done(_) = w else {
+        return w;
+    };
     put_nfstime3(v, &mut out[at..]);
-    Wrote::Done(at + nfstime3::SIZE)
+    w
 }
 
 pub fn write_fattr3(v: fattr3, out: &mut [u8], at: usize) -> Wrote
     ensures { λ r. ⌜ Writes (exactly fattr) [] v at (now (out .entry)) (viewWrote r) (now (out .exit)) ⌝ }
 {
-    if out.len() < at {
-        return Wrote::Refused(Refusal::PastEnd);
-    }
-    if out.len() - at < fattr3::SIZE {
-        return Wrote::Refused(Refusal::NoRoom);
-    }
+    let w = room(out.len(), at, fattr3::SIZE);
+    let Wrote::Done(_) = w else {
+        return w;
+    };
     put_fattr3(v, &mut out[at..]);
-    Wrote::Done(at + fattr3::SIZE)
+    w
 }
 
 pub fn write_wcc_attr(v: wcc_attr, out: &mut [u8], at: usize) -> Wrote
     ensures { λ r. ⌜ Writes (exactly wcc-attr) [] v at (now (out .entry)) (viewWrote r) (now (out .exit)) ⌝ }
 {
-    if out.len() < at {
-        return Wrote::Refused(Refusal::PastEnd);
-    }
-    if out.len() - at < wcc_attr::SIZE {
-        return Wrote::Refused(Refusal::NoRoom);
-    }
+    let w = room(out.len(), at, wcc_attr::SIZE);
+    let Wrote::Done(_) = w else {
+        return w;
+    };
     put_wcc_attr(v, &mut out[at..]);
-    Wrote::Done(at + wcc_attr::SIZE)
+    w
 }
 
 pub fn write_pre_op_attr(v: pre_op_attr, out: &mut [u8], at: usize) -> Wrote
     ensures { λ r. ⌜ Writes (exactly pre-op-attr) [] v at (now (out .entry)) (viewWrote r) (now (out .exit)) ⌝ }
 {
-    if out.len() < at {
-        return Wrote::Refused(Refusal::PastEnd);
-    }
-    let size = pre_op_attr_size(v);
-    if out.len() - at < size {
-        return Wrote::Refused(Refusal::NoRoom);
-    }
+    let w = room(out.len(), at, pre_op_attr_size(v));
+    let Wrote::Done(_) = w else {
+        return w;
+    };
     put_pre_op_attr(v, &mut out[at..]);
-    Wrote::Done(at + size)
+    w
 }
 
 pub fn write_post_op_attr(v: post_op_attr, out: &mut [u8], at: usize) -> Wrote
     ensures { λ r. ⌜ Writes (exactly post-op-attr) [] v at (now (out .entry)) (viewWrote r) (now (out .exit)) ⌝ }
 {
-    if out.len() < at {
-        return Wrote::Refused(Refusal::PastEnd);
-    }
-    let size = post_op_attr_size(v);
-    if out.len() - at < size {
-        return Wrote::Refused(Refusal::NoRoom);
-    }
+    let w = room(out.len(), at, post_op_attr_size(v));
+    let Wrote::Done(_) = w else {
+        return w;
+    };
     put_post_op_attr(v, &mut out[at..]);
-    Wrote::Done(at + size)
+    w
 }
 
 pub fn write_wcc_data(v: wcc_data, out: &mut [u8], at: usize) -> Wrote
     ensures { λ r. ⌜ Writes (exactly wcc-data) [] v at (now (out .entry)) (viewWrote r) (now (out .exit)) ⌝ }
 {
-    if out.len() < at {
-        return Wrote::Refused(Refusal::PastEnd);
-    }
-    let size = wcc_data_size(v);
-    if out.len() - at < size {
-        return Wrote::Refused(Refusal::NoRoom);
-    }
+    let w = room(out.len(), at, wcc_data_size(v));
+    let Wrote::Done(_) = w else {
+        return w;
+    };
     put_wcc_data(v, &mut out[at..]);
-    Wrote::Done(at + size)
+    w
 }
 
 pub fn write_fsinfo3(v: fsinfo3, out: &mut [u8], at: usize) -> Wrote
     ensures { λ r. ⌜ Writes (exactly fsinfo) [] v at (now (out .entry)) (viewWrote r) (now (out .exit)) ⌝ }
 {
-    if out.len() < at {
-        return Wrote::Refused(Refusal::PastEnd);
-    }
-    let size = fsinfo3_size(v);
-    if out.len() - at < size {
-        return Wrote::Refused(Refusal::NoRoom);
-    }
+    let w = room(out.len(), at, fsinfo3_size(v));
+    let Wrote::Done(_) = w else {
+        return w;
+    };
     put_fsinfo3(v, &mut out[at..]);
-    Wrote::Done(at + size)
+    w
 }
 
 pub fn write_time_how(v: _time_how, out: &mut [u8], at: usize) -> Wrote
     ensures { λ r. ⌜ Writes (exactly time-how) [] v at (now (out .entry)) (viewWrote r) (now (out .exit)) ⌝ }
 {
-    if out.len() < at {
-        return Wrote::Refused(Refusal::PastEnd);
-    }
-    if out.len() - at < _time_how::SIZE {
-        return Wrote::Refused(Refusal::NoRoom);
-    }
-    put_time_how(v, &mut out[at..]);
-    Wrote::Done(at + _time_how::SIZE)
+    write_u32(v.number(), out, at)
 }
 
 pub fn write_set_mode3(v: set_mode3, out: &mut [u8], at: usize) -> Wrote
     ensures { λ r. ⌜ Writes (exactly set-mode) [] v at (now (out .entry)) (viewWrote r) (now (out .exit)) ⌝ }
 {
-    if out.len() < at {
-        return Wrote::Refused(Refusal::PastEnd);
-    }
-    let size = set_mode3_size(v);
-    if out.len() - at < size {
-        return Wrote::Refused(Refusal::NoRoom);
-    }
+    let w = room(out.len(), at, set_mode3_size(v));
+    let Wrote::Done(_) = w else {
+        return w;
+    };
     put_set_mode3(v, &mut out[at..]);
-    Wrote::Done(at + size)
+    w
 }
 
 pub fn write_set_uid3(v: set_uid3, out: &mut [u8], at: usize) -> Wrote
     ensures { λ r. ⌜ Writes (exactly set-uid) [] v at (now (out .entry)) (viewWrote r) (now (out .exit)) ⌝ }
 {
-    if out.len() < at {
-        return Wrote::Refused(Refusal::PastEnd);
-    }
-    let size = set_uid3_size(v);
-    if out.len() - at < size {
-        return Wrote::Refused(Refusal::NoRoom);
-    }
+    let w = room(out.len(), at, set_uid3_size(v));
+    let Wrote::Done(_) = w else {
+        return w;
+    };
     put_set_uid3(v, &mut out[at..]);
-    Wrote::Done(at + size)
+    w
 }
 
 pub fn write_set_gid3(v: set_gid3, out: &mut [u8], at: usize) -> Wrote
     ensures { λ r. ⌜ Writes (exactly set-gid) [] v at (now (out .entry)) (viewWrote r) (now (out .exit)) ⌝ }
 {
-    if out.len() < at {
-        return Wrote::Refused(Refusal::PastEnd);
-    }
-    let size = set_gid3_size(v);
-    if out.len() - at < size {
-        return Wrote::Refused(Refusal::NoRoom);
-    }
+    let w = room(out.len(), at, set_gid3_size(v));
+    let Wrote::Done(_) = w else {
+        return w;
+    };
     put_set_gid3(v, &mut out[at..]);
-    Wrote::Done(at + size)
+    w
 }
 
 pub fn write_set_size3(v: set_size3, out: &mut [u8], at: usize) -> Wrote
     ensures { λ r. ⌜ Writes (exactly set-size) [] v at (now (out .entry)) (viewWrote r) (now (out .exit)) ⌝ }
 {
-    if out.len() < at {
-        return Wrote::Refused(Refusal::PastEnd);
-    }
-    let size = set_size3_size(v);
-    if out.len() - at < size {
-        return Wrote::Refused(Refusal::NoRoom);
-    }
+    let w = room(out.len(), at, set_size3_size(v));
+    let Wrote::Done(_) = w else {
+        return w;
+    };
     put_set_size3(v, &mut out[at..]);
-    Wrote::Done(at + size)
+    w
 }
 
 pub fn write_set_atime(v: set_atime, out: &mut [u8], at: usize) -> Wrote
     ensures { λ r. ⌜ Writes (exactly set-atime) [] v at (now (out .entry)) (viewWrote r) (now (out .exit)) ⌝ }
 {
-    if out.len() < at {
-        return Wrote::Refused(Refusal::PastEnd);
-    }
-    let size = set_atime_size(v);
-    if out.len() - at < size {
-        return Wrote::Refused(Refusal::NoRoom);
-    }
+    let w = room(out.len(), at, set_atime_size(v));
+    let Wrote::Done(_) = w else {
+        return w;
+    };
     put_set_atime(v, &mut out[at..]);
-    Wrote::Done(at + size)
+    w
 }
 
 pub fn write_set_mtime(v: set_mtime, out: &mut [u8], at: usize) -> Wrote
     ensures { λ r. ⌜ Writes (exactly set-mtime) [] v at (now (out .entry)) (viewWrote r) (now (out .exit)) ⌝ }
 {
-    if out.len() < at {
-        return Wrote::Refused(Refusal::PastEnd);
-    }
-    let size = set_mtime_size(v);
-    if out.len() - at < size {
-        return Wrote::Refused(Refusal::NoRoom);
-    }
+    let w = room(out.len(), at, set_mtime_size(v));
+    let Wrote::Done(_) = w else {
+        return w;
+    };
     put_set_mtime(v, &mut out[at..]);
-    Wrote::Done(at + size)
+    w
 }
 
 pub fn write_sattr3(v: sattr3, out: &mut [u8], at: usize) -> Wrote
     ensures { λ r. ⌜ Writes (exactly sattr) [] v at (now (out .entry)) (viewWrote r) (now (out .exit)) ⌝ }
 {
-    if out.len() < at {
-        return Wrote::Refused(Refusal::PastEnd);
-    }
-    let size = sattr3_size(v);
-    if out.len() - at < size {
-        return Wrote::Refused(Refusal::NoRoom);
-    }
+    let w = room(out.len(), at, sattr3_size(v));
+    let Wrote::Done(_) = w else {
+        return w;
+    };
     put_sattr3(v, &mut out[at..]);
-    Wrote::Done(at + size)
+    w
 }
 
 // A name or a path, and a handle: as opaques are written.

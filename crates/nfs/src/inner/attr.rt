@@ -333,7 +333,7 @@ pub fn times_at(src: &[u8], at: usize) -> TimesRead
     let r3 = nfstime3_at(src, n2);
     let Nfstime3Read::Took {
         value: ctime,
-        next: _,
+        next: n3,
     } = r3
     else {
         return TimesRead::Refused(r3.refusal());
@@ -344,7 +344,7 @@ pub fn times_at(src: &[u8], at: usize) -> TimesRead
             mtime,
             ctime,
         },
-        next: at + Times::SIZE,
+        next: n3,
     }
 }
 
@@ -370,7 +370,7 @@ pub fn fattr3_at(src: &[u8], at: usize) -> Fattr3Read
     let r3 = times_at(src, n2);
     let TimesRead::Took {
         value: times,
-        next: _,
+        next: n3,
     } = r3
     else {
         return Fattr3Read::Refused(r3.refusal());
@@ -396,7 +396,7 @@ pub fn fattr3_at(src: &[u8], at: usize) -> Fattr3Read
             mtime,
             ctime,
         },
-        next: at + fattr3::SIZE,
+        next: n3,
     }
 }
 
@@ -422,14 +422,14 @@ pub fn wcc_attr_at(src: &[u8], at: usize) -> WccAttrRead
     let r3 = nfstime3_at(src, n2);
     let Nfstime3Read::Took {
         value: ctime,
-        next: _,
+        next: n3,
     } = r3
     else {
         return WccAttrRead::Refused(r3.refusal());
     };
     WccAttrRead::Took {
         value: wcc_attr { size, mtime, ctime },
-        next: at + wcc_attr::SIZE,
+        next: n3,
     }
 }
 
@@ -577,7 +577,7 @@ pub fn limits_at(src: &[u8], at: usize) -> LimitsRead
     let r4 = u32_at(src, n3);
     let U32Read::Took {
         value: properties,
-        next: _,
+        next: n4,
     } = r4
     else {
         return LimitsRead::Refused(r4.refusal());
@@ -589,7 +589,7 @@ pub fn limits_at(src: &[u8], at: usize) -> LimitsRead
             time_delta,
             properties,
         },
-        next: at + Limits::SIZE,
+        next: n4,
     }
 }
 

@@ -1,24 +1,13 @@
 use borrow.Author.Needs.{needs}
-use mathlib.Core.List.{[]}
-use Rattle.xdr.specs.Meaning.Format.{exactly}
-use Rattle.xdr.specs.Laws.Write.{writes-past, sized-short, sized-done, no-pieces}
-use Rattle.nfs.specs.Meaning.Stat.{nfsstat}
-use Rattle.nfs.specs.Laws.Sizes.{nfsstat-fixed}
-use Rattle.nfs.proofs.Ranges.{nfsstat-good}
+use Rattle.nfs.specs.Laws.Closed.{nfsstat-writes}
 use Rattle.nfs.proofs.write.write_nfsstat3.Statement.{statement}
 use Rattle.nfs.proofs.write.write_nfsstat3.Tie as tie
 
 returns : tie.Need-returns
-returns c = writes-past (exactly nfsstat) [] _ _ _ (c .if1 .taken)
-
-returns-2 : tie.Need-returns-2
-returns-2 c = sized-short (exactly nfsstat) [] _ (nfsstat-fixed .writes _) (no-pieces nfsstat _) _ _ (c .before .if1 .left) (search needs) (c .if2 .taken)
-
-returns-3 : tie.Need-returns-3
-returns-3 c = sized-done (exactly nfsstat) [] _ (nfsstat-fixed .writes _) (no-pieces nfsstat _) _ _ (c .before .before .before .before .before .if1 .left) (search needs) (nfsstat-good (c .before .before .before .before .before .before .before .args .v)) (c .before .before .before .before .if2 .left) (c .before .before .put-nfsstat3 .ensures)
+returns c = nfsstat-writes _ _ _ (c .before .before .before .before .number .ensures) (c .before .before .write-u32 .ensures)
 
 pub write-nfsstat3-spec : {M : Type 1} → statement M
 write-nfsstat3-spec =
     tie.close
     (tie.spec
-    returns (search needs) returns-2 (search needs) (search needs) (search needs) (search needs) (search needs) (search needs) returns-3)
+    (search needs) (search needs) (search needs) returns)

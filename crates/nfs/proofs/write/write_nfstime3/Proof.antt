@@ -1,24 +1,32 @@
 use borrow.Author.Needs.{needs}
+use native.Mathlib.Omega.{arith}
 use mathlib.Core.List.{[]}
 use Rattle.xdr.specs.Meaning.Format.{exactly}
-use Rattle.xdr.specs.Laws.Write.{writes-past, sized-short, sized-done, no-pieces}
+use Rattle.xdr.specs.Laws.Write.{no-pieces}
 use Rattle.nfs.specs.Meaning.Attr.{nfstime}
 use Rattle.nfs.specs.Laws.Sizes.{nfstime-fixed}
+use Rattle.nfs.specs.Laws.Room.{room-in, room-off, room-laid}
 use Rattle.nfs.proofs.Ranges.{nfstime-good}
 use Rattle.nfs.proofs.write.write_nfstime3.Statement.{statement}
 use Rattle.nfs.proofs.write.write_nfstime3.Tie as tie
 
 returns : tie.Need-returns
-returns c = writes-past (exactly nfstime) [] _ _ _ (c .if1 .taken)
+returns c = room-off (exactly nfstime) [] _ (nfstime-fixed .writes _) (no-pieces nfstime _) (omega arith) _ _ (c .before .before .room .ensures) (c .enum-told2 .given .1)
+
+sub-put-nfstime3 : tie.Need-sub-put-nfstime3
+sub-put-nfstime3 c = omega (arith, room-in _ _ _ (c .before .before .room .ensures) (c .enum-told .given .1))
+
+part-put-nfstime3-start : tie.Need-part-put-nfstime3-start
+part-put-nfstime3-start c = omega (arith, room-in _ _ _ (c .before .before .room .ensures) (c .enum-told .given .1))
+
+part-put-nfstime3-end : tie.Need-part-put-nfstime3-end
+part-put-nfstime3-end c = omega (arith, room-in _ _ _ (c .before .before .room .ensures) (c .enum-told .given .1))
 
 returns-2 : tie.Need-returns-2
-returns-2 c = sized-short (exactly nfstime) [] _ (nfstime-fixed .writes _) (no-pieces nfstime _) _ _ (c .before .if1 .left) (search needs) (c .if2 .taken)
-
-returns-3 : tie.Need-returns-3
-returns-3 c = sized-done (exactly nfstime) [] _ (nfstime-fixed .writes _) (no-pieces nfstime _) _ _ (c .before .before .before .before .before .if1 .left) (search needs) (nfstime-good (c .before .before .before .before .before .before .before .args .v) (c .before .before .before .before .before .before .before .good .0)) (c .before .before .before .before .if2 .left) (c .before .before .put-nfstime3 .ensures)
+returns-2 c = room-laid (exactly nfstime) [] _ (nfstime-fixed .writes _) (no-pieces nfstime _) (omega arith) _ _ (nfstime-good (c .before .before .before .before .before .before .before .before .args .v) (c .before .before .before .before .before .before .before .before .good .0)) (c .before .before .before .before .before .before .room .ensures) (c .before .before .before .before .enum-told .given .1) (c .before .before .put-nfstime3 .ensures)
 
 pub write-nfstime3-spec : {M : Type 1} → statement M
 write-nfstime3-spec =
     tie.close
     (tie.spec
-    returns (search needs) returns-2 (search needs) (search needs) (search needs) (search needs) (search needs) (search needs) returns-3)
+    (search needs) (search needs) (search needs) returns sub-put-nfstime3 part-put-nfstime3-start part-put-nfstime3-end (search needs) (search needs) returns-2)

@@ -1,9 +1,6 @@
 use borrow.Author.Needs.{needs}
-use native.Mathlib.Omega.{arith}
 use mathlib.Core.Path.{refl}
 use Rattle.xdr.specs.Laws.Answers.{on, off}
-use Rattle.nfs.specs.Laws.Fixed.{word-fixed, hyper-fixed, spans}
-use Rattle.nfs.specs.Laws.Sizes.{nfstime-fixed}
 use Rattle.xdr.specs.Meaning.Views.{lostU32, lostU64, viewU32, viewU64}
 use Rattle.nfs.specs.Meaning.Views.{lostNfstime3, viewNfstime3}
 use Rattle.nfs.specs.Meaning.Attr.{limits}
@@ -26,31 +23,9 @@ returns-4 : tie.Need-returns-4
 unfolding limits
 returns-4 c = rw (on viewU32 (c .before .before .before .before .before .before .before .before .before .before .before .before .before .before .before .u32-at .ensures) (c .before .before .before .before .before .before .before .before .before .before .before .before .before .r1 .given .1), on viewU64 (c .before .before .before .before .before .before .before .before .before .before .before .u64-at .ensures) (c .before .before .before .before .before .before .before .before .before .r2 .given .1), on viewNfstime3 (c .before .before .before .before .before .before .before .nfstime3-at .ensures) (c .before .before .before .before .before .r3 .given .1), off viewU32 lostU32 (c .before .before .before .u32-at2 .ensures) (c .before .enum-told4 .given .1) (c .refusal4 .ensures) refl)
 
-add-t19 : tie.Need-add-t19
-add-t19 c =
-    let e1 = on viewU32 (c .before .before .before .before .before .before .before .before .before .before .before .before .before .before .before .u32-at .ensures) (c .before .before .before .before .before .before .before .before .before .before .before .before .before .r1 .given .1) in
-    let e2 = on viewU64 (c .before .before .before .before .before .before .before .before .before .before .before .u64-at .ensures) (c .before .before .before .before .before .before .before .before .before .r2 .given .1) in
-    let e3 = on viewNfstime3 (c .before .before .before .before .before .before .before .nfstime3-at .ensures) (c .before .before .before .before .before .r3 .given .1) in
-    let e4 = on viewU32 (c .before .before .before .u32-at2 .ensures) (c .before .r4 .given .1) in
-    let h1 = word-fixed .reads _ _ e1 in
-    let h2 = hyper-fixed .reads _ _ e2 in
-    let h3 = nfstime-fixed .reads _ _ e3 in
-    let h4 = word-fixed .reads _ _ e4 in
-    let h = (spans (spans (spans h1 h2) h3) h4) in
-    omega arith
-
 returns-5 : tie.Need-returns-5
 unfolding limits
-returns-5 c =
-    let e1 = on viewU32 (c .before .before .before .before .before .before .before .before .before .before .before .before .before .before .before .u32-at .ensures) (c .before .before .before .before .before .before .before .before .before .before .before .before .before .r1 .given .1) in
-    let e2 = on viewU64 (c .before .before .before .before .before .before .before .before .before .before .before .u64-at .ensures) (c .before .before .before .before .before .before .before .before .before .r2 .given .1) in
-    let e3 = on viewNfstime3 (c .before .before .before .before .before .before .before .nfstime3-at .ensures) (c .before .before .before .before .before .r3 .given .1) in
-    let e4 = on viewU32 (c .before .before .before .u32-at2 .ensures) (c .before .r4 .given .1) in
-    let h1 = word-fixed .reads _ _ e1 in
-    let h2 = hyper-fixed .reads _ _ e2 in
-    let h3 = nfstime-fixed .reads _ _ e3 in
-    let h4 = word-fixed .reads _ _ e4 in
-    rw (e1, e2, e3, e4, (spans (spans (spans h1 h2) h3) h4) .next)
+returns-5 c = rw (on viewU32 (c .before .before .before .before .before .before .before .before .before .before .before .before .before .before .before .u32-at .ensures) (c .before .before .before .before .before .before .before .before .before .before .before .before .before .r1 .given .1), on viewU64 (c .before .before .before .before .before .before .before .before .before .before .before .u64-at .ensures) (c .before .before .before .before .before .before .before .before .before .r2 .given .1), on viewNfstime3 (c .before .before .before .before .before .before .before .nfstime3-at .ensures) (c .before .before .before .before .before .r3 .given .1), on viewU32 (c .before .before .before .u32-at2 .ensures) (c .before .r4 .given .1))
 
 pub limits-at-spec : {M : Type 1} → statement M
 limits-at-spec =
@@ -58,4 +33,4 @@ limits-at-spec =
     (tie.spec
     (search needs) (search needs) (search needs) (search needs) returns (search needs) (search needs) (search needs) (search needs)
     returns-2 (search needs) (search needs) (search needs) (search needs) returns-3 (search needs) (search needs) (search needs)
-    (search needs) returns-4 add-t19 returns-5)
+    (search needs) returns-4 returns-5)
