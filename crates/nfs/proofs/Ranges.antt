@@ -14,12 +14,9 @@ use Rattle.xdr.specs.Meaning.Bytes.{Bytes}
 use Rattle.xdr.specs.Meaning.Formats.{pieceHeld}
 use Rattle.xdr.specs.Laws.Pieces.{piece-good}
 use Rattle.xdr.specs.Laws.Ranges.{word-good, hyper-good, word-pair-good, hyper-pair-good, flag-good}
-use Rattle.nfs.specs.Meaning.Stat.{nfsstat}
 use Rattle.nfs.specs.Meaning.Attr.{ftype, specdata, nfstime, ids, sizes, times, fattr, wcc-attr, pre-op-attr, post-op-attr, wcc-data, transfer, limits, fsinfo}
-use Rattle.nfs.specs.Meaning.Set.{time-how, set-mode, set-uid, set-gid, set-size, set-time, set-atime, set-mtime, sattr}
+use Rattle.nfs.specs.Meaning.Set.{set-mode, set-uid, set-gid, set-size, set-time, set-atime, set-mtime, sattr}
 use Rattle.nfs.specs.Meaning.Dir.{nfs-fh, post-op-fh, diropargs, symlinkdata}
-use Rattle.nfs.specs.declared.stat.nfsfail3.{nfsfail3}
-use Rattle.nfs.specs.declared.stat.nfsstat3.{nfsstat3}
 use Rattle.nfs.specs.declared.attr.ftype3.{ftype3}
 use Rattle.nfs.specs.declared.attr.specdata3.{specdata3}
 use Rattle.nfs.specs.declared.attr.nfstime3.{nfstime3}
@@ -29,7 +26,6 @@ use Rattle.nfs.specs.declared.attr.pre_op_attr.{«pre_op_attr»}
 use Rattle.nfs.specs.declared.attr.post_op_attr.{«post_op_attr»}
 use Rattle.nfs.specs.declared.attr.wcc_data.{«wcc_data»}
 use Rattle.nfs.specs.declared.attr.fsinfo3.{fsinfo3}
-use Rattle.nfs.specs.declared.set._time_how.{«_time_how»}
 use Rattle.nfs.specs.declared.set.set_mode3.{«set_mode3»}
 use Rattle.nfs.specs.declared.set.set_uid3.{«set_uid3»}
 use Rattle.nfs.specs.declared.set.set_gid3.{«set_gid3»}
@@ -41,10 +37,7 @@ use Rattle.nfs.specs.declared.dir.nfs_fh3.{«nfs_fh3»}
 use Rattle.nfs.specs.declared.dir.post_op_fh3.{«post_op_fh3»}
 use Rattle.nfs.specs.declared.dir.diropargs3.{diropargs3}
 use Rattle.nfs.specs.declared.dir.symlinkdata3.{symlinkdata3}
-use Rattle.nfs.specs.declared.stat.nfsfail3.the-variants.{«NFS3ERR_PERM», «NFS3ERR_NOENT», «NFS3ERR_IO», «NFS3ERR_NXIO», «NFS3ERR_ACCES», «NFS3ERR_EXIST», «NFS3ERR_XDEV», «NFS3ERR_NODEV», «NFS3ERR_NOTDIR», «NFS3ERR_ISDIR», «NFS3ERR_INVAL», «NFS3ERR_FBIG», «NFS3ERR_NOSPC», «NFS3ERR_ROFS», «NFS3ERR_MLINK», «NFS3ERR_NAMETOOLONG», «NFS3ERR_NOTEMPTY», «NFS3ERR_DQUOT», «NFS3ERR_STALE», «NFS3ERR_REMOTE», «NFS3ERR_BADHANDLE», «NFS3ERR_NOT_SYNC», «NFS3ERR_BAD_COOKIE», «NFS3ERR_NOTSUPP», «NFS3ERR_TOOSMALL», «NFS3ERR_SERVERFAULT», «NFS3ERR_BADTYPE», «NFS3ERR_JUKEBOX»}
-use Rattle.nfs.specs.declared.stat.nfsstat3.the-variants.{«NFS3_OK», Failed}
 use Rattle.nfs.specs.declared.attr.ftype3.the-variants.{NF3REG, NF3DIR, NF3BLK, NF3CHR, NF3LNK, NF3SOCK, NF3FIFO}
-use Rattle.nfs.specs.declared.set._time_how.the-variants as how
 use Rattle.nfs.specs.declared.attr.pre_op_attr.the-variants as pre
 use Rattle.nfs.specs.declared.attr.post_op_attr.the-variants as post
 use Rattle.nfs.specs.declared.dir.post_op_fh3.the-variants as fh
@@ -72,42 +65,6 @@ use Rattle.nfs.proofs.set.sattr3 as sattr3·
 use Rattle.nfs.proofs.dir.symlinkdata3 as symlinkdata3·
 
 -- with no number of the source's in them
-fail-good : (a : nfsfail3) → nfsstat .kind .Good (Failed a)
-unfolding nfsstat
-fail-good «NFS3ERR_PERM» = word-good _ (omega arith)
-fail-good «NFS3ERR_NOENT» = word-good _ (omega arith)
-fail-good «NFS3ERR_IO» = word-good _ (omega arith)
-fail-good «NFS3ERR_NXIO» = word-good _ (omega arith)
-fail-good «NFS3ERR_ACCES» = word-good _ (omega arith)
-fail-good «NFS3ERR_EXIST» = word-good _ (omega arith)
-fail-good «NFS3ERR_XDEV» = word-good _ (omega arith)
-fail-good «NFS3ERR_NODEV» = word-good _ (omega arith)
-fail-good «NFS3ERR_NOTDIR» = word-good _ (omega arith)
-fail-good «NFS3ERR_ISDIR» = word-good _ (omega arith)
-fail-good «NFS3ERR_INVAL» = word-good _ (omega arith)
-fail-good «NFS3ERR_FBIG» = word-good _ (omega arith)
-fail-good «NFS3ERR_NOSPC» = word-good _ (omega arith)
-fail-good «NFS3ERR_ROFS» = word-good _ (omega arith)
-fail-good «NFS3ERR_MLINK» = word-good _ (omega arith)
-fail-good «NFS3ERR_NAMETOOLONG» = word-good _ (omega arith)
-fail-good «NFS3ERR_NOTEMPTY» = word-good _ (omega arith)
-fail-good «NFS3ERR_DQUOT» = word-good _ (omega arith)
-fail-good «NFS3ERR_STALE» = word-good _ (omega arith)
-fail-good «NFS3ERR_REMOTE» = word-good _ (omega arith)
-fail-good «NFS3ERR_BADHANDLE» = word-good _ (omega arith)
-fail-good «NFS3ERR_NOT_SYNC» = word-good _ (omega arith)
-fail-good «NFS3ERR_BAD_COOKIE» = word-good _ (omega arith)
-fail-good «NFS3ERR_NOTSUPP» = word-good _ (omega arith)
-fail-good «NFS3ERR_TOOSMALL» = word-good _ (omega arith)
-fail-good «NFS3ERR_SERVERFAULT» = word-good _ (omega arith)
-fail-good «NFS3ERR_BADTYPE» = word-good _ (omega arith)
-fail-good «NFS3ERR_JUKEBOX» = word-good _ (omega arith)
-
-pub nfsstat-good : (a : nfsstat3) → nfsstat .kind .Good a
-unfolding nfsstat
-nfsstat-good «NFS3_OK» = word-good 0 (omega arith)
-nfsstat-good (Failed a) = fail-good a
-
 pub ftype-good : (a : ftype3) → ftype .kind .Good a
 unfolding ftype
 ftype-good NF3REG = word-good _ (omega arith)
@@ -118,13 +75,6 @@ ftype-good NF3LNK = word-good _ (omega arith)
 ftype-good NF3SOCK = word-good _ (omega arith)
 ftype-good NF3FIFO = word-good _ (omega arith)
 
-pub time-how-good : (a : «_time_how») → time-how .kind .Good a
-unfolding time-how
-time-how-good how.«DONT_CHANGE» = word-good _ (omega arith)
-time-how-good how.«SET_TO_SERVER_TIME» = word-good _ (omega arith)
-time-how-good how.«SET_TO_CLIENT_TIME» = word-good _ (omega arith)
-
--- structs and enums of numbers
 pub specdata-good : (m : specdata3) {vs : List Val} → Is specdata3·.the-row m vs → specdata .kind .Good m
 unfolding specdata
 specdata-good m p =

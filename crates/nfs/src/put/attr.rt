@@ -62,9 +62,8 @@ pub fn put_sizes(v: Sizes, out: &mut [u8])
     if out.len() < Sizes::SIZE {
         return;
     }
-    let rdev = v.rdev;
     put_u64_pair(v.size, v.used, &mut out[0..]);
-    put_specdata3(rdev, &mut out[16..]);
+    put_specdata3(v.rdev, &mut out[16..]);
     put_u64_pair(v.fsid, v.fileid, &mut out[24..]);
 }
 
@@ -84,11 +83,8 @@ pub fn put_times(v: Times, out: &mut [u8])
     if out.len() < Times::SIZE {
         return;
     }
-    let atime = v.atime;
-    let mtime = v.mtime;
-    let ctime = v.ctime;
-    put_nfstime3(atime, &mut out[0..]);
-    put_two_times(mtime, ctime, &mut out[8..]);
+    put_nfstime3(v.atime, &mut out[0..]);
+    put_two_times(v.mtime, v.ctime, &mut out[8..]);
 }
 
 pub fn put_fattr3(v: fattr3, out: &mut [u8])
@@ -132,10 +128,8 @@ pub fn put_wcc_attr(v: wcc_attr, out: &mut [u8])
     if out.len() < wcc_attr::SIZE {
         return;
     }
-    let mtime = v.mtime;
-    let ctime = v.ctime;
     put_u64(v.size, &mut out[0..]);
-    put_two_times(mtime, ctime, &mut out[8..]);
+    put_two_times(v.mtime, v.ctime, &mut out[8..]);
 }
 
 pub fn put_pre_op_attr(v: pre_op_attr, out: &mut [u8])

@@ -94,11 +94,9 @@ pub fn put_diropargs3(src: &[u8], x: diropargs3, out: &mut [u8])
     if out.len() < diropargs3_size(x) {
         return;
     }
-    let dir = x.dir;
-    let name = x.name;
-    let n = opaque_size(dir.data.count);
-    put_nfs_fh3(src, dir, &mut out[0..]);
-    put_opaque(src, name, &mut out[n..]);
+    let n = opaque_size(x.dir.data.count);
+    put_nfs_fh3(src, x.dir, &mut out[0..]);
+    put_opaque(src, x.name, &mut out[n..]);
 }
 
 pub fn symlinkdata3_inside(src: &[u8], x: symlinkdata3) -> bool
@@ -128,9 +126,7 @@ pub fn put_symlinkdata3(src: &[u8], x: symlinkdata3, out: &mut [u8])
     if out.len() < symlinkdata3_size(x) {
         return;
     }
-    let attributes = x.symlink_attributes;
-    let data = x.symlink_data;
-    let n = sattr3_size(attributes);
-    put_sattr3(attributes, &mut out[0..]);
-    put_opaque(src, data, &mut out[n..]);
+    let n = sattr3_size(x.symlink_attributes);
+    put_sattr3(x.symlink_attributes, &mut out[0..]);
+    put_opaque(src, x.symlink_data, &mut out[n..]);
 }

@@ -11,7 +11,7 @@ returns : tie.Need-returns
 returns c = laid-short _ _ (omega (arith, sizes-fixed .writes (c .before .before .args .v)))
 
 returns-2 : tie.Need-returns-2
-returns-2 c = laid-is (omega arith) (put-same (sizes-bytes (c .before .before .before .before .before .before .before .before .before .before .before .before .before .before .before .args .v)) (lent _ (lent _ (lent-first _ (omega arith) (hyper-pair-fixed .writes _) (c .before .before .before .before .before .before .before .before .before .before .put-u64-pair .ensures)) (omega arith) (specdata-fixed .writes _) (c .before .before .before .before .before .before .put-specdata3 .ensures)) (omega arith) (hyper-pair-fixed .writes _) (c .before .before .put-u64-pair2 .ensures)))
+returns-2 c = laid-is (omega arith) (put-same (sizes-bytes (c .before .before .before .before .before .before .before .before .before .before .before .before .before .before .args .v)) (lent _ (lent _ (lent-first _ (omega arith) (hyper-pair-fixed .writes _) (c .before .before .before .before .before .before .before .before .before .before .put-u64-pair .ensures)) (omega arith) (specdata-fixed .writes _) (c .before .before .before .before .before .before .put-specdata3 .ensures)) (omega arith) (hyper-pair-fixed .writes _) (c .before .before .put-u64-pair2 .ensures)))
 
 pub put-sizes-spec : {M : Type 1} → statement M
 put-sizes-spec =

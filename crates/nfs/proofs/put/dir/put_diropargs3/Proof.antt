@@ -20,7 +20,7 @@ returns-3 : tie.Need-returns-3
 returns-3 c = of-short diropargs _ _ _ (record { short = (c .before .before .before .before .if1 .left); inside = (yes (c .before .before .before .diropargs3-inside .ensures) (c .before .before .if2 .left)) }) (omega (arith, (entry-size (now (c .before .before .before .before .before .before .before .args .src)) (c .before .before .before .before .before .before .before .args .x) (c .before .before .before .before .if1 .left) (yes (c .before .before .before .diropargs3-inside .ensures) (c .before .before .if2 .left)) (c .before .diropargs3-size .ensures))))
 
 returns-4 : tie.Need-returns-4
-returns-4 c = of-is diropargs _ _ _ (record { short = (c .before .before .before .before .before .before .before .before .before .before .before .before .before .before .before .if1 .left); inside = (yes (c .before .before .before .before .before .before .before .before .before .before .before .before .before .before .diropargs3-inside .ensures) (c .before .before .before .before .before .before .before .before .before .before .before .before .before .if2 .left)) }) (omega (arith, c .before .before .before .before .before .before .before .before .before .before .before .before .diropargs3-size .ensures, c .before .before .before .before .before .before .before .before .opaque-size .ensures)) (put-same (entry-bytes (now (c .before .before .before .before .before .before .before .before .before .before .before .before .before .before .before .before .before .before .args .src)) (c .before .before .before .before .before .before .before .before .before .before .before .before .before .before .before .before .before .before .args .x)) (lent-of bytes (now (c .before .before .before .before .before .before .before .before .before .before .before .before .before .before .before .before .before .before .args .src)) (c .before .before .before .before .before .before .before .before .before .before .before .before .before .before .before .before .before .before .args .x .name) (bytes-ready (now (c .before .before .before .before .before .before .before .before .before .before .before .before .before .before .before .before .before .before .args .src)) (c .before .before .before .before .before .before .before .before .before .before .before .before .before .before .before .before .before .before .args .x .name) (c .before .before .before .before .before .before .before .before .before .before .before .before .before .before .before .if1 .left) (entry-name (now (c .before .before .before .before .before .before .before .before .before .before .before .before .before .before .before .before .before .before .args .src)) (c .before .before .before .before .before .before .before .before .before .before .before .before .before .before .before .before .before .before .args .x) (yes (c .before .before .before .before .before .before .before .before .before .before .before .before .before .before .diropargs3-inside .ensures) (c .before .before .before .before .before .before .before .before .before .before .before .before .before .if2 .left)))) (lent-of-first nfs-fh (now (c .before .before .before .before .before .before .before .before .before .before .before .before .before .before .before .before .before .before .args .src)) (c .before .before .before .before .before .before .before .before .before .before .before .before .before .before .before .before .before .before .args .x .dir) (handle-ready (now (c .before .before .before .before .before .before .before .before .before .before .before .before .before .before .before .before .before .before .args .src)) (c .before .before .before .before .before .before .before .before .before .before .before .before .before .before .before .before .before .before .args .x .dir) (c .before .before .before .before .before .before .before .before .before .before .before .before .before .before .before .if1 .left) (entry-dir (now (c .before .before .before .before .before .before .before .before .before .before .before .before .before .before .before .before .before .before .args .src)) (c .before .before .before .before .before .before .before .before .before .before .before .before .before .before .before .before .before .before .args .x) (yes (c .before .before .before .before .before .before .before .before .before .before .before .before .before .before .diropargs3-inside .ensures) (c .before .before .before .before .before .before .before .before .before .before .before .before .before .if2 .left)))) (omega (arith, c .before .before .before .before .before .before .before .before .before .before .before .before .diropargs3-size .ensures, c .before .before .before .before .before .before .before .before .opaque-size .ensures)) (handle-size (now (c .before .before .before .before .before .before .before .before .before .before .before .before .before .before .before .before .before .before .args .src)) (c .before .before .before .before .before .before .before .before .before .before .before .before .before .before .before .before .before .before .args .x .dir) (c .before .before .before .before .before .before .before .before .before .before .before .before .before .before .before .if1 .left) (entry-dir (now (c .before .before .before .before .before .before .before .before .before .before .before .before .before .before .before .before .before .before .args .src)) (c .before .before .before .before .before .before .before .before .before .before .before .before .before .before .before .before .before .before .args .x) (yes (c .before .before .before .before .before .before .before .before .before .before .before .before .before .before .diropargs3-inside .ensures) (c .before .before .before .before .before .before .before .before .before .before .before .before .before .if2 .left))) (c .before .before .before .before .before .before .before .before .opaque-size .ensures)) (c .before .before .before .before .before .before .put-nfs-fh3 .ensures)) (omega (arith, c .before .before .before .before .before .before .before .before .before .before .before .before .diropargs3-size .ensures, c .before .before .before .before .before .before .before .before .opaque-size .ensures)) (bytes-size (now (c .before .before .before .before .before .before .before .before .before .before .before .before .before .before .before .before .before .before .args .src)) (c .before .before .before .before .before .before .before .before .before .before .before .before .before .before .before .before .before .before .args .x .name) (c .before .before .before .before .before .before .before .before .before .before .before .before .before .before .before .if1 .left) (entry-name (now (c .before .before .before .before .before .before .before .before .before .before .before .before .before .before .before .before .before .before .args .src)) (c .before .before .before .before .before .before .before .before .before .before .before .before .before .before .before .before .before .before .args .x) (yes (c .before .before .before .before .before .before .before .before .before .before .before .before .before .before .diropargs3-inside .ensures) (c .before .before .before .before .before .before .before .before .before .before .before .before .before .if2 .left))) refl) (c .before .before .put-opaque .ensures)))
+returns-4 c = of-is diropargs _ _ _ (record { short = (c .before .before .before .before .before .before .before .before .before .before .before .before .before .if1 .left); inside = (yes (c .before .before .before .before .before .before .before .before .before .before .before .before .diropargs3-inside .ensures) (c .before .before .before .before .before .before .before .before .before .before .before .if2 .left)) }) (omega (arith, c .before .before .before .before .before .before .before .before .before .before .diropargs3-size .ensures, c .before .before .before .before .before .before .before .before .opaque-size .ensures)) (put-same (entry-bytes (now (c .before .before .before .before .before .before .before .before .before .before .before .before .before .before .before .before .args .src)) (c .before .before .before .before .before .before .before .before .before .before .before .before .before .before .before .before .args .x)) (lent-of bytes (now (c .before .before .before .before .before .before .before .before .before .before .before .before .before .before .before .before .args .src)) (c .before .before .before .before .before .before .before .before .before .before .before .before .before .before .before .before .args .x .name) (bytes-ready (now (c .before .before .before .before .before .before .before .before .before .before .before .before .before .before .before .before .args .src)) (c .before .before .before .before .before .before .before .before .before .before .before .before .before .before .before .before .args .x .name) (c .before .before .before .before .before .before .before .before .before .before .before .before .before .if1 .left) (entry-name (now (c .before .before .before .before .before .before .before .before .before .before .before .before .before .before .before .before .args .src)) (c .before .before .before .before .before .before .before .before .before .before .before .before .before .before .before .before .args .x) (yes (c .before .before .before .before .before .before .before .before .before .before .before .before .diropargs3-inside .ensures) (c .before .before .before .before .before .before .before .before .before .before .before .if2 .left)))) (lent-of-first nfs-fh (now (c .before .before .before .before .before .before .before .before .before .before .before .before .before .before .before .before .args .src)) (c .before .before .before .before .before .before .before .before .before .before .before .before .before .before .before .before .args .x .dir) (handle-ready (now (c .before .before .before .before .before .before .before .before .before .before .before .before .before .before .before .before .args .src)) (c .before .before .before .before .before .before .before .before .before .before .before .before .before .before .before .before .args .x .dir) (c .before .before .before .before .before .before .before .before .before .before .before .before .before .if1 .left) (entry-dir (now (c .before .before .before .before .before .before .before .before .before .before .before .before .before .before .before .before .args .src)) (c .before .before .before .before .before .before .before .before .before .before .before .before .before .before .before .before .args .x) (yes (c .before .before .before .before .before .before .before .before .before .before .before .before .diropargs3-inside .ensures) (c .before .before .before .before .before .before .before .before .before .before .before .if2 .left)))) (omega (arith, c .before .before .before .before .before .before .before .before .before .before .diropargs3-size .ensures, c .before .before .before .before .before .before .before .before .opaque-size .ensures)) (handle-size (now (c .before .before .before .before .before .before .before .before .before .before .before .before .before .before .before .before .args .src)) (c .before .before .before .before .before .before .before .before .before .before .before .before .before .before .before .before .args .x .dir) (c .before .before .before .before .before .before .before .before .before .before .before .before .before .if1 .left) (entry-dir (now (c .before .before .before .before .before .before .before .before .before .before .before .before .before .before .before .before .args .src)) (c .before .before .before .before .before .before .before .before .before .before .before .before .before .before .before .before .args .x) (yes (c .before .before .before .before .before .before .before .before .before .before .before .before .diropargs3-inside .ensures) (c .before .before .before .before .before .before .before .before .before .before .before .if2 .left))) (c .before .before .before .before .before .before .before .before .opaque-size .ensures)) (c .before .before .before .before .before .before .put-nfs-fh3 .ensures)) (omega (arith, c .before .before .before .before .before .before .before .before .before .before .diropargs3-size .ensures, c .before .before .before .before .before .before .before .before .opaque-size .ensures)) (bytes-size (now (c .before .before .before .before .before .before .before .before .before .before .before .before .before .before .before .before .args .src)) (c .before .before .before .before .before .before .before .before .before .before .before .before .before .before .before .before .args .x .name) (c .before .before .before .before .before .before .before .before .before .before .before .before .before .if1 .left) (entry-name (now (c .before .before .before .before .before .before .before .before .before .before .before .before .before .before .before .before .args .src)) (c .before .before .before .before .before .before .before .before .before .before .before .before .before .before .before .before .args .x) (yes (c .before .before .before .before .before .before .before .before .before .before .before .before .diropargs3-inside .ensures) (c .before .before .before .before .before .before .before .before .before .before .before .if2 .left))) refl) (c .before .before .put-opaque .ensures)))
 
 pub put-diropargs3-spec : {M : Type 1} → statement M
 put-diropargs3-spec =

@@ -20,7 +20,7 @@ returns-3 : tie.Need-returns-3
 returns-3 c = of-short symlinkdata _ _ _ (record { short = (c .before .before .before .before .if1 .left); inside = (yes (c .before .before .before .symlinkdata3-inside .ensures) (c .before .before .if2 .left)) }) (omega (arith, (link-size (now (c .before .before .before .before .before .before .before .args .src)) (c .before .before .before .before .before .before .before .args .x) (c .before .before .before .before .if1 .left) (yes (c .before .before .before .symlinkdata3-inside .ensures) (c .before .before .if2 .left)) (c .before .symlinkdata3-size .ensures))))
 
 returns-4 : tie.Need-returns-4
-returns-4 c = of-is symlinkdata _ _ _ (record { short = (c .before .before .before .before .before .before .before .before .before .before .before .before .before .before .before .if1 .left); inside = (yes (c .before .before .before .before .before .before .before .before .before .before .before .before .before .before .symlinkdata3-inside .ensures) (c .before .before .before .before .before .before .before .before .before .before .before .before .before .if2 .left)) }) (omega (arith, c .before .before .before .before .before .before .before .before .before .before .before .before .symlinkdata3-size .ensures, c .before .before .before .before .before .before .before .before .sattr3-size .ensures)) (put-same (link-bytes (now (c .before .before .before .before .before .before .before .before .before .before .before .before .before .before .before .before .before .before .args .src)) (c .before .before .before .before .before .before .before .before .before .before .before .before .before .before .before .before .before .before .args .x)) (lent-of bytes (now (c .before .before .before .before .before .before .before .before .before .before .before .before .before .before .before .before .before .before .args .src)) (c .before .before .before .before .before .before .before .before .before .before .before .before .before .before .before .before .before .before .args .x .«symlink_data») (bytes-ready (now (c .before .before .before .before .before .before .before .before .before .before .before .before .before .before .before .before .before .before .args .src)) (c .before .before .before .before .before .before .before .before .before .before .before .before .before .before .before .before .before .before .args .x .«symlink_data») (c .before .before .before .before .before .before .before .before .before .before .before .before .before .before .before .if1 .left) (link-inside (now (c .before .before .before .before .before .before .before .before .before .before .before .before .before .before .before .before .before .before .args .src)) (c .before .before .before .before .before .before .before .before .before .before .before .before .before .before .before .before .before .before .args .x) ∙ (yes (c .before .before .before .before .before .before .before .before .before .before .before .before .before .before .symlinkdata3-inside .ensures) (c .before .before .before .before .before .before .before .before .before .before .before .before .before .if2 .left)))) (lent-first _ (omega (arith, c .before .before .before .before .before .before .before .before .before .before .before .before .symlinkdata3-size .ensures, c .before .before .before .before .before .before .before .before .sattr3-size .ensures)) (sym (c .before .before .before .before .before .before .before .before .sattr3-size .ensures)) (c .before .before .before .before .before .before .put-sattr3 .ensures)) (omega (arith, c .before .before .before .before .before .before .before .before .before .before .before .before .symlinkdata3-size .ensures, c .before .before .before .before .before .before .before .before .sattr3-size .ensures)) (bytes-size (now (c .before .before .before .before .before .before .before .before .before .before .before .before .before .before .before .before .before .before .args .src)) (c .before .before .before .before .before .before .before .before .before .before .before .before .before .before .before .before .before .before .args .x .«symlink_data») (c .before .before .before .before .before .before .before .before .before .before .before .before .before .before .before .if1 .left) (link-inside (now (c .before .before .before .before .before .before .before .before .before .before .before .before .before .before .before .before .before .before .args .src)) (c .before .before .before .before .before .before .before .before .before .before .before .before .before .before .before .before .before .before .args .x) ∙ (yes (c .before .before .before .before .before .before .before .before .before .before .before .before .before .before .symlinkdata3-inside .ensures) (c .before .before .before .before .before .before .before .before .before .before .before .before .before .if2 .left))) refl) (c .before .before .put-opaque .ensures)))
+returns-4 c = of-is symlinkdata _ _ _ (record { short = (c .before .before .before .before .before .before .before .before .before .before .before .before .before .if1 .left); inside = (yes (c .before .before .before .before .before .before .before .before .before .before .before .before .symlinkdata3-inside .ensures) (c .before .before .before .before .before .before .before .before .before .before .before .if2 .left)) }) (omega (arith, c .before .before .before .before .before .before .before .before .before .before .symlinkdata3-size .ensures, c .before .before .before .before .before .before .before .before .sattr3-size .ensures)) (put-same (link-bytes (now (c .before .before .before .before .before .before .before .before .before .before .before .before .before .before .before .before .args .src)) (c .before .before .before .before .before .before .before .before .before .before .before .before .before .before .before .before .args .x)) (lent-of bytes (now (c .before .before .before .before .before .before .before .before .before .before .before .before .before .before .before .before .args .src)) (c .before .before .before .before .before .before .before .before .before .before .before .before .before .before .before .before .args .x .«symlink_data») (bytes-ready (now (c .before .before .before .before .before .before .before .before .before .before .before .before .before .before .before .before .args .src)) (c .before .before .before .before .before .before .before .before .before .before .before .before .before .before .before .before .args .x .«symlink_data») (c .before .before .before .before .before .before .before .before .before .before .before .before .before .if1 .left) (link-inside (now (c .before .before .before .before .before .before .before .before .before .before .before .before .before .before .before .before .args .src)) (c .before .before .before .before .before .before .before .before .before .before .before .before .before .before .before .before .args .x) ∙ (yes (c .before .before .before .before .before .before .before .before .before .before .before .before .symlinkdata3-inside .ensures) (c .before .before .before .before .before .before .before .before .before .before .before .if2 .left)))) (lent-first _ (omega (arith, c .before .before .before .before .before .before .before .before .before .before .symlinkdata3-size .ensures, c .before .before .before .before .before .before .before .before .sattr3-size .ensures)) (sym (c .before .before .before .before .before .before .before .before .sattr3-size .ensures)) (c .before .before .before .before .before .before .put-sattr3 .ensures)) (omega (arith, c .before .before .before .before .before .before .before .before .before .before .symlinkdata3-size .ensures, c .before .before .before .before .before .before .before .before .sattr3-size .ensures)) (bytes-size (now (c .before .before .before .before .before .before .before .before .before .before .before .before .before .before .before .before .args .src)) (c .before .before .before .before .before .before .before .before .before .before .before .before .before .before .before .before .args .x .«symlink_data») (c .before .before .before .before .before .before .before .before .before .before .before .before .before .if1 .left) (link-inside (now (c .before .before .before .before .before .before .before .before .before .before .before .before .before .before .before .before .args .src)) (c .before .before .before .before .before .before .before .before .before .before .before .before .before .before .before .before .args .x) ∙ (yes (c .before .before .before .before .before .before .before .before .before .before .before .before .symlinkdata3-inside .ensures) (c .before .before .before .before .before .before .before .before .before .before .before .if2 .left))) refl) (c .before .before .put-opaque .ensures)))
 
 pub put-symlinkdata3-spec : {M : Type 1} → statement M
 put-symlinkdata3-spec =
