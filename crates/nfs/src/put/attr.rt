@@ -5,12 +5,17 @@ ghost use lib.ListN.{length};
 ghost use Rattle.nfs.specs.Meaning.Attr.{ftype, specdata, nfstime, ids, sizes, times, fattr, wcc-attr, pre-op-attr, post-op-attr, wcc-data, transfer, limits, fsinfo};
 ghost use Rattle.xdr.specs.Meaning.Public.{laid};
 use crate::attr::fattr3;
+use crate::attr::fileid3;
 use crate::attr::fsinfo3;
 use crate::attr::ftype3;
+use crate::attr::gid3;
+use crate::attr::mode3;
 use crate::attr::nfstime3;
 use crate::attr::post_op_attr;
 use crate::attr::pre_op_attr;
+use crate::attr::size3;
 use crate::attr::specdata3;
+use crate::attr::uid3;
 use crate::attr::wcc_attr;
 use crate::attr::wcc_data;
 use crate::inner::attr::Ids;
@@ -44,27 +49,26 @@ pub fn put_nfstime3(v: nfstime3, out: &mut [u8])
     put_u32_pair(v.seconds, v.nseconds, out);
 }
 
-pub fn put_ids(v: Ids, out: &mut [u8])
-    ensures { λ _. ⌜ now (out .exit) ≡ laid (ids .kind .write v) (now (out .entry)) ⌝ }
+fn put_ids(ftype: ftype3, mode: mode3, nlink: u32, uid: uid3, gid: gid3, out: &mut [u8])
+    ensures { λ _. ⌜ now (out .exit) ≡ laid (ids .kind .write (record { ftype = ftype; mode = mode; nlink = nlink; uid = uid; gid = gid })) (now (out .entry)) ⌝ }
 {
     if out.len() < Ids::SIZE {
         return;
     }
-    let ftype = v.ftype;
     put_ftype3(ftype, &mut out[0..]);
-    put_u32_pair(v.mode, v.nlink, &mut out[4..]);
-    put_u32_pair(v.uid, v.gid, &mut out[12..]);
+    put_u32_pair(mode, nlink, &mut out[4..]);
+    put_u32_pair(uid, gid, &mut out[12..]);
 }
 
-pub fn put_sizes(v: Sizes, out: &mut [u8])
-    ensures { λ _. ⌜ now (out .exit) ≡ laid (sizes .kind .write v) (now (out .entry)) ⌝ }
+fn put_sizes(size: size3, used: size3, rdev: specdata3, fsid: u64, fileid: fileid3, out: &mut [u8])
+    ensures { λ _. ⌜ now (out .exit) ≡ laid (sizes .kind .write (record { size = size; used = used; rdev = rdev; fsid = fsid; fileid = fileid })) (now (out .entry)) ⌝ }
 {
     if out.len() < Sizes::SIZE {
         return;
     }
-    put_u64_pair(v.size, v.used, &mut out[0..]);
-    put_specdata3(v.rdev, &mut out[16..]);
-    put_u64_pair(v.fsid, v.fileid, &mut out[24..]);
+    put_u64_pair(size, used, &mut out[0..]);
+    put_specdata3(rdev, &mut out[16..]);
+    put_u64_pair(fsid, fileid, &mut out[24..]);
 }
 
 fn put_two_times(first: nfstime3, second: nfstime3, out: &mut [u8])
@@ -77,14 +81,14 @@ fn put_two_times(first: nfstime3, second: nfstime3, out: &mut [u8])
     put_nfstime3(second, &mut out[8..]);
 }
 
-pub fn put_times(v: Times, out: &mut [u8])
-    ensures { λ _. ⌜ now (out .exit) ≡ laid (times .kind .write v) (now (out .entry)) ⌝ }
+fn put_times(atime: nfstime3, mtime: nfstime3, ctime: nfstime3, out: &mut [u8])
+    ensures { λ _. ⌜ now (out .exit) ≡ laid (times .kind .write (record { atime = atime; mtime = mtime; ctime = ctime })) (now (out .entry)) ⌝ }
 {
     if out.len() < Times::SIZE {
         return;
     }
-    put_nfstime3(v.atime, &mut out[0..]);
-    put_two_times(v.mtime, v.ctime, &mut out[8..]);
+    put_nfstime3(atime, &mut out[0..]);
+    put_two_times(mtime, ctime, &mut out[8..]);
 }
 
 pub fn put_fattr3(v: fattr3, out: &mut [u8])
@@ -94,32 +98,9 @@ pub fn put_fattr3(v: fattr3, out: &mut [u8])
         return;
     }
     let ftype = v.ftype;
-    let rdev = v.rdev;
-    let atime = v.atime;
-    let mtime = v.mtime;
-    let ctime = v.ctime;
-    let ids = Ids {
-        ftype,
-        mode: v.mode,
-        nlink: v.nlink,
-        uid: v.uid,
-        gid: v.gid,
-    };
-    let sizes = Sizes {
-        size: v.size,
-        used: v.used,
-        rdev,
-        fsid: v.fsid,
-        fileid: v.fileid,
-    };
-    let times = Times {
-        atime,
-        mtime,
-        ctime,
-    };
-    put_ids(ids, &mut out[0..]);
-    put_sizes(sizes, &mut out[20..]);
-    put_times(times, &mut out[60..]);
+    put_ids(ftype, v.mode, v.nlink, v.uid, v.gid, &mut out[0..]);
+    put_sizes(v.size, v.used, v.rdev, v.fsid, v.fileid, &mut out[20..]);
+    put_times(v.atime, v.mtime, v.ctime, &mut out[60..]);
 }
 
 pub fn put_wcc_attr(v: wcc_attr, out: &mut [u8])

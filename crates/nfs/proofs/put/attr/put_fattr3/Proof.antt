@@ -10,7 +10,7 @@ returns : tie.Need-returns
 returns c = laid-short _ _ (omega (arith, fattr-fixed .writes (c .before .before .args .v)))
 
 returns-2 : tie.Need-returns-2
-returns-2 c = laid-is (omega arith) (put-same (fattr-bytes (c .before .before .before .before .before .before .before .before .before .before .before .before .before .before .before .before .before .before .args .v)) (lent _ (lent _ (lent-first _ (omega arith) (ids-fixed .writes _) (c .before .before .before .before .before .before .before .before .before .before .put-ids .ensures)) (omega arith) (sizes-fixed .writes _) (c .before .before .before .before .before .before .put-sizes .ensures)) (omega arith) (times-fixed .writes _) (c .before .before .put-times .ensures)))
+returns-2 c = laid-is (omega arith) (put-same (fattr-bytes (c .before .before .before .before .before .before .before .before .before .before .before .before .before .before .args .v)) (lent _ (lent _ (lent-first _ (omega arith) (ids-fixed .writes _) (c .before .before .before .before .before .before .before .before .before .before .put-ids .ensures)) (omega arith) (sizes-fixed .writes _) (c .before .before .before .before .before .before .put-sizes .ensures)) (omega arith) (times-fixed .writes _) (c .before .before .put-times .ensures)))
 
 pub put-fattr3-spec : {M : Type 1} → statement M
 put-fattr3-spec =

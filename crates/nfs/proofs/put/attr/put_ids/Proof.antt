@@ -8,10 +8,10 @@ use Rattle.nfs.proofs.put.attr.put_ids.Statement.{statement}
 use Rattle.nfs.proofs.put.attr.put_ids.Tie as tie
 
 returns : tie.Need-returns
-returns c = laid-short _ _ (omega (arith, ids-fixed .writes (c .before .before .args .v)))
+returns c = laid-short _ _ (omega (arith, ids-fixed .writes (record { ftype = c .before .before .args .ftype; mode = c .before .before .args .mode; nlink = c .before .before .args .nlink; uid = c .before .before .args .uid; gid = c .before .before .args .gid })))
 
 returns-2 : tie.Need-returns-2
-returns-2 c = laid-is (omega arith) (put-same (ids-bytes (c .before .before .before .before .before .before .before .before .before .before .before .before .before .before .args .v)) (lent _ (lent _ (lent-first _ (omega arith) (ftype-fixed .writes _) (c .before .before .before .before .before .before .before .before .before .before .put-ftype3 .ensures)) (omega arith) (word-pair-fixed .writes _) (c .before .before .before .before .before .before .put-u32-pair .ensures)) (omega arith) (word-pair-fixed .writes _) (c .before .before .put-u32-pair2 .ensures)))
+returns-2 c = laid-is (omega arith) (put-same (ids-bytes (record { ftype = c .before .before .before .before .before .before .before .before .before .before .before .before .before .before .args .ftype; mode = c .before .before .before .before .before .before .before .before .before .before .before .before .before .before .args .mode; nlink = c .before .before .before .before .before .before .before .before .before .before .before .before .before .before .args .nlink; uid = c .before .before .before .before .before .before .before .before .before .before .before .before .before .before .args .uid; gid = c .before .before .before .before .before .before .before .before .before .before .before .before .before .before .args .gid })) (lent _ (lent _ (lent-first _ (omega arith) (ftype-fixed .writes _) (c .before .before .before .before .before .before .before .before .before .before .put-ftype3 .ensures)) (omega arith) (word-pair-fixed .writes _) (c .before .before .before .before .before .before .put-u32-pair .ensures)) (omega arith) (word-pair-fixed .writes _) (c .before .before .put-u32-pair2 .ensures)))
 
 pub put-ids-spec : {M : Type 1} → statement M
 put-ids-spec =

@@ -8,10 +8,10 @@ use Rattle.nfs.proofs.put.attr.put_times.Statement.{statement}
 use Rattle.nfs.proofs.put.attr.put_times.Tie as tie
 
 returns : tie.Need-returns
-returns c = laid-short _ _ (omega (arith, times-fixed .writes (c .before .before .args .v)))
+returns c = laid-short _ _ (omega (arith, times-fixed .writes (record { atime = c .before .before .args .atime; mtime = c .before .before .args .mtime; ctime = c .before .before .args .ctime })))
 
 returns-2 : tie.Need-returns-2
-returns-2 c = laid-is (omega arith) (put-same (times-bytes (c .before .before .before .before .before .before .before .before .before .before .args .v)) (lent _ (lent-first _ (omega arith) (nfstime-fixed .writes _) (c .before .before .before .before .before .before .put-nfstime3 .ensures)) (omega arith) (two-times-length _ _) (c .before .before .put-two-times .ensures)))
+returns-2 c = laid-is (omega arith) (put-same (times-bytes (record { atime = c .before .before .before .before .before .before .before .before .before .before .args .atime; mtime = c .before .before .before .before .before .before .before .before .before .before .args .mtime; ctime = c .before .before .before .before .before .before .before .before .before .before .args .ctime })) (lent _ (lent-first _ (omega arith) (nfstime-fixed .writes _) (c .before .before .before .before .before .before .put-nfstime3 .ensures)) (omega arith) (two-times-length _ _) (c .before .before .put-two-times .ensures)))
 
 pub put-times-spec : {M : Type 1} → statement M
 put-times-spec =
