@@ -3,6 +3,7 @@ pub mod Fixed
 pub mod Sizes
 pub mod Words
 pub mod Room
+pub mod Lent
 pub mod Closed
 pub mod Read
 pub mod Write

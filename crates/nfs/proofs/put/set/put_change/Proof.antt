@@ -1,7 +1,8 @@
 use borrow.Author.Needs.{needs}
 use native.Mathlib.Omega.{arith}
 use mathlib.Core.Path.{sym}
-use Rattle.xdr.specs.Laws.Write.{laid-short, laid-is, put-same, lent, lent-first}
+use Rattle.xdr.specs.Laws.Write.{laid-short, laid-same}
+use Rattle.nfs.specs.Laws.Lent.{laid-three}
 use Rattle.nfs.specs.Laws.Bytes.{change-bytes, change-length, set-size-between, set-atime-between, set-mtime-between}
 use Rattle.nfs.proofs.put.set.put_change.Statement.{statement}
 use Rattle.nfs.proofs.put.set.put_change.Tie as tie
@@ -16,7 +17,7 @@ returns : tie.Need-returns
 returns c = laid-short _ _ (omega (arith, change-length (c .before .before .before .before .before .args .size) (c .before .before .before .before .before .args .atime) (c .before .before .before .before .before .args .mtime), c .before .before .before .set-size3-size .ensures, c .before .before .set-atime-size .ensures, c .before .set-mtime-size .ensures))
 
 returns-2 : tie.Need-returns-2
-returns-2 c = laid-is (omega arith) (put-same (change-bytes (c .before .before .before .before .before .before .before .before .before .before .before .before .before .before .before .before .before .args .size) (c .before .before .before .before .before .before .before .before .before .before .before .before .before .before .before .before .before .args .atime) (c .before .before .before .before .before .before .before .before .before .before .before .before .before .before .before .before .before .args .mtime)) (lent _ (lent _ (lent-first _ (omega arith) (sym (c .before .before .before .before .before .before .before .before .before .before .before .before .before .before .before .set-size3-size .ensures)) (c .before .before .before .before .before .before .before .before .before .before .put-set-size3 .ensures)) (omega arith) (sym (c .before .before .before .before .before .before .before .before .before .before .before .before .before .before .set-atime-size .ensures)) (c .before .before .before .before .before .before .put-set-atime .ensures)) (omega arith) (sym (c .before .before .before .before .before .before .before .before .before .before .before .before .before .set-mtime-size .ensures)) (c .before .before .put-set-mtime .ensures)))
+returns-2 c = laid-same _ _ _ (change-bytes (c .before .before .before .before .before .before .before .before .before .before .before .before .before .before .before .before .before .args .size) (c .before .before .before .before .before .before .before .before .before .before .before .before .before .before .before .before .before .args .atime) (c .before .before .before .before .before .before .before .before .before .before .before .before .before .before .before .before .before .args .mtime)) (laid-three _ _ _ _ (c .before .before .before .before .before .before .before .before .before .before .before .before .if1 .left) (sym (c .before .before .before .before .before .before .before .before .before .before .before .before .before .before .before .set-size3-size .ensures)) (sym (c .before .before .before .before .before .before .before .before .before .before .before .before .before .before .set-atime-size .ensures)) (sym (c .before .before .before .before .before .before .before .before .before .before .before .before .before .set-mtime-size .ensures)) (c .before .before .before .before .before .before .before .before .before .before .put-set-size3 .ensures) (c .before .before .before .before .before .before .put-set-atime .ensures) (c .before .before .put-set-mtime .ensures))
 
 pub put-change-spec : {M : Type 1} → statement M
 put-change-spec =

@@ -1,7 +1,8 @@
 use borrow.Author.Needs.{needs}
 use native.Mathlib.Omega.{arith}
 use mathlib.Core.Path.{sym}
-use Rattle.xdr.specs.Laws.Write.{laid-short, laid-is, put-same, lent, lent-first}
+use Rattle.xdr.specs.Laws.Write.{laid-short, laid-same}
+use Rattle.nfs.specs.Laws.Lent.{laid-three}
 use Rattle.nfs.specs.Laws.Bytes.{owner-bytes, owner-length, set-mode-between, set-uid-between, set-gid-between}
 use Rattle.nfs.proofs.put.set.put_owner.Statement.{statement}
 use Rattle.nfs.proofs.put.set.put_owner.Tie as tie
@@ -16,7 +17,7 @@ returns : tie.Need-returns
 returns c = laid-short _ _ (omega (arith, owner-length (c .before .before .before .before .before .args .mode) (c .before .before .before .before .before .args .uid) (c .before .before .before .before .before .args .gid), c .before .before .before .set-mode3-size .ensures, c .before .before .set-uid3-size .ensures, c .before .set-gid3-size .ensures))
 
 returns-2 : tie.Need-returns-2
-returns-2 c = laid-is (omega arith) (put-same (owner-bytes (c .before .before .before .before .before .before .before .before .before .before .before .before .before .before .before .before .before .args .mode) (c .before .before .before .before .before .before .before .before .before .before .before .before .before .before .before .before .before .args .uid) (c .before .before .before .before .before .before .before .before .before .before .before .before .before .before .before .before .before .args .gid)) (lent _ (lent _ (lent-first _ (omega arith) (sym (c .before .before .before .before .before .before .before .before .before .before .before .before .before .before .before .set-mode3-size .ensures)) (c .before .before .before .before .before .before .before .before .before .before .put-set-mode3 .ensures)) (omega arith) (sym (c .before .before .before .before .before .before .before .before .before .before .before .before .before .before .set-uid3-size .ensures)) (c .before .before .before .before .before .before .put-set-uid3 .ensures)) (omega arith) (sym (c .before .before .before .before .before .before .before .before .before .before .before .before .before .set-gid3-size .ensures)) (c .before .before .put-set-gid3 .ensures)))
+returns-2 c = laid-same _ _ _ (owner-bytes (c .before .before .before .before .before .before .before .before .before .before .before .before .before .before .before .before .before .args .mode) (c .before .before .before .before .before .before .before .before .before .before .before .before .before .before .before .before .before .args .uid) (c .before .before .before .before .before .before .before .before .before .before .before .before .before .before .before .before .before .args .gid)) (laid-three _ _ _ _ (c .before .before .before .before .before .before .before .before .before .before .before .before .if1 .left) (sym (c .before .before .before .before .before .before .before .before .before .before .before .before .before .before .before .set-mode3-size .ensures)) (sym (c .before .before .before .before .before .before .before .before .before .before .before .before .before .before .set-uid3-size .ensures)) (sym (c .before .before .before .before .before .before .before .before .before .before .before .before .before .set-gid3-size .ensures)) (c .before .before .before .before .before .before .before .before .before .before .put-set-mode3 .ensures) (c .before .before .before .before .before .before .put-set-uid3 .ensures) (c .before .before .put-set-gid3 .ensures))
 
 pub put-owner-spec : {M : Type 1} → statement M
 put-owner-spec =
