@@ -1,6 +1,7 @@
 use borrow.Author.Needs.{needs}
 use native.Mathlib.Omega.{arith}
-use Rattle.xdr.specs.Laws.Write.{laid-short, laid-is, lent, lent-first}
+use Rattle.xdr.specs.Laws.Write.{laid-short}
+use Rattle.nfs.specs.Laws.Lent.{laid-two}
 use Rattle.nfs.specs.Laws.Sizes.{limits-fixed}
 use Rattle.nfs.specs.Laws.Words.{transfers-length, bounds-length}
 use Rattle.nfs.proofs.put.attr.put_bounds.Statement.{statement}
@@ -10,7 +11,7 @@ returns : tie.Need-returns
 returns c = laid-short _ _ (omega (arith, bounds-length (c .before .before .args .rt) (c .before .before .args .wt) (c .before .before .args .rest)))
 
 returns-2 : tie.Need-returns-2
-returns-2 c = laid-is (omega arith) (lent _ (lent-first _ (omega arith) (transfers-length _ _) (c .before .before .before .before .before .before .put-transfers .ensures)) (omega arith) (limits-fixed .writes _) (c .before .before .put-limits .ensures))
+returns-2 c = laid-two _ _ _ {i = 24} {j = 24} (c .before .before .before .before .before .before .before .before .if1 .left) (transfers-length _ _) (limits-fixed .writes _) (c .before .before .before .before .before .before .put-transfers .ensures) (c .before .before .put-limits .ensures)
 
 pub put-bounds-spec : {M : Type 1} → statement M
 put-bounds-spec =

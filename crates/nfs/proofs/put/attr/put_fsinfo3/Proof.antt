@@ -1,7 +1,8 @@
 use borrow.Author.Needs.{needs}
 use native.Mathlib.Omega.{arith}
 use mathlib.Core.Path.{sym}
-use Rattle.xdr.specs.Laws.Write.{laid-short, laid-is, put-same, lent, lent-first}
+use Rattle.xdr.specs.Laws.Write.{laid-short, laid-same}
+use Rattle.nfs.specs.Laws.Lent.{laid-two}
 use Rattle.nfs.specs.Laws.Words.{bounds-length}
 use Rattle.nfs.specs.Laws.Bytes.{fsinfo-bytes, fsinfo-length, post-op-attr-between}
 use Rattle.nfs.proofs.put.attr.put_fsinfo3.Statement.{statement}
@@ -14,7 +15,7 @@ returns : tie.Need-returns
 returns c = laid-short _ _ (omega (arith, fsinfo-length (c .before .before .before .before .args .v), c .before .post-op-attr-size .ensures))
 
 returns-2 : tie.Need-returns-2
-returns-2 c = laid-is (omega arith) (put-same (fsinfo-bytes (c .before .before .before .before .before .before .before .before .before .before .before .before .args .v)) (lent _ (lent-first _ (omega arith) (sym (c .before .before .before .before .before .before .before .before .before .post-op-attr-size .ensures)) (c .before .before .before .before .before .before .put-post-op-attr .ensures)) (omega arith) (bounds-length _ _ _) (c .before .before .put-bounds .ensures)))
+returns-2 c = laid-same _ _ _ (fsinfo-bytes (c .before .before .before .before .before .before .before .before .before .before .before .before .args .v)) (laid-two _ _ _ (c .before .before .before .before .before .before .before .before .if1 .left) (sym (c .before .before .before .before .before .before .before .before .before .post-op-attr-size .ensures)) (bounds-length _ _ _) (c .before .before .before .before .before .before .put-post-op-attr .ensures) (c .before .before .put-bounds .ensures))
 
 pub put-fsinfo3-spec : {M : Type 1} → statement M
 put-fsinfo3-spec =

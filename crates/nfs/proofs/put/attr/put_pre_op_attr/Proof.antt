@@ -2,7 +2,8 @@ use borrow.Author.Needs.{needs}
 use native.Mathlib.Omega.{arith}
 use mathlib.Core.Option.{none, some}
 use Rattle.xdr.specs.Laws.Padding.{flag-length}
-use Rattle.xdr.specs.Laws.Write.{laid-short, laid-is, laid-same, put-same, lent, lent-first}
+use Rattle.xdr.specs.Laws.Write.{laid-short, laid-same}
+use Rattle.nfs.specs.Laws.Lent.{laid-two}
 use Rattle.nfs.specs.Meaning.Attr.{wcc-attr, pre-op-attr, preCases}
 use Rattle.nfs.specs.Laws.Sizes.{wcc-attr-fixed}
 use Rattle.nfs.specs.Laws.Write.{maybe-bytes, maybe-length}
@@ -19,7 +20,7 @@ returns-2 c = laid-same _ _ _ (maybe-bytes wcc-attr preCases none (c .before .be
 
 returns-3 : tie.Need-returns-3
 unfolding pre-op-attr
-returns-3 c = laid-is (omega arith) (put-same (maybe-bytes wcc-attr preCases (some _) (c .before .before .before .before .before .before .before .before .before .before .v .given .1)) (lent _ (lent-first _ (omega arith) (flag-length _) (c .before .before .before .before .before .before .put-bool2 .ensures)) (omega arith) (wcc-attr-fixed .writes _) (c .before .before .put-wcc-attr .ensures)))
+returns-3 c = laid-same _ _ _ (maybe-bytes wcc-attr preCases (some _) (c .before .before .before .before .before .before .before .before .before .before .v .given .1)) (laid-two _ _ _ {i = 4} {j = 24} (c .before .before .before .before .before .before .before .before .if1 .left) (flag-length _) (wcc-attr-fixed .writes _) (c .before .before .before .before .before .before .put-bool2 .ensures) (c .before .before .put-wcc-attr .ensures))
 
 pub put-pre-op-attr-spec : {M : Type 1} → statement M
 put-pre-op-attr-spec =

@@ -1,6 +1,7 @@
 use borrow.Author.Needs.{needs}
 use native.Mathlib.Omega.{arith}
-use Rattle.xdr.specs.Laws.Write.{laid-short, laid-is, put-same, lent, lent-first}
+use Rattle.xdr.specs.Laws.Write.{laid-short, laid-same}
+use Rattle.nfs.specs.Laws.Lent.{laid-two}
 use Rattle.nfs.specs.Laws.Fixed.{hyper-fixed}
 use Rattle.nfs.specs.Laws.Sizes.{wcc-attr-fixed}
 use Rattle.nfs.specs.Laws.Words.{two-times-length}
@@ -12,7 +13,7 @@ returns : tie.Need-returns
 returns c = laid-short _ _ (omega (arith, wcc-attr-fixed .writes (c .before .before .args .v)))
 
 returns-2 : tie.Need-returns-2
-returns-2 c = laid-is (omega arith) (put-same (wcc-attr-bytes (c .before .before .before .before .before .before .before .before .before .before .args .v)) (lent _ (lent-first _ (omega arith) (hyper-fixed .writes _) (c .before .before .before .before .before .before .put-u64 .ensures)) (omega arith) (two-times-length _ _) (c .before .before .put-two-times .ensures)))
+returns-2 c = laid-same _ _ _ (wcc-attr-bytes (c .before .before .before .before .before .before .before .before .before .before .args .v)) (laid-two _ _ _ {i = 8} {j = 16} (c .before .before .before .before .before .before .before .before .if1 .left) (hyper-fixed .writes _) (two-times-length _ _) (c .before .before .before .before .before .before .put-u64 .ensures) (c .before .before .put-two-times .ensures))
 
 pub put-wcc-attr-spec : {M : Type 1} → statement M
 put-wcc-attr-spec =

@@ -1,7 +1,8 @@
 use borrow.Author.Needs.{needs}
 use native.Mathlib.Omega.{arith}
 use mathlib.Core.Path.{sym}
-use Rattle.xdr.specs.Laws.Write.{laid-short, laid-is, put-same, lent, lent-first}
+use Rattle.xdr.specs.Laws.Write.{laid-short, laid-same}
+use Rattle.nfs.specs.Laws.Lent.{laid-two}
 use Rattle.nfs.specs.Laws.Bytes.{wcc-data-bytes, wcc-data-length, pre-op-attr-between, post-op-attr-between}
 use Rattle.nfs.proofs.put.attr.put_wcc_data.Statement.{statement}
 use Rattle.nfs.proofs.put.attr.put_wcc_data.Tie as tie
@@ -13,7 +14,7 @@ returns : tie.Need-returns
 returns c = laid-short _ _ (omega (arith, wcc-data-length (c .before .before .before .before .args .v), c .before .before .pre-op-attr-size .ensures, c .before .post-op-attr-size .ensures))
 
 returns-2 : tie.Need-returns-2
-returns-2 c = laid-is (omega arith) (put-same (wcc-data-bytes (c .before .before .before .before .before .before .before .before .before .before .before .before .args .v)) (lent _ (lent-first _ (omega arith) (sym (c .before .before .before .before .before .before .before .before .before .before .pre-op-attr-size .ensures)) (c .before .before .before .before .before .before .put-pre-op-attr .ensures)) (omega arith) (sym (c .before .before .before .before .before .before .before .before .before .post-op-attr-size .ensures)) (c .before .before .put-post-op-attr .ensures)))
+returns-2 c = laid-same _ _ _ (wcc-data-bytes (c .before .before .before .before .before .before .before .before .before .before .before .before .args .v)) (laid-two _ _ _ (c .before .before .before .before .before .before .before .before .if1 .left) (sym (c .before .before .before .before .before .before .before .before .before .before .pre-op-attr-size .ensures)) (sym (c .before .before .before .before .before .before .before .before .before .post-op-attr-size .ensures)) (c .before .before .before .before .before .before .put-pre-op-attr .ensures) (c .before .before .put-post-op-attr .ensures))
 
 pub put-wcc-data-spec : {M : Type 1} → statement M
 put-wcc-data-spec =

@@ -1,7 +1,8 @@
 use borrow.Author.Needs.{needs}
 use native.Mathlib.Omega.{arith}
 use mathlib.Core.Path.{sym}
-use Rattle.xdr.specs.Laws.Write.{laid-short, laid-is, put-same, lent, lent-first}
+use Rattle.xdr.specs.Laws.Write.{laid-short, laid-same}
+use Rattle.nfs.specs.Laws.Lent.{laid-two}
 use Rattle.nfs.specs.Laws.Bytes.{sattr-bytes, sattr-length, owner-between, change-between}
 use Rattle.nfs.proofs.put.set.put_sattr3.Statement.{statement}
 use Rattle.nfs.proofs.put.set.put_sattr3.Tie as tie
@@ -13,7 +14,7 @@ returns : tie.Need-returns
 returns c = laid-short _ _ (omega (arith, sattr-length (c .before .before .before .before .args .v), c .before .before .owner-size .ensures, c .before .change-size .ensures))
 
 returns-2 : tie.Need-returns-2
-returns-2 c = laid-is (omega arith) (put-same (sattr-bytes (c .before .before .before .before .before .before .before .before .before .before .before .before .args .v)) (lent _ (lent-first _ (omega arith) (sym (c .before .before .before .before .before .before .before .before .before .before .owner-size .ensures)) (c .before .before .before .before .before .before .put-owner .ensures)) (omega arith) (sym (c .before .before .before .before .before .before .before .before .before .change-size .ensures)) (c .before .before .put-change .ensures)))
+returns-2 c = laid-same _ _ _ (sattr-bytes (c .before .before .before .before .before .before .before .before .before .before .before .before .args .v)) (laid-two _ _ _ (c .before .before .before .before .before .before .before .before .if1 .left) (sym (c .before .before .before .before .before .before .before .before .before .before .owner-size .ensures)) (sym (c .before .before .before .before .before .before .before .before .before .change-size .ensures)) (c .before .before .before .before .before .before .put-owner .ensures) (c .before .before .put-change .ensures))
 
 pub put-sattr3-spec : {M : Type 1} → statement M
 put-sattr3-spec =

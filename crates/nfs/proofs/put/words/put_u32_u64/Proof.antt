@@ -1,6 +1,7 @@
 use borrow.Author.Needs.{needs}
 use native.Mathlib.Omega.{arith}
-use Rattle.xdr.specs.Laws.Write.{laid-short, laid-is, lent, lent-first}
+use Rattle.xdr.specs.Laws.Write.{laid-short}
+use Rattle.nfs.specs.Laws.Lent.{laid-two}
 use Rattle.nfs.specs.Laws.Fixed.{word-fixed, hyper-fixed}
 use Rattle.nfs.specs.Laws.Words.{word-hyper-length}
 use Rattle.nfs.proofs.put.words.put_u32_u64.Statement.{statement}
@@ -10,7 +11,7 @@ returns : tie.Need-returns
 returns c = laid-short _ _ (omega (arith, word-hyper-length (c .before .before .args .first) (c .before .before .args .second)))
 
 returns-2 : tie.Need-returns-2
-returns-2 c = laid-is (omega arith) (lent _ (lent-first _ (omega arith) (word-fixed .writes _) (c .before .before .before .before .before .before .put-u32 .ensures)) (omega arith) (hyper-fixed .writes _) (c .before .before .put-u64 .ensures))
+returns-2 c = laid-two _ _ _ {i = 4} {j = 8} (c .before .before .before .before .before .before .before .before .if1 .left) (word-fixed .writes _) (hyper-fixed .writes _) (c .before .before .before .before .before .before .put-u32 .ensures) (c .before .before .put-u64 .ensures)
 
 pub put-u32-u64-spec : {M : Type 1} → statement M
 put-u32-u64-spec =
