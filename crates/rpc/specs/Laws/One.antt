@@ -2,14 +2,11 @@
 -- Assumes nothing.
 use mathlib.Core.Path.{_≡_, refl, sym, ap, _∙_}
 use mathlib.Core.List.{List}
-use Prim.Native.Nat.{ℕ, zero, suc}
+use Prim.Native.Nat.{ℕ}
 use Rattle.xdr.specs.Meaning.Answer.{Answer, took, refused}
-use Rattle.xdr.specs.Meaning.Format.{Format, exactly}
+use Rattle.xdr.specs.Meaning.Format.{exactly}
 use Rattle.xdr.specs.Meaning.Public.{Answers}
-use Rattle.xdr.specs.Meaning.Views.{numberOf, placeOf}
-use Rattle.xdr.specs.Laws.Public.{kept}
-use Rattle.xdr.specs.declared.refusal.Refusal.{Refusal}
-use Rattle.xdr.specs.declared.refusal.Refusal.the-variants.{Ended, Undeclared, TooLong, Outside, NoRoom, Unfit, Overrun, NotCall, PastEnd}
+use Rattle.xdr.specs.Laws.One.{refusalOf, refusal-of, Told, one-read}
 use Rattle.rpc.specs.Meaning.Closed.{msg-type, reply-stat, accept-stat, reject-stat, auth-flavor, auth-stat}
 use Rattle.rpc.specs.Meaning.Auth.{opaque-auth, auth-unix}
 use Rattle.rpc.specs.Meaning.UnixIn.{AnswersIn}
@@ -67,215 +64,230 @@ use Rattle.rpc.specs.declared.message.rpc_msg.{«rpc_msg»}
 use Rattle.rpc.specs.declared.answer.RpcMsgRead.{RpcMsgRead}
 use Rattle.rpc.specs.declared.answer.RpcMsgRead.the-variants as RpcMsg
 
--- the refusal that has a number and a place
-abbrev refusalOf : ℕ → ℕ → Refusal
-refusalOf zero p = PastEnd
-refusalOf (suc zero) p = Ended p
-refusalOf (suc (suc zero)) p = Undeclared p
-refusalOf (suc (suc (suc zero))) p = TooLong
-refusalOf (suc (suc (suc (suc zero)))) p = Outside
-refusalOf (suc (suc (suc (suc (suc zero))))) p = NoRoom
-refusalOf (suc (suc (suc (suc (suc (suc zero)))))) p = Unfit
-refusalOf (suc (suc (suc (suc (suc (suc (suc zero))))))) p = Overrun
-refusalOf (suc (suc (suc (suc (suc (suc (suc (suc zero)))))))) p = NotCall
-refusalOf (suc (suc (suc (suc (suc (suc (suc (suc (suc n))))))))) p = PastEnd
+msg-type-told : Told views.viewMsgType
+msg-type-told = record { back = from; back-view = is }
+  where
+    from : Answer «msg_type» → MsgTypeRead
+    from (took v n b) = MsgType.Took v n
+    from (refused r q) = MsgType.Refused (refusalOf r q)
 
-refusal-of : (r : Refusal) → refusalOf (numberOf r) (placeOf r) ≡ r
-refusal-of (Ended p) = refl
-refusal-of (Undeclared p) = refl
-refusal-of TooLong = refl
-refusal-of Outside = refl
-refusal-of NoRoom = refl
-refusal-of Unfit = refl
-refusal-of Overrun = refl
-refusal-of NotCall = refl
-refusal-of PastEnd = refl
-
--- an answer of the code that is told by its view, under a contract that leaves one view
-module _ {R A : Type 0} (view : R → Answer A) (of : Answer A → R) (of-view : (r : R) → of (view r) ≡ r) where
-  told : {r r′ : R} → view r ≡ view r′ → r ≡ r′
-  told {r} {r′} e = sym (of-view r) ∙ ap of e ∙ of-view r′
-
-  module _ {M : Type 0} (F : Format M A) (s : List ℕ) (p : ℕ) where
-    one-answer : (r r′ : R) → Answers F s p (view r) → Answers F s p (view r′) → r ≡ r′
-    one-answer r r′ c d = told (kept F .one s p c d)
-
-abbrev msgTypeOf : Answer «msg_type» → MsgTypeRead
-msgTypeOf (refused i q) = MsgType.Refused (refusalOf i q)
-msgTypeOf (took v n b) = MsgType.Took v n
-
-msg-type-of : (r : MsgTypeRead) → msgTypeOf (views.viewMsgType r) ≡ r
-msg-type-of (MsgType.Refused q) = ap MsgType.Refused (refusal-of q)
-msg-type-of (MsgType.Took v n) = refl
+    is : (r : MsgTypeRead) → from (views.viewMsgType r) ≡ r
+    is (MsgType.Took v n) = refl
+    is (MsgType.Refused q) = ap MsgType.Refused (refusal-of q)
 
 pub read-msg-type-one : (s : List ℕ) (p : ℕ) (r r′ : MsgTypeRead) → Answers (exactly msg-type) s p (views.viewMsgType r) → Answers (exactly msg-type) s p (views.viewMsgType r′) → r ≡ r′
-read-msg-type-one = one-answer views.viewMsgType msgTypeOf msg-type-of (exactly msg-type)
+read-msg-type-one = one-read msg-type-told (exactly msg-type)
 
-abbrev replyStatOf : Answer «reply_stat» → ReplyStatRead
-replyStatOf (refused i q) = ReplyStat.Refused (refusalOf i q)
-replyStatOf (took v n b) = ReplyStat.Took v n
+reply-stat-told : Told views.viewReplyStat
+reply-stat-told = record { back = from; back-view = is }
+  where
+    from : Answer «reply_stat» → ReplyStatRead
+    from (took v n b) = ReplyStat.Took v n
+    from (refused r q) = ReplyStat.Refused (refusalOf r q)
 
-reply-stat-of : (r : ReplyStatRead) → replyStatOf (views.viewReplyStat r) ≡ r
-reply-stat-of (ReplyStat.Refused q) = ap ReplyStat.Refused (refusal-of q)
-reply-stat-of (ReplyStat.Took v n) = refl
+    is : (r : ReplyStatRead) → from (views.viewReplyStat r) ≡ r
+    is (ReplyStat.Took v n) = refl
+    is (ReplyStat.Refused q) = ap ReplyStat.Refused (refusal-of q)
 
 pub read-reply-stat-one : (s : List ℕ) (p : ℕ) (r r′ : ReplyStatRead) → Answers (exactly reply-stat) s p (views.viewReplyStat r) → Answers (exactly reply-stat) s p (views.viewReplyStat r′) → r ≡ r′
-read-reply-stat-one = one-answer views.viewReplyStat replyStatOf reply-stat-of (exactly reply-stat)
+read-reply-stat-one = one-read reply-stat-told (exactly reply-stat)
 
-abbrev acceptStatOf : Answer «accept_stat» → AcceptStatRead
-acceptStatOf (refused i q) = AcceptStat.Refused (refusalOf i q)
-acceptStatOf (took v n b) = AcceptStat.Took v n
+accept-stat-told : Told views.viewAcceptStat
+accept-stat-told = record { back = from; back-view = is }
+  where
+    from : Answer «accept_stat» → AcceptStatRead
+    from (took v n b) = AcceptStat.Took v n
+    from (refused r q) = AcceptStat.Refused (refusalOf r q)
 
-accept-stat-of : (r : AcceptStatRead) → acceptStatOf (views.viewAcceptStat r) ≡ r
-accept-stat-of (AcceptStat.Refused q) = ap AcceptStat.Refused (refusal-of q)
-accept-stat-of (AcceptStat.Took v n) = refl
+    is : (r : AcceptStatRead) → from (views.viewAcceptStat r) ≡ r
+    is (AcceptStat.Took v n) = refl
+    is (AcceptStat.Refused q) = ap AcceptStat.Refused (refusal-of q)
 
 pub read-accept-stat-one : (s : List ℕ) (p : ℕ) (r r′ : AcceptStatRead) → Answers (exactly accept-stat) s p (views.viewAcceptStat r) → Answers (exactly accept-stat) s p (views.viewAcceptStat r′) → r ≡ r′
-read-accept-stat-one = one-answer views.viewAcceptStat acceptStatOf accept-stat-of (exactly accept-stat)
+read-accept-stat-one = one-read accept-stat-told (exactly accept-stat)
 
-abbrev rejectStatOf : Answer «reject_stat» → RejectStatRead
-rejectStatOf (refused i q) = RejectStat.Refused (refusalOf i q)
-rejectStatOf (took v n b) = RejectStat.Took v n
+reject-stat-told : Told views.viewRejectStat
+reject-stat-told = record { back = from; back-view = is }
+  where
+    from : Answer «reject_stat» → RejectStatRead
+    from (took v n b) = RejectStat.Took v n
+    from (refused r q) = RejectStat.Refused (refusalOf r q)
 
-reject-stat-of : (r : RejectStatRead) → rejectStatOf (views.viewRejectStat r) ≡ r
-reject-stat-of (RejectStat.Refused q) = ap RejectStat.Refused (refusal-of q)
-reject-stat-of (RejectStat.Took v n) = refl
+    is : (r : RejectStatRead) → from (views.viewRejectStat r) ≡ r
+    is (RejectStat.Took v n) = refl
+    is (RejectStat.Refused q) = ap RejectStat.Refused (refusal-of q)
 
 pub read-reject-stat-one : (s : List ℕ) (p : ℕ) (r r′ : RejectStatRead) → Answers (exactly reject-stat) s p (views.viewRejectStat r) → Answers (exactly reject-stat) s p (views.viewRejectStat r′) → r ≡ r′
-read-reject-stat-one = one-answer views.viewRejectStat rejectStatOf reject-stat-of (exactly reject-stat)
+read-reject-stat-one = one-read reject-stat-told (exactly reject-stat)
 
-abbrev authFlavorOf : Answer «auth_flavor» → AuthFlavorRead
-authFlavorOf (refused i q) = AuthFlavor.Refused (refusalOf i q)
-authFlavorOf (took v n b) = AuthFlavor.Took v n
+auth-flavor-told : Told views.viewAuthFlavor
+auth-flavor-told = record { back = from; back-view = is }
+  where
+    from : Answer «auth_flavor» → AuthFlavorRead
+    from (took v n b) = AuthFlavor.Took v n
+    from (refused r q) = AuthFlavor.Refused (refusalOf r q)
 
-auth-flavor-of : (r : AuthFlavorRead) → authFlavorOf (views.viewAuthFlavor r) ≡ r
-auth-flavor-of (AuthFlavor.Refused q) = ap AuthFlavor.Refused (refusal-of q)
-auth-flavor-of (AuthFlavor.Took v n) = refl
+    is : (r : AuthFlavorRead) → from (views.viewAuthFlavor r) ≡ r
+    is (AuthFlavor.Took v n) = refl
+    is (AuthFlavor.Refused q) = ap AuthFlavor.Refused (refusal-of q)
 
 pub read-auth-flavor-one : (s : List ℕ) (p : ℕ) (r r′ : AuthFlavorRead) → Answers (exactly auth-flavor) s p (views.viewAuthFlavor r) → Answers (exactly auth-flavor) s p (views.viewAuthFlavor r′) → r ≡ r′
-read-auth-flavor-one = one-answer views.viewAuthFlavor authFlavorOf auth-flavor-of (exactly auth-flavor)
+read-auth-flavor-one = one-read auth-flavor-told (exactly auth-flavor)
 
-abbrev authStatOf : Answer «auth_stat» → AuthStatRead
-authStatOf (refused i q) = AuthStat.Refused (refusalOf i q)
-authStatOf (took v n b) = AuthStat.Took v n
+auth-stat-told : Told views.viewAuthStat
+auth-stat-told = record { back = from; back-view = is }
+  where
+    from : Answer «auth_stat» → AuthStatRead
+    from (took v n b) = AuthStat.Took v n
+    from (refused r q) = AuthStat.Refused (refusalOf r q)
 
-auth-stat-of : (r : AuthStatRead) → authStatOf (views.viewAuthStat r) ≡ r
-auth-stat-of (AuthStat.Refused q) = ap AuthStat.Refused (refusal-of q)
-auth-stat-of (AuthStat.Took v n) = refl
+    is : (r : AuthStatRead) → from (views.viewAuthStat r) ≡ r
+    is (AuthStat.Took v n) = refl
+    is (AuthStat.Refused q) = ap AuthStat.Refused (refusal-of q)
 
 pub read-auth-stat-one : (s : List ℕ) (p : ℕ) (r r′ : AuthStatRead) → Answers (exactly auth-stat) s p (views.viewAuthStat r) → Answers (exactly auth-stat) s p (views.viewAuthStat r′) → r ≡ r′
-read-auth-stat-one = one-answer views.viewAuthStat authStatOf auth-stat-of (exactly auth-stat)
+read-auth-stat-one = one-read auth-stat-told (exactly auth-stat)
 
-abbrev opaqueAuthOf : Answer «opaque_auth» → OpaqueAuthRead
-opaqueAuthOf (refused i q) = OpaqueAuth.Refused (refusalOf i q)
-opaqueAuthOf (took v n b) = OpaqueAuth.Took v n b
+opaque-auth-told : Told views.viewOpaqueAuth
+opaque-auth-told = record { back = from; back-view = is }
+  where
+    from : Answer «opaque_auth» → OpaqueAuthRead
+    from (took v n b) = OpaqueAuth.Took v n b
+    from (refused r q) = OpaqueAuth.Refused (refusalOf r q)
 
-opaque-auth-of : (r : OpaqueAuthRead) → opaqueAuthOf (views.viewOpaqueAuth r) ≡ r
-opaque-auth-of (OpaqueAuth.Refused q) = ap OpaqueAuth.Refused (refusal-of q)
-opaque-auth-of (OpaqueAuth.Took v n b) = refl
+    is : (r : OpaqueAuthRead) → from (views.viewOpaqueAuth r) ≡ r
+    is (OpaqueAuth.Took v n b) = refl
+    is (OpaqueAuth.Refused q) = ap OpaqueAuth.Refused (refusal-of q)
 
 pub read-opaque-auth-one : (s : List ℕ) (p : ℕ) (r r′ : OpaqueAuthRead) → Answers opaque-auth s p (views.viewOpaqueAuth r) → Answers opaque-auth s p (views.viewOpaqueAuth r′) → r ≡ r′
-read-opaque-auth-one = one-answer views.viewOpaqueAuth opaqueAuthOf opaque-auth-of opaque-auth
+read-opaque-auth-one = one-read opaque-auth-told opaque-auth
 
-abbrev authUnixOf : Answer «auth_unix» → AuthUnixRead
-authUnixOf (refused i q) = AuthUnix.Refused (refusalOf i q)
-authUnixOf (took v n b) = AuthUnix.Took v n b
+auth-unix-told : Told views.viewAuthUnix
+auth-unix-told = record { back = from; back-view = is }
+  where
+    from : Answer «auth_unix» → AuthUnixRead
+    from (took v n b) = AuthUnix.Took v n b
+    from (refused r q) = AuthUnix.Refused (refusalOf r q)
 
-auth-unix-of : (r : AuthUnixRead) → authUnixOf (views.viewAuthUnix r) ≡ r
-auth-unix-of (AuthUnix.Refused q) = ap AuthUnix.Refused (refusal-of q)
-auth-unix-of (AuthUnix.Took v n b) = refl
+    is : (r : AuthUnixRead) → from (views.viewAuthUnix r) ≡ r
+    is (AuthUnix.Took v n b) = refl
+    is (AuthUnix.Refused q) = ap AuthUnix.Refused (refusal-of q)
 
 pub read-auth-unix-one : (s : List ℕ) (p : ℕ) (r r′ : AuthUnixRead) → Answers auth-unix s p (views.viewAuthUnix r) → Answers auth-unix s p (views.viewAuthUnix r′) → r ≡ r′
-read-auth-unix-one = one-answer views.viewAuthUnix authUnixOf auth-unix-of auth-unix
+read-auth-unix-one = one-read auth-unix-told auth-unix
 
-abbrev mismatchInfoOf : Answer «mismatch_info» → MismatchInfoRead
-mismatchInfoOf (refused i q) = MismatchInfo.Refused (refusalOf i q)
-mismatchInfoOf (took v n b) = MismatchInfo.Took v n
+mismatch-info-told : Told views.viewMismatchInfo
+mismatch-info-told = record { back = from; back-view = is }
+  where
+    from : Answer «mismatch_info» → MismatchInfoRead
+    from (took v n b) = MismatchInfo.Took v n
+    from (refused r q) = MismatchInfo.Refused (refusalOf r q)
 
-mismatch-info-of : (r : MismatchInfoRead) → mismatchInfoOf (views.viewMismatchInfo r) ≡ r
-mismatch-info-of (MismatchInfo.Refused q) = ap MismatchInfo.Refused (refusal-of q)
-mismatch-info-of (MismatchInfo.Took v n) = refl
+    is : (r : MismatchInfoRead) → from (views.viewMismatchInfo r) ≡ r
+    is (MismatchInfo.Took v n) = refl
+    is (MismatchInfo.Refused q) = ap MismatchInfo.Refused (refusal-of q)
 
 pub read-mismatch-info-one : (s : List ℕ) (p : ℕ) (r r′ : MismatchInfoRead) → Answers (exactly mismatch-info) s p (views.viewMismatchInfo r) → Answers (exactly mismatch-info) s p (views.viewMismatchInfo r′) → r ≡ r′
-read-mismatch-info-one = one-answer views.viewMismatchInfo mismatchInfoOf mismatch-info-of (exactly mismatch-info)
+read-mismatch-info-one = one-read mismatch-info-told (exactly mismatch-info)
 
-abbrev callBodyOf : Answer «call_body» → CallBodyRead
-callBodyOf (refused i q) = CallBody.Refused (refusalOf i q)
-callBodyOf (took v n b) = CallBody.Took v n b
+call-body-told : Told views.viewCallBody
+call-body-told = record { back = from; back-view = is }
+  where
+    from : Answer «call_body» → CallBodyRead
+    from (took v n b) = CallBody.Took v n b
+    from (refused r q) = CallBody.Refused (refusalOf r q)
 
-call-body-of : (r : CallBodyRead) → callBodyOf (views.viewCallBody r) ≡ r
-call-body-of (CallBody.Refused q) = ap CallBody.Refused (refusal-of q)
-call-body-of (CallBody.Took v n b) = refl
+    is : (r : CallBodyRead) → from (views.viewCallBody r) ≡ r
+    is (CallBody.Took v n b) = refl
+    is (CallBody.Refused q) = ap CallBody.Refused (refusal-of q)
 
 pub read-call-body-one : (s : List ℕ) (p : ℕ) (r r′ : CallBodyRead) → Answers call-body s p (views.viewCallBody r) → Answers call-body s p (views.viewCallBody r′) → r ≡ r′
-read-call-body-one = one-answer views.viewCallBody callBodyOf call-body-of call-body
+read-call-body-one = one-read call-body-told call-body
 
-abbrev acceptBodyOf : Answer «accept_body» → AcceptBodyRead
-acceptBodyOf (refused i q) = AcceptBody.Refused (refusalOf i q)
-acceptBodyOf (took v n b) = AcceptBody.Took v n b
+accept-body-told : Told views.viewAcceptBody
+accept-body-told = record { back = from; back-view = is }
+  where
+    from : Answer «accept_body» → AcceptBodyRead
+    from (took v n b) = AcceptBody.Took v n b
+    from (refused r q) = AcceptBody.Refused (refusalOf r q)
 
-accept-body-of : (r : AcceptBodyRead) → acceptBodyOf (views.viewAcceptBody r) ≡ r
-accept-body-of (AcceptBody.Refused q) = ap AcceptBody.Refused (refusal-of q)
-accept-body-of (AcceptBody.Took v n b) = refl
+    is : (r : AcceptBodyRead) → from (views.viewAcceptBody r) ≡ r
+    is (AcceptBody.Took v n b) = refl
+    is (AcceptBody.Refused q) = ap AcceptBody.Refused (refusal-of q)
 
 pub read-accept-body-one : (s : List ℕ) (p : ℕ) (r r′ : AcceptBodyRead) → Answers (exactly accept-body) s p (views.viewAcceptBody r) → Answers (exactly accept-body) s p (views.viewAcceptBody r′) → r ≡ r′
-read-accept-body-one = one-answer views.viewAcceptBody acceptBodyOf accept-body-of (exactly accept-body)
+read-accept-body-one = one-read accept-body-told (exactly accept-body)
 
-abbrev acceptedReplyOf : Answer «accepted_reply» → AcceptedReplyRead
-acceptedReplyOf (refused i q) = AcceptedReply.Refused (refusalOf i q)
-acceptedReplyOf (took v n b) = AcceptedReply.Took v n b
+accepted-reply-told : Told views.viewAcceptedReply
+accepted-reply-told = record { back = from; back-view = is }
+  where
+    from : Answer «accepted_reply» → AcceptedReplyRead
+    from (took v n b) = AcceptedReply.Took v n b
+    from (refused r q) = AcceptedReply.Refused (refusalOf r q)
 
-accepted-reply-of : (r : AcceptedReplyRead) → acceptedReplyOf (views.viewAcceptedReply r) ≡ r
-accepted-reply-of (AcceptedReply.Refused q) = ap AcceptedReply.Refused (refusal-of q)
-accepted-reply-of (AcceptedReply.Took v n b) = refl
+    is : (r : AcceptedReplyRead) → from (views.viewAcceptedReply r) ≡ r
+    is (AcceptedReply.Took v n b) = refl
+    is (AcceptedReply.Refused q) = ap AcceptedReply.Refused (refusal-of q)
 
 pub read-accepted-reply-one : (s : List ℕ) (p : ℕ) (r r′ : AcceptedReplyRead) → Answers accepted-reply s p (views.viewAcceptedReply r) → Answers accepted-reply s p (views.viewAcceptedReply r′) → r ≡ r′
-read-accepted-reply-one = one-answer views.viewAcceptedReply acceptedReplyOf accepted-reply-of accepted-reply
+read-accepted-reply-one = one-read accepted-reply-told accepted-reply
 
-abbrev rejectedReplyOf : Answer «rejected_reply» → RejectedReplyRead
-rejectedReplyOf (refused i q) = RejectedReply.Refused (refusalOf i q)
-rejectedReplyOf (took v n b) = RejectedReply.Took v n b
+rejected-reply-told : Told views.viewRejectedReply
+rejected-reply-told = record { back = from; back-view = is }
+  where
+    from : Answer «rejected_reply» → RejectedReplyRead
+    from (took v n b) = RejectedReply.Took v n b
+    from (refused r q) = RejectedReply.Refused (refusalOf r q)
 
-rejected-reply-of : (r : RejectedReplyRead) → rejectedReplyOf (views.viewRejectedReply r) ≡ r
-rejected-reply-of (RejectedReply.Refused q) = ap RejectedReply.Refused (refusal-of q)
-rejected-reply-of (RejectedReply.Took v n b) = refl
+    is : (r : RejectedReplyRead) → from (views.viewRejectedReply r) ≡ r
+    is (RejectedReply.Took v n b) = refl
+    is (RejectedReply.Refused q) = ap RejectedReply.Refused (refusal-of q)
 
 pub read-rejected-reply-one : (s : List ℕ) (p : ℕ) (r r′ : RejectedReplyRead) → Answers (exactly rejected-reply) s p (views.viewRejectedReply r) → Answers (exactly rejected-reply) s p (views.viewRejectedReply r′) → r ≡ r′
-read-rejected-reply-one = one-answer views.viewRejectedReply rejectedReplyOf rejected-reply-of (exactly rejected-reply)
+read-rejected-reply-one = one-read rejected-reply-told (exactly rejected-reply)
 
-abbrev replyBodyOf : Answer «reply_body» → ReplyBodyRead
-replyBodyOf (refused i q) = ReplyBody.Refused (refusalOf i q)
-replyBodyOf (took v n b) = ReplyBody.Took v n b
+reply-body-told : Told views.viewReplyBody
+reply-body-told = record { back = from; back-view = is }
+  where
+    from : Answer «reply_body» → ReplyBodyRead
+    from (took v n b) = ReplyBody.Took v n b
+    from (refused r q) = ReplyBody.Refused (refusalOf r q)
 
-reply-body-of : (r : ReplyBodyRead) → replyBodyOf (views.viewReplyBody r) ≡ r
-reply-body-of (ReplyBody.Refused q) = ap ReplyBody.Refused (refusal-of q)
-reply-body-of (ReplyBody.Took v n b) = refl
+    is : (r : ReplyBodyRead) → from (views.viewReplyBody r) ≡ r
+    is (ReplyBody.Took v n b) = refl
+    is (ReplyBody.Refused q) = ap ReplyBody.Refused (refusal-of q)
 
 pub read-reply-body-one : (s : List ℕ) (p : ℕ) (r r′ : ReplyBodyRead) → Answers reply-body s p (views.viewReplyBody r) → Answers reply-body s p (views.viewReplyBody r′) → r ≡ r′
-read-reply-body-one = one-answer views.viewReplyBody replyBodyOf reply-body-of reply-body
+read-reply-body-one = one-read reply-body-told reply-body
 
-abbrev rpcBodyOf : Answer «rpc_body» → RpcBodyRead
-rpcBodyOf (refused i q) = RpcBody.Refused (refusalOf i q)
-rpcBodyOf (took v n b) = RpcBody.Took v n b
+rpc-body-told : Told views.viewRpcBody
+rpc-body-told = record { back = from; back-view = is }
+  where
+    from : Answer «rpc_body» → RpcBodyRead
+    from (took v n b) = RpcBody.Took v n b
+    from (refused r q) = RpcBody.Refused (refusalOf r q)
 
-rpc-body-of : (r : RpcBodyRead) → rpcBodyOf (views.viewRpcBody r) ≡ r
-rpc-body-of (RpcBody.Refused q) = ap RpcBody.Refused (refusal-of q)
-rpc-body-of (RpcBody.Took v n b) = refl
+    is : (r : RpcBodyRead) → from (views.viewRpcBody r) ≡ r
+    is (RpcBody.Took v n b) = refl
+    is (RpcBody.Refused q) = ap RpcBody.Refused (refusal-of q)
 
 pub read-rpc-body-one : (s : List ℕ) (p : ℕ) (r r′ : RpcBodyRead) → Answers rpc-body s p (views.viewRpcBody r) → Answers rpc-body s p (views.viewRpcBody r′) → r ≡ r′
-read-rpc-body-one = one-answer views.viewRpcBody rpcBodyOf rpc-body-of rpc-body
+read-rpc-body-one = one-read rpc-body-told rpc-body
 
-abbrev rpcMsgOf : Answer «rpc_msg» → RpcMsgRead
-rpcMsgOf (refused i q) = RpcMsg.Refused (refusalOf i q)
-rpcMsgOf (took v n b) = RpcMsg.Took v n b
+rpc-msg-told : Told views.viewRpcMsg
+rpc-msg-told = record { back = from; back-view = is }
+  where
+    from : Answer «rpc_msg» → RpcMsgRead
+    from (took v n b) = RpcMsg.Took v n b
+    from (refused r q) = RpcMsg.Refused (refusalOf r q)
 
-rpc-msg-of : (r : RpcMsgRead) → rpcMsgOf (views.viewRpcMsg r) ≡ r
-rpc-msg-of (RpcMsg.Refused q) = ap RpcMsg.Refused (refusal-of q)
-rpc-msg-of (RpcMsg.Took v n b) = refl
+    is : (r : RpcMsgRead) → from (views.viewRpcMsg r) ≡ r
+    is (RpcMsg.Took v n b) = refl
+    is (RpcMsg.Refused q) = ap RpcMsg.Refused (refusal-of q)
 
 pub read-rpc-msg-one : (s : List ℕ) (p : ℕ) (r r′ : RpcMsgRead) → Answers rpc-msg s p (views.viewRpcMsg r) → Answers rpc-msg s p (views.viewRpcMsg r′) → r ≡ r′
-read-rpc-msg-one = one-answer views.viewRpcMsg rpcMsgOf rpc-msg-of rpc-msg
+read-rpc-msg-one = one-read rpc-msg-told rpc-msg
 
 pub read-auth-unix-in-one : (s : List ℕ) (x : Piece) (r r′ : AuthUnixRead) → AnswersIn s x (views.viewAuthUnix r)
     → AnswersIn s x (views.viewAuthUnix r′) → r ≡ r′
-read-auth-unix-in-one s x r r′ c d = told views.viewAuthUnix authUnixOf auth-unix-of (in-one s x c d)
+read-auth-unix-in-one s x r r′ c d = sym (auth-unix-told .back-view r) ∙ ap (auth-unix-told .back) (in-one s x c d) ∙ auth-unix-told .back-view r′
