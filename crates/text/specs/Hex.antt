@@ -9,9 +9,9 @@ use lib.Dec.{leb, ltb}
 use lib.ListN.{length, take}
 use Rattle.text.specs.declared.hex.Unhexed.{Unhexed}
 
--- the ASCII character of a digit below 16: `0` to `9`, then `a` to `f`
+-- the ASCII character of a digit below 16: `0` to `9`, then `a` to `f`; `?` for any other number
 abbrev pub glyphOf : ℕ → ℕ
-glyphOf d = cond (ltb d 10) (d + 48) (d + 87)
+glyphOf d = cond (ltb d 10) (d + 48) (cond (ltb d 16) (d + 87) 63)
 
 -- what a digit stands for, in either case; 16 for any other character
 unfoldable pub digitOf : ℕ → ℕ

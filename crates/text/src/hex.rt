@@ -4,12 +4,17 @@ ghost use mathlib.Core.Bool.{false};
 ghost use Prim.Native.Nat.{_≤_, _<_};
 ghost use Rattle.text.specs.Hex.{glyphOf, digitOf, Unhexes};
 
-// The character of a digit below 16, in lower case.
+// The character of a digit below 16, in lower case; `?` for any other number.
 pub fn glyph(d: u8) -> u8
-    requires { ⌜ d < 16 ⌝ }
     ensures { λ r. ⌜ r ≡ glyphOf d ⌝ }
 {
-    if d < 10 { d + 48 } else { d + 87 }
+    if d < 10 {
+        return d + 48;
+    }
+    if d < 16 {
+        return d + 87;
+    }
+    b'?'
 }
 
 // What a digit in either case stands for; 16 for any other character.

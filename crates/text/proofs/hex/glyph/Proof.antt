@@ -7,10 +7,13 @@ returns : tie.Need-returns
 returns c = simp (lt-ltb _ _ (c .if1 .taken))
 
 returns-2 : tie.Need-returns-2
-returns-2 c = simp (le-ltb _ _ (c .if1 .left))
+returns-2 c = simp (le-ltb _ _ (c .before .if1 .left), lt-ltb _ _ (c .if2 .taken))
+
+returns-3 : tie.Need-returns-3
+returns-3 c = simp (le-ltb _ _ (c .before .if1 .left), le-ltb _ _ (c .if2 .left))
 
 pub glyph-spec : {M : Type 1} → statement M
 glyph-spec =
     tie.close
     (tie.spec
-    (search needs) (search needs) returns returns-2)
+    (search needs) returns (search needs) returns-2 returns-3)
