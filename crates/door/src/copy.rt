@@ -1,5 +1,9 @@
 // What copying a message answers: it is read from one buffer and written, in published form, into another.
+ghost use mathlib.Core.Path.{_≡_};
+ghost use Rattle.xdr.specs.Meaning.Views.{viewWrote};
+ghost use Rattle.door.specs.Meaning.Copy.{viewCopied, saidOf};
 use xdr::Refusal;
+use xdr::Wrote;
 
 pub enum Copied {
     // The kind has no such number.
@@ -14,4 +18,14 @@ pub enum Copied {
         plain: bool,
         end: usize,
     },
+}
+
+// The answer of a reading that was taken, by what its writer says.
+pub(crate) fn copied_to(next: usize, plain: bool, w: Wrote) -> Copied
+    ensures { λ r. ⌜ viewCopied r ≡ saidOf next plain (viewWrote w) ⌝ }
+{
+    match w {
+        Wrote::Refused(r) => Copied::Unwritten(r),
+        Wrote::Done(end) => Copied::Done { next, plain, end },
+    }
 }

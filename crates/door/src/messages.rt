@@ -6,6 +6,7 @@ ghost use Rattle.rpc.specs.Meaning.Message.{rpc-msg, rpc-body, call-body};
 ghost use Rattle.rpc.specs.Meaning.Reply.{reply-body, accepted-reply, accept-body, rejected-reply, mismatch-info};
 ghost use Rattle.door.specs.Meaning.Copy.{viewCopied, Copies};
 use crate::copy::Copied;
+use crate::copy::copied_to;
 use rpc::AcceptBodyRead;
 use rpc::AcceptStatRead;
 use rpc::AcceptedReplyRead;
@@ -22,337 +23,211 @@ use rpc::ReplyBodyRead;
 use rpc::ReplyStatRead;
 use rpc::RpcBodyRead;
 use rpc::RpcMsgRead;
-use xdr::Wrote;
 
 pub(crate) fn copy_msg_type(src: &[u8], at: usize, out: &mut [u8], start: usize) -> Copied
     ensures { λ r. ⌜ Copies (exactly msg-type) (now (src .entry)) at start (now (out .entry)) (viewCopied r) (now (out .exit)) ⌝ }
 {
-    let r = rpc::read_msg_type(src, at);
-    let MsgTypeRead::Took { value: v, next: n } = r else {
-        return Copied::Unread(r.refusal());
-    };
-    let w = rpc::write_msg_type(v, out, start);
-    let Wrote::Done(end) = w else {
-        return Copied::Unwritten(w.refusal());
-    };
-    Copied::Done {
-        next: n,
-        plain: true,
-        end,
+    match rpc::read_msg_type(src, at) {
+        MsgTypeRead::Refused(r) => Copied::Unread(r),
+        MsgTypeRead::Took { value: v, next: n } => copied_to(
+            n,
+            true,
+            rpc::write_msg_type(v, out, start),
+        ),
     }
 }
 
 pub(crate) fn copy_reply_stat(src: &[u8], at: usize, out: &mut [u8], start: usize) -> Copied
     ensures { λ r. ⌜ Copies (exactly reply-stat) (now (src .entry)) at start (now (out .entry)) (viewCopied r) (now (out .exit)) ⌝ }
 {
-    let r = rpc::read_reply_stat(src, at);
-    let ReplyStatRead::Took { value: v, next: n } = r else {
-        return Copied::Unread(r.refusal());
-    };
-    let w = rpc::write_reply_stat(v, out, start);
-    let Wrote::Done(end) = w else {
-        return Copied::Unwritten(w.refusal());
-    };
-    Copied::Done {
-        next: n,
-        plain: true,
-        end,
+    match rpc::read_reply_stat(src, at) {
+        ReplyStatRead::Refused(r) => Copied::Unread(r),
+        ReplyStatRead::Took { value: v, next: n } => copied_to(
+            n,
+            true,
+            rpc::write_reply_stat(v, out, start),
+        ),
     }
 }
 
 pub(crate) fn copy_accept_stat(src: &[u8], at: usize, out: &mut [u8], start: usize) -> Copied
     ensures { λ r. ⌜ Copies (exactly accept-stat) (now (src .entry)) at start (now (out .entry)) (viewCopied r) (now (out .exit)) ⌝ }
 {
-    let r = rpc::read_accept_stat(src, at);
-    let AcceptStatRead::Took { value: v, next: n } = r else {
-        return Copied::Unread(r.refusal());
-    };
-    let w = rpc::write_accept_stat(v, out, start);
-    let Wrote::Done(end) = w else {
-        return Copied::Unwritten(w.refusal());
-    };
-    Copied::Done {
-        next: n,
-        plain: true,
-        end,
+    match rpc::read_accept_stat(src, at) {
+        AcceptStatRead::Refused(r) => Copied::Unread(r),
+        AcceptStatRead::Took { value: v, next: n } => copied_to(
+            n,
+            true,
+            rpc::write_accept_stat(v, out, start),
+        ),
     }
 }
 
 pub(crate) fn copy_reject_stat(src: &[u8], at: usize, out: &mut [u8], start: usize) -> Copied
     ensures { λ r. ⌜ Copies (exactly reject-stat) (now (src .entry)) at start (now (out .entry)) (viewCopied r) (now (out .exit)) ⌝ }
 {
-    let r = rpc::read_reject_stat(src, at);
-    let RejectStatRead::Took { value: v, next: n } = r else {
-        return Copied::Unread(r.refusal());
-    };
-    let w = rpc::write_reject_stat(v, out, start);
-    let Wrote::Done(end) = w else {
-        return Copied::Unwritten(w.refusal());
-    };
-    Copied::Done {
-        next: n,
-        plain: true,
-        end,
+    match rpc::read_reject_stat(src, at) {
+        RejectStatRead::Refused(r) => Copied::Unread(r),
+        RejectStatRead::Took { value: v, next: n } => copied_to(
+            n,
+            true,
+            rpc::write_reject_stat(v, out, start),
+        ),
     }
 }
 
 pub(crate) fn copy_auth_stat(src: &[u8], at: usize, out: &mut [u8], start: usize) -> Copied
     ensures { λ r. ⌜ Copies (exactly auth-stat) (now (src .entry)) at start (now (out .entry)) (viewCopied r) (now (out .exit)) ⌝ }
 {
-    let r = rpc::read_auth_stat(src, at);
-    let AuthStatRead::Took { value: v, next: n } = r else {
-        return Copied::Unread(r.refusal());
-    };
-    let w = rpc::write_auth_stat(v, out, start);
-    let Wrote::Done(end) = w else {
-        return Copied::Unwritten(w.refusal());
-    };
-    Copied::Done {
-        next: n,
-        plain: true,
-        end,
+    match rpc::read_auth_stat(src, at) {
+        AuthStatRead::Refused(r) => Copied::Unread(r),
+        AuthStatRead::Took { value: v, next: n } => copied_to(
+            n,
+            true,
+            rpc::write_auth_stat(v, out, start),
+        ),
     }
 }
 
 pub(crate) fn copy_auth_flavor(src: &[u8], at: usize, out: &mut [u8], start: usize) -> Copied
     ensures { λ r. ⌜ Copies (exactly auth-flavor) (now (src .entry)) at start (now (out .entry)) (viewCopied r) (now (out .exit)) ⌝ }
 {
-    let r = rpc::read_auth_flavor(src, at);
-    let AuthFlavorRead::Took { value: v, next: n } = r else {
-        return Copied::Unread(r.refusal());
-    };
-    let w = rpc::write_auth_flavor(v, out, start);
-    let Wrote::Done(end) = w else {
-        return Copied::Unwritten(w.refusal());
-    };
-    Copied::Done {
-        next: n,
-        plain: true,
-        end,
+    match rpc::read_auth_flavor(src, at) {
+        AuthFlavorRead::Refused(r) => Copied::Unread(r),
+        AuthFlavorRead::Took { value: v, next: n } => copied_to(
+            n,
+            true,
+            rpc::write_auth_flavor(v, out, start),
+        ),
     }
 }
 
 pub(crate) fn copy_auth_unix(src: &[u8], at: usize, out: &mut [u8], start: usize) -> Copied
     ensures { λ r. ⌜ Copies auth-unix (now (src .entry)) at start (now (out .entry)) (viewCopied r) (now (out .exit)) ⌝ }
 {
-    let r = rpc::read_auth_unix(src, at);
-    let AuthUnixRead::Took {
-        value: v,
-        next: n,
-        plain: p,
-    } = r
-    else {
-        return Copied::Unread(r.refusal());
-    };
-    let w = rpc::write_auth_unix(src, v, out, start);
-    let Wrote::Done(end) = w else {
-        return Copied::Unwritten(w.refusal());
-    };
-    Copied::Done {
-        next: n,
-        plain: p,
-        end,
+    match rpc::read_auth_unix(src, at) {
+        AuthUnixRead::Refused(r) => Copied::Unread(r),
+        AuthUnixRead::Took {
+            value: v,
+            next: n,
+            plain: p,
+        } => copied_to(n, p, rpc::write_auth_unix(src, v, out, start)),
     }
 }
 
 pub(crate) fn copy_opaque_auth(src: &[u8], at: usize, out: &mut [u8], start: usize) -> Copied
     ensures { λ r. ⌜ Copies opaque-auth (now (src .entry)) at start (now (out .entry)) (viewCopied r) (now (out .exit)) ⌝ }
 {
-    let r = rpc::read_opaque_auth(src, at);
-    let OpaqueAuthRead::Took {
-        value: v,
-        next: n,
-        plain: p,
-    } = r
-    else {
-        return Copied::Unread(r.refusal());
-    };
-    let w = rpc::write_opaque_auth(src, v, out, start);
-    let Wrote::Done(end) = w else {
-        return Copied::Unwritten(w.refusal());
-    };
-    Copied::Done {
-        next: n,
-        plain: p,
-        end,
+    match rpc::read_opaque_auth(src, at) {
+        OpaqueAuthRead::Refused(r) => Copied::Unread(r),
+        OpaqueAuthRead::Took {
+            value: v,
+            next: n,
+            plain: p,
+        } => copied_to(n, p, rpc::write_opaque_auth(src, v, out, start)),
     }
 }
 
 pub(crate) fn copy_rpc_msg(src: &[u8], at: usize, out: &mut [u8], start: usize) -> Copied
     ensures { λ r. ⌜ Copies rpc-msg (now (src .entry)) at start (now (out .entry)) (viewCopied r) (now (out .exit)) ⌝ }
 {
-    let r = rpc::read_rpc_msg(src, at);
-    let RpcMsgRead::Took {
-        value: v,
-        next: n,
-        plain: p,
-    } = r
-    else {
-        return Copied::Unread(r.refusal());
-    };
-    let w = rpc::write_rpc_msg(src, v, out, start);
-    let Wrote::Done(end) = w else {
-        return Copied::Unwritten(w.refusal());
-    };
-    Copied::Done {
-        next: n,
-        plain: p,
-        end,
+    match rpc::read_rpc_msg(src, at) {
+        RpcMsgRead::Refused(r) => Copied::Unread(r),
+        RpcMsgRead::Took {
+            value: v,
+            next: n,
+            plain: p,
+        } => copied_to(n, p, rpc::write_rpc_msg(src, v, out, start)),
     }
 }
 
 pub(crate) fn copy_rpc_body(src: &[u8], at: usize, out: &mut [u8], start: usize) -> Copied
     ensures { λ r. ⌜ Copies rpc-body (now (src .entry)) at start (now (out .entry)) (viewCopied r) (now (out .exit)) ⌝ }
 {
-    let r = rpc::read_rpc_body(src, at);
-    let RpcBodyRead::Took {
-        value: v,
-        next: n,
-        plain: p,
-    } = r
-    else {
-        return Copied::Unread(r.refusal());
-    };
-    let w = rpc::write_rpc_body(src, v, out, start);
-    let Wrote::Done(end) = w else {
-        return Copied::Unwritten(w.refusal());
-    };
-    Copied::Done {
-        next: n,
-        plain: p,
-        end,
+    match rpc::read_rpc_body(src, at) {
+        RpcBodyRead::Refused(r) => Copied::Unread(r),
+        RpcBodyRead::Took {
+            value: v,
+            next: n,
+            plain: p,
+        } => copied_to(n, p, rpc::write_rpc_body(src, v, out, start)),
     }
 }
 
 pub(crate) fn copy_call_body(src: &[u8], at: usize, out: &mut [u8], start: usize) -> Copied
     ensures { λ r. ⌜ Copies call-body (now (src .entry)) at start (now (out .entry)) (viewCopied r) (now (out .exit)) ⌝ }
 {
-    let r = rpc::read_call_body(src, at);
-    let CallBodyRead::Took {
-        value: v,
-        next: n,
-        plain: p,
-    } = r
-    else {
-        return Copied::Unread(r.refusal());
-    };
-    let w = rpc::write_call_body(src, v, out, start);
-    let Wrote::Done(end) = w else {
-        return Copied::Unwritten(w.refusal());
-    };
-    Copied::Done {
-        next: n,
-        plain: p,
-        end,
+    match rpc::read_call_body(src, at) {
+        CallBodyRead::Refused(r) => Copied::Unread(r),
+        CallBodyRead::Took {
+            value: v,
+            next: n,
+            plain: p,
+        } => copied_to(n, p, rpc::write_call_body(src, v, out, start)),
     }
 }
 
 pub(crate) fn copy_reply_body(src: &[u8], at: usize, out: &mut [u8], start: usize) -> Copied
     ensures { λ r. ⌜ Copies reply-body (now (src .entry)) at start (now (out .entry)) (viewCopied r) (now (out .exit)) ⌝ }
 {
-    let r = rpc::read_reply_body(src, at);
-    let ReplyBodyRead::Took {
-        value: v,
-        next: n,
-        plain: p,
-    } = r
-    else {
-        return Copied::Unread(r.refusal());
-    };
-    let w = rpc::write_reply_body(src, v, out, start);
-    let Wrote::Done(end) = w else {
-        return Copied::Unwritten(w.refusal());
-    };
-    Copied::Done {
-        next: n,
-        plain: p,
-        end,
+    match rpc::read_reply_body(src, at) {
+        ReplyBodyRead::Refused(r) => Copied::Unread(r),
+        ReplyBodyRead::Took {
+            value: v,
+            next: n,
+            plain: p,
+        } => copied_to(n, p, rpc::write_reply_body(src, v, out, start)),
     }
 }
 
 pub(crate) fn copy_accepted_reply(src: &[u8], at: usize, out: &mut [u8], start: usize) -> Copied
     ensures { λ r. ⌜ Copies accepted-reply (now (src .entry)) at start (now (out .entry)) (viewCopied r) (now (out .exit)) ⌝ }
 {
-    let r = rpc::read_accepted_reply(src, at);
-    let AcceptedReplyRead::Took {
-        value: v,
-        next: n,
-        plain: p,
-    } = r
-    else {
-        return Copied::Unread(r.refusal());
-    };
-    let w = rpc::write_accepted_reply(src, v, out, start);
-    let Wrote::Done(end) = w else {
-        return Copied::Unwritten(w.refusal());
-    };
-    Copied::Done {
-        next: n,
-        plain: p,
-        end,
+    match rpc::read_accepted_reply(src, at) {
+        AcceptedReplyRead::Refused(r) => Copied::Unread(r),
+        AcceptedReplyRead::Took {
+            value: v,
+            next: n,
+            plain: p,
+        } => copied_to(n, p, rpc::write_accepted_reply(src, v, out, start)),
     }
 }
 
 pub(crate) fn copy_accept_body(src: &[u8], at: usize, out: &mut [u8], start: usize) -> Copied
     ensures { λ r. ⌜ Copies (exactly accept-body) (now (src .entry)) at start (now (out .entry)) (viewCopied r) (now (out .exit)) ⌝ }
 {
-    let r = rpc::read_accept_body(src, at);
-    let AcceptBodyRead::Took {
-        value: v,
-        next: n,
-        plain: p,
-    } = r
-    else {
-        return Copied::Unread(r.refusal());
-    };
-    let w = rpc::write_accept_body(v, out, start);
-    let Wrote::Done(end) = w else {
-        return Copied::Unwritten(w.refusal());
-    };
-    Copied::Done {
-        next: n,
-        plain: p,
-        end,
+    match rpc::read_accept_body(src, at) {
+        AcceptBodyRead::Refused(r) => Copied::Unread(r),
+        AcceptBodyRead::Took {
+            value: v,
+            next: n,
+            plain: p,
+        } => copied_to(n, p, rpc::write_accept_body(v, out, start)),
     }
 }
 
 pub(crate) fn copy_rejected_reply(src: &[u8], at: usize, out: &mut [u8], start: usize) -> Copied
     ensures { λ r. ⌜ Copies (exactly rejected-reply) (now (src .entry)) at start (now (out .entry)) (viewCopied r) (now (out .exit)) ⌝ }
 {
-    let r = rpc::read_rejected_reply(src, at);
-    let RejectedReplyRead::Took {
-        value: v,
-        next: n,
-        plain: p,
-    } = r
-    else {
-        return Copied::Unread(r.refusal());
-    };
-    let w = rpc::write_rejected_reply(v, out, start);
-    let Wrote::Done(end) = w else {
-        return Copied::Unwritten(w.refusal());
-    };
-    Copied::Done {
-        next: n,
-        plain: p,
-        end,
+    match rpc::read_rejected_reply(src, at) {
+        RejectedReplyRead::Refused(r) => Copied::Unread(r),
+        RejectedReplyRead::Took {
+            value: v,
+            next: n,
+            plain: p,
+        } => copied_to(n, p, rpc::write_rejected_reply(v, out, start)),
     }
 }
 
 pub(crate) fn copy_mismatch_info(src: &[u8], at: usize, out: &mut [u8], start: usize) -> Copied
     ensures { λ r. ⌜ Copies (exactly mismatch-info) (now (src .entry)) at start (now (out .entry)) (viewCopied r) (now (out .exit)) ⌝ }
 {
-    let r = rpc::read_mismatch_info(src, at);
-    let MismatchInfoRead::Took { value: v, next: n } = r else {
-        return Copied::Unread(r.refusal());
-    };
-    let w = rpc::write_mismatch_info(v, out, start);
-    let Wrote::Done(end) = w else {
-        return Copied::Unwritten(w.refusal());
-    };
-    Copied::Done {
-        next: n,
-        plain: true,
-        end,
+    match rpc::read_mismatch_info(src, at) {
+        MismatchInfoRead::Refused(r) => Copied::Unread(r),
+        MismatchInfoRead::Took { value: v, next: n } => copied_to(
+            n,
+            true,
+            rpc::write_mismatch_info(v, out, start),
+        ),
     }
 }

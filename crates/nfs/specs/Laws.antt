@@ -1,9 +1,5 @@
--- What follows: sizes and ranges, the promise for each kind, worked bytes, and facts that proofs cite.
-pub mod Fixed
+-- What follows: sizes and ranges, what is owed of each kind, and facts that proofs cite.
 pub mod Sizes
-pub mod Words
-pub mod Room
-pub mod Lent
 pub mod Closed
 pub mod Read
 pub mod Write

@@ -3,11 +3,11 @@ ghost use mathlib.Core.Path.{_≡_};
 ghost use Rattle.nfs.specs.Meaning.Set.{howNumber, hows};
 ghost use Rattle.nfs.specs.Meaning.Views.{foundHow};
 ghost use Rattle.xdr.specs.Meaning.Combinators.{among};
-use crate::attr::gid3;
-use crate::attr::mode3;
-use crate::attr::nfstime3;
-use crate::attr::size3;
-use crate::attr::uid3;
+use nfsattr::attr::gid3;
+use nfsattr::attr::mode3;
+use nfsattr::attr::nfstime3;
+use nfsattr::attr::size3;
+use nfsattr::attr::uid3;
 
 // The tag of `set_atime` and `set_mtime`.
 pub enum _time_how {

@@ -13,7 +13,7 @@ use Rattle.rpc.specs.Meaning.Reply.{reply-body}
 use Rattle.rpc.specs.Meaning.Message.{call-body, rpc-body, rpc-msg}
 use Rattle.rpc.specs.declared.auth.auth_flavor.the-variants.{«AUTH_NULL»}
 use Rattle.rpc.specs.declared.message.rpc_body.the-variants.{CALL}
-use Rattle.nfs.specs.Meaning.Attr.{nfstime}
+use Rattle.nfsattr.specs.Meaning.Attr.{nfstime}
 use Rattle.nfs.specs.Meaning.Dir.{nfs-fh, diropargs}
 use Rattle.nfs.specs.Meaning.Set.{set-mode, set-uid, set-gid, set-size, set-time, set-atime, set-mtime, sattr}
 use Rattle.nfs.specs.declared.set.set_mode3.the-variants as mode

@@ -5,14 +5,15 @@
 ghost use mathlib.Core.Path.{_≡_};
 ghost use Prim.Native.Nat.{_-_};
 ghost use lib.ListN.{length};
-ghost use Rattle.nfs.specs.Meaning.Attr.{fattr};
+ghost use Rattle.nfsattr.specs.Meaning.Attr.{fattr};
 ghost use Rattle.nfs.specs.Meaning.Dir.{nfs-fh, diropargs};
 ghost use Rattle.nfs.specs.Meaning.Set.{sattr};
 ghost use Rattle.rpc.specs.Meaning.Message.{rpc-msg};
 ghost use Rattle.xdr.specs.Meaning.Format.{exactly};
 ghost use Rattle.xdr.specs.Meaning.Formats.{bytes};
 ghost use Rattle.xdr.specs.Meaning.Items.{word, hyper, flag};
-ghost use Rattle.nfs.specs.Meaning.Views.{viewNfsFh3, viewDiropargs3, viewSattr3, viewFattr3};
+ghost use Rattle.nfsattr.specs.Meaning.Views.{viewFattr3};
+ghost use Rattle.nfs.specs.Meaning.Views.{viewNfsFh3, viewDiropargs3, viewSattr3};
 ghost use Rattle.rpc.specs.Meaning.Views.{viewRpcMsg};
 ghost use Rattle.xdr.specs.Meaning.Views.{viewU32, viewU64, viewBool, viewPiece};
 ghost use Rattle.reader.specs.Meaning.Step.{Stepped};

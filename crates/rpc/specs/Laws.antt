@@ -7,6 +7,5 @@ pub mod Sizes
 pub mod UnixIn
 pub mod Tags
 pub mod Fields
-pub mod Placing
 pub mod Puts
 pub mod ClosedWrites

@@ -1,12 +1,10 @@
-// What a writer tests before it writes: whether the pieces lie inside the source, how long the encoding is, and whether it has place.
+// What a writer asks before it writes: whether the pieces lie inside the source, and how long the encoding is.
 ghost use mathlib.Core.Path.{_≡_};
 ghost use Prim.Native.Nat.{_≤_};
-ghost use Rattle.xdr.specs.Meaning.Views.{viewWrote};
 ghost use Rattle.rpc.specs.Meaning.Auth.{opaque-auth, auth-unix};
 ghost use Rattle.rpc.specs.Meaning.Reply.{accepted-reply, reply-body};
 ghost use Rattle.rpc.specs.Meaning.Message.{call-body, rpc-body};
-ghost use Rattle.rpc.specs.Laws.Placing.{placing};
-ghost use Rattle.rpc.specs.Laws.Sizes.{wordsUpTo, authSize, unixSize, callSize, acceptSize, acceptedSize, rejectSize, replySize, bodySize};
+ghost use Rattle.rpc.specs.Laws.Sizes.{authSize, unixSize, callSize, acceptSize, acceptedSize, rejectSize, replySize, bodySize};
 use crate::auth::auth_unix;
 use crate::auth::opaque_auth;
 use crate::message::call_body;
@@ -16,33 +14,10 @@ use crate::reply::accepted_reply;
 use crate::reply::mismatch_info;
 use crate::reply::rejected_reply;
 use crate::reply::reply_body;
-use xdr::Refusal;
-use xdr::Wrote;
 use xdr::inner::opaque_size;
+use xdr::inner::words_size;
 use xdr::inside;
 use xdr::words_inside;
-
-// The order in which every writer refuses: 9, 3 for the source, 4, 3 for the encoding, 5.
-pub(crate) fn place(source: usize, inside: bool, size: usize, room: usize, at: usize) -> Wrote
-    ensures { λ r. ⌜ viewWrote r ≡ placing source inside size room at ⌝ }
-{
-    if room < at {
-        return Wrote::Refused(Refusal::PastEnd);
-    }
-    if 1048576 < source {
-        return Wrote::Refused(Refusal::TooLong);
-    }
-    if !inside {
-        return Wrote::Refused(Refusal::Outside);
-    }
-    if 1048576 < size {
-        return Wrote::Refused(Refusal::TooLong);
-    }
-    if room - at < size {
-        return Wrote::Refused(Refusal::NoRoom);
-    }
-    Wrote::Done(at + size)
-}
 
 pub(crate) fn opaque_auth_inside(src: &[u8], m: opaque_auth) -> bool
     ensures { λ r. ⌜ r ≡ opaque-auth .held .inside (now (src .entry)) m ⌝ }
@@ -90,16 +65,6 @@ pub(crate) fn rpc_body_inside(src: &[u8], m: rpc_body) -> bool
         rpc_body::CALL(c) => call_body_inside(src, c),
         rpc_body::REPLY(r) => reply_body_inside(src, r),
     }
-}
-
-// How many bytes a list of n words takes; 0 where n is over the limit.
-fn words_size(n: usize) -> usize
-    ensures { λ r. ⌜ (r ≡ wordsUpTo n) × (r ≤ 4194308) ⌝ }
-{
-    if 1048576 < n {
-        return 0;
-    }
-    4 + n * 4
 }
 
 pub(crate) fn opaque_auth_size(m: opaque_auth) -> usize

@@ -42,104 +42,82 @@ use crate::inner::rpc_body_at;
 use crate::inner::rpc_msg_at;
 use xdr::Piece;
 use xdr::Refusal;
+use xdr::order::Opening;
+use xdr::order::open_at;
 
 // The tags, as kinds of their own (`_msg_type` and so on in the crate): closed enumerations.
 pub fn read_msg_type(src: &[u8], at: usize) -> MsgTypeRead
     ensures { λ r. ⌜ Answers (exactly msg-type) (now (src .entry)) at (viewMsgType r) ⌝ }
 {
-    if 1048576 < src.len() {
-        return MsgTypeRead::Refused(Refusal::TooLong);
+    match open_at(src, at) {
+        Opening::Refused(r) => MsgTypeRead::Refused(r),
+        Opening::Open => msg_type_at(src, at),
     }
-    if src.len() < at {
-        return MsgTypeRead::Refused(Refusal::PastEnd);
-    }
-    msg_type_at(src, at)
 }
 
 pub fn read_reply_stat(src: &[u8], at: usize) -> ReplyStatRead
     ensures { λ r. ⌜ Answers (exactly reply-stat) (now (src .entry)) at (viewReplyStat r) ⌝ }
 {
-    if 1048576 < src.len() {
-        return ReplyStatRead::Refused(Refusal::TooLong);
+    match open_at(src, at) {
+        Opening::Refused(r) => ReplyStatRead::Refused(r),
+        Opening::Open => reply_stat_at(src, at),
     }
-    if src.len() < at {
-        return ReplyStatRead::Refused(Refusal::PastEnd);
-    }
-    reply_stat_at(src, at)
 }
 
 pub fn read_accept_stat(src: &[u8], at: usize) -> AcceptStatRead
     ensures { λ r. ⌜ Answers (exactly accept-stat) (now (src .entry)) at (viewAcceptStat r) ⌝ }
 {
-    if 1048576 < src.len() {
-        return AcceptStatRead::Refused(Refusal::TooLong);
+    match open_at(src, at) {
+        Opening::Refused(r) => AcceptStatRead::Refused(r),
+        Opening::Open => accept_stat_at(src, at),
     }
-    if src.len() < at {
-        return AcceptStatRead::Refused(Refusal::PastEnd);
-    }
-    accept_stat_at(src, at)
 }
 
 pub fn read_reject_stat(src: &[u8], at: usize) -> RejectStatRead
     ensures { λ r. ⌜ Answers (exactly reject-stat) (now (src .entry)) at (viewRejectStat r) ⌝ }
 {
-    if 1048576 < src.len() {
-        return RejectStatRead::Refused(Refusal::TooLong);
+    match open_at(src, at) {
+        Opening::Refused(r) => RejectStatRead::Refused(r),
+        Opening::Open => reject_stat_at(src, at),
     }
-    if src.len() < at {
-        return RejectStatRead::Refused(Refusal::PastEnd);
-    }
-    reject_stat_at(src, at)
 }
 
 // Closed enumerations: refusal 2 at the place of the word.
 pub fn read_auth_flavor(src: &[u8], at: usize) -> AuthFlavorRead
     ensures { λ r. ⌜ Answers (exactly auth-flavor) (now (src .entry)) at (viewAuthFlavor r) ⌝ }
 {
-    if 1048576 < src.len() {
-        return AuthFlavorRead::Refused(Refusal::TooLong);
+    match open_at(src, at) {
+        Opening::Refused(r) => AuthFlavorRead::Refused(r),
+        Opening::Open => auth_flavor_at(src, at),
     }
-    if src.len() < at {
-        return AuthFlavorRead::Refused(Refusal::PastEnd);
-    }
-    auth_flavor_at(src, at)
 }
 
 pub fn read_auth_stat(src: &[u8], at: usize) -> AuthStatRead
     ensures { λ r. ⌜ Answers (exactly auth-stat) (now (src .entry)) at (viewAuthStat r) ⌝ }
 {
-    if 1048576 < src.len() {
-        return AuthStatRead::Refused(Refusal::TooLong);
+    match open_at(src, at) {
+        Opening::Refused(r) => AuthStatRead::Refused(r),
+        Opening::Open => auth_stat_at(src, at),
     }
-    if src.len() < at {
-        return AuthStatRead::Refused(Refusal::PastEnd);
-    }
-    auth_stat_at(src, at)
 }
 
 // Plain if the padding is zero.
 pub fn read_opaque_auth(src: &[u8], at: usize) -> OpaqueAuthRead
     ensures { λ r. ⌜ Answers opaque-auth (now (src .entry)) at (viewOpaqueAuth r) ⌝ }
 {
-    if 1048576 < src.len() {
-        return OpaqueAuthRead::Refused(Refusal::TooLong);
+    match open_at(src, at) {
+        Opening::Refused(r) => OpaqueAuthRead::Refused(r),
+        Opening::Open => opaque_auth_at(src, at),
     }
-    if src.len() < at {
-        return OpaqueAuthRead::Refused(Refusal::PastEnd);
-    }
-    opaque_auth_at(src, at)
 }
 
 pub fn read_auth_unix(src: &[u8], at: usize) -> AuthUnixRead
     ensures { λ r. ⌜ Answers auth-unix (now (src .entry)) at (viewAuthUnix r) ⌝ }
 {
-    if 1048576 < src.len() {
-        return AuthUnixRead::Refused(Refusal::TooLong);
+    match open_at(src, at) {
+        Opening::Refused(r) => AuthUnixRead::Refused(r),
+        Opening::Open => auth_unix_at(src, at),
     }
-    if src.len() < at {
-        return AuthUnixRead::Refused(Refusal::PastEnd);
-    }
-    auth_unix_at(src, at)
 }
 
 // The auth_unix in a credential's body: the body's end is the end, places are those of the whole message, and bytes left over in the body
@@ -156,99 +134,75 @@ pub fn read_auth_unix_in(src: &[u8], body: Piece) -> AuthUnixRead
 pub fn read_mismatch_info(src: &[u8], at: usize) -> MismatchInfoRead
     ensures { λ r. ⌜ Answers (exactly mismatch-info) (now (src .entry)) at (viewMismatchInfo r) ⌝ }
 {
-    if 1048576 < src.len() {
-        return MismatchInfoRead::Refused(Refusal::TooLong);
+    match open_at(src, at) {
+        Opening::Refused(r) => MismatchInfoRead::Refused(r),
+        Opening::Open => mismatch_info_at(src, at),
     }
-    if src.len() < at {
-        return MismatchInfoRead::Refused(Refusal::PastEnd);
-    }
-    mismatch_info_at(src, at)
 }
 
 pub fn read_call_body(src: &[u8], at: usize) -> CallBodyRead
     ensures { λ r. ⌜ Answers call-body (now (src .entry)) at (viewCallBody r) ⌝ }
 {
-    if 1048576 < src.len() {
-        return CallBodyRead::Refused(Refusal::TooLong);
+    match open_at(src, at) {
+        Opening::Refused(r) => CallBodyRead::Refused(r),
+        Opening::Open => call_body_at(src, at),
     }
-    if src.len() < at {
-        return CallBodyRead::Refused(Refusal::PastEnd);
-    }
-    call_body_at(src, at)
 }
 
 // A tag above 4 is GARBAGE_ARGS, which is not plain.
 pub fn read_accept_body(src: &[u8], at: usize) -> AcceptBodyRead
     ensures { λ r. ⌜ Answers (exactly accept-body) (now (src .entry)) at (viewAcceptBody r) ⌝ }
 {
-    if 1048576 < src.len() {
-        return AcceptBodyRead::Refused(Refusal::TooLong);
+    match open_at(src, at) {
+        Opening::Refused(r) => AcceptBodyRead::Refused(r),
+        Opening::Open => accept_body_at(src, at),
     }
-    if src.len() < at {
-        return AcceptBodyRead::Refused(Refusal::PastEnd);
-    }
-    accept_body_at(src, at)
 }
 
 pub fn read_accepted_reply(src: &[u8], at: usize) -> AcceptedReplyRead
     ensures { λ r. ⌜ Answers accepted-reply (now (src .entry)) at (viewAcceptedReply r) ⌝ }
 {
-    if 1048576 < src.len() {
-        return AcceptedReplyRead::Refused(Refusal::TooLong);
+    match open_at(src, at) {
+        Opening::Refused(r) => AcceptedReplyRead::Refused(r),
+        Opening::Open => accepted_reply_at(src, at),
     }
-    if src.len() < at {
-        return AcceptedReplyRead::Refused(Refusal::PastEnd);
-    }
-    accepted_reply_at(src, at)
 }
 
 // A tag of 2 or more is RPC_MISMATCH 0, 0, which is not plain.
 pub fn read_rejected_reply(src: &[u8], at: usize) -> RejectedReplyRead
     ensures { λ r. ⌜ Answers (exactly rejected-reply) (now (src .entry)) at (viewRejectedReply r) ⌝ }
 {
-    if 1048576 < src.len() {
-        return RejectedReplyRead::Refused(Refusal::TooLong);
+    match open_at(src, at) {
+        Opening::Refused(r) => RejectedReplyRead::Refused(r),
+        Opening::Open => rejected_reply_at(src, at),
     }
-    if src.len() < at {
-        return RejectedReplyRead::Refused(Refusal::PastEnd);
-    }
-    rejected_reply_at(src, at)
 }
 
 // A tag of 2 or more is MSG_ACCEPTED, null verifier, SUCCESS, which is not plain.
 pub fn read_reply_body(src: &[u8], at: usize) -> ReplyBodyRead
     ensures { λ r. ⌜ Answers reply-body (now (src .entry)) at (viewReplyBody r) ⌝ }
 {
-    if 1048576 < src.len() {
-        return ReplyBodyRead::Refused(Refusal::TooLong);
+    match open_at(src, at) {
+        Opening::Refused(r) => ReplyBodyRead::Refused(r),
+        Opening::Open => reply_body_at(src, at),
     }
-    if src.len() < at {
-        return ReplyBodyRead::Refused(Refusal::PastEnd);
-    }
-    reply_body_at(src, at)
 }
 
 // A tag of 2 or more is a CALL with every field zero and empty, which is not plain.
 pub fn read_rpc_body(src: &[u8], at: usize) -> RpcBodyRead
     ensures { λ r. ⌜ Answers rpc-body (now (src .entry)) at (viewRpcBody r) ⌝ }
 {
-    if 1048576 < src.len() {
-        return RpcBodyRead::Refused(Refusal::TooLong);
+    match open_at(src, at) {
+        Opening::Refused(r) => RpcBodyRead::Refused(r),
+        Opening::Open => rpc_body_at(src, at),
     }
-    if src.len() < at {
-        return RpcBodyRead::Refused(Refusal::PastEnd);
-    }
-    rpc_body_at(src, at)
 }
 
 pub fn read_rpc_msg(src: &[u8], at: usize) -> RpcMsgRead
     ensures { λ r. ⌜ Answers rpc-msg (now (src .entry)) at (viewRpcMsg r) ⌝ }
 {
-    if 1048576 < src.len() {
-        return RpcMsgRead::Refused(Refusal::TooLong);
+    match open_at(src, at) {
+        Opening::Refused(r) => RpcMsgRead::Refused(r),
+        Opening::Open => rpc_msg_at(src, at),
     }
-    if src.len() < at {
-        return RpcMsgRead::Refused(Refusal::PastEnd);
-    }
-    rpc_msg_at(src, at)
 }

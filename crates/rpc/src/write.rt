@@ -21,7 +21,6 @@ use crate::fit::call_body_inside;
 use crate::fit::call_body_size;
 use crate::fit::opaque_auth_inside;
 use crate::fit::opaque_auth_size;
-use crate::fit::place;
 use crate::fit::rejected_reply_size;
 use crate::fit::reply_body_inside;
 use crate::fit::reply_body_size;
@@ -50,6 +49,7 @@ use crate::reply::rejected_reply;
 use crate::reply::reply_body;
 use crate::reply::reply_stat;
 use xdr::Wrote;
+use xdr::order::place;
 use xdr::write_u32;
 
 // A closed enumeration is the word of its number.

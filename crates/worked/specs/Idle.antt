@@ -89,7 +89,7 @@ module _ {M S : Type 0} (F : Format M S) where
   -- 4. A rewriter that copies its input: of a reading that is not plain, what is written is never the bytes that were read.
   module _ (s : List ℕ) (at start : ℕ) (o o′ : List ℕ) (hb : Bytes s) {n e : ℕ} (same : part o′ start e ≡ part s at n) where
     by-writing : (x : S) → opened s at (F .held .read s at) ≡ took x n false → (w : Written) → writing F s x start (length o) ≡ w
-        → made n false e ≡ saidOf F s start o n false w → o′ ≡ leaving F s x w start o → ⊥
+        → made n false e ≡ saidOf n false w → o′ ≡ leaving F s x w start o → ⊥
     by-writing x t (unwritten r) k h l =
         let z : _≡_ {A = ℕ} 0 1 = cc h in omega arith
     by-writing x t (done d) k h l =
@@ -104,7 +104,7 @@ module _ {M S : Type 0} (F : Format M S) where
         let z : _≡_ {A = ℕ} 0 1 = cc h in omega arith
     by-reading (took x k b) t h l = by-said (writing F s x start (length o)) refl h l
       where
-        by-said : (w : Written) → writing F s x start (length o) ≡ w → made n false e ≡ saidOf F s start o k b w → o′ ≡ leaving F s x w start o → ⊥
+        by-said : (w : Written) → writing F s x start (length o) ≡ w → made n false e ≡ saidOf k b w → o′ ≡ leaving F s x w start o → ⊥
         by-said (unwritten r) u g m =
             let z : _≡_ {A = ℕ} 0 1 = cc g in omega arith
         by-said (done d) u g m =

@@ -8,7 +8,7 @@ use Rattle.rpc.specs.Meaning.Closed.{auth-flavor, auth-stat}
 use Rattle.rpc.specs.Meaning.Auth.{opaque-auth}
 use Rattle.rpc.specs.Meaning.Reply.{mismatch-info, accept-body, accepted-reply, rejected-reply, reply-body}
 use Rattle.rpc.specs.Meaning.Message.{call-body, rpc-body, rpc-msg}
-use Rattle.nfs.specs.Meaning.Attr.{nfstime}
+use Rattle.nfsattr.specs.Meaning.Attr.{nfstime}
 use Rattle.nfs.specs.Meaning.Set.{set-mode, set-uid, set-gid, set-size, set-time, set-atime, set-mtime, sattr}
 use Rattle.rpcwire.specs.Meaning.Stream.{feedOf, begin, advance, after, stepAt, headerByte, headed, settled, fitsOf}
 use Rattle.worked.specs.Row.{All}

@@ -17,6 +17,8 @@ pub mod Pieces
 pub mod Words
 pub mod Public
 pub mod Write
+pub mod Room
+pub mod Placing
 pub mod Swap
 pub mod Padding
 pub mod Ranges
@@ -24,5 +26,8 @@ pub mod Lay
 pub mod LayPieces
 pub mod Signed
 pub mod Answers
+pub mod Closed
+pub mod Fixed
 pub mod One
 pub mod Kept
+pub mod Owed

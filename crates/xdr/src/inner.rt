@@ -6,7 +6,7 @@ ghost use lib.ListN.{length};
 ghost use mathlib.Core.List.{_++_};
 ghost use Rattle.xdr.specs.Meaning.Bytes.{numberAt, zeros};
 ghost use Rattle.xdr.specs.Meaning.Items.{word, hyper, word-pair, hyper-pair, flag, int, long, opaque, words};
-ghost use Rattle.xdr.specs.Meaning.Pieces.{pieceAnswer, opaqueSize, sizeUpTo};
+ghost use Rattle.xdr.specs.Meaning.Pieces.{pieceAnswer, opaqueSize, sizeUpTo, wordsUpTo};
 ghost use Rattle.xdr.specs.Meaning.Formats.{eightHeld, pieceHeld, wordsHeld, bytes, wordList};
 ghost use Rattle.xdr.specs.Meaning.Public.{laid, laidOf};
 ghost use Rattle.xdr.specs.Meaning.Views.{viewU32, viewU64, viewU32Pair, viewU64Pair, viewI32, viewI64, viewBool, viewPiece};
@@ -295,6 +295,16 @@ pub fn opaque_size(n: usize) -> usize
         return 0;
     }
     4 + (n + 3) / 4 * 4
+}
+
+// The same of a list of n words.
+pub fn words_size(n: usize) -> usize
+    ensures { λ r. ⌜ r ≡ wordsUpTo n ⌝ }
+{
+    if 1048576 < n {
+        return 0;
+    }
+    4 + n * 4
 }
 
 // An opaque at the front of a buffer that has room. The last word is zeroed first, so that what the bytes leave of it is the pad.

@@ -5,6 +5,7 @@
 pub mod answer;
 pub mod inner;
 mod number;
+pub mod order;
 pub mod piece;
 mod read;
 pub mod refusal;

@@ -11,40 +11,23 @@ use borrow.Author.Tests.{le-leb, leb-true, leb-false}
 use Rattle.xdr.specs.Meaning.Answer.{Answer, took, refused, opened, most, Written, done, unwritten}
 use Rattle.xdr.specs.Meaning.Format.{Format, Branch}
 use Rattle.xdr.specs.Meaning.Public.{Answers, output, writing, leaving, Writes}
-use Rattle.xdr.specs.Meaning.Views.{numberOf, placeOf, refusal, viewWrote, lostWrote}
 use Rattle.xdr.specs.Laws.Public.{kept}
-use Rattle.xdr.specs.declared.refusal.Refusal.{Refusal}
-use Rattle.xdr.specs.declared.answer.Wrote.{Wrote}
-use Rattle.xdr.specs.declared.answer.Wrote.the-variants as wrote
-use Rattle.door.specs.Meaning.Copy.{Copy, unknown, unread, unmade, made, saidOf, copySaid, copyLeft, Copies}
+use Rattle.door.specs.Meaning.Copy.{Copy, unknown, unread, saidOf, copySaid, copyLeft, Copies}
 use Rattle.door.specs.Meaning.Kinds.{CopiesOf}
 
 module _ {M S R : Type 0} (F : Format M S) (view : R → Answer S) (s : List ℕ) (at start : ℕ) (o : List ℕ) {r t : R} (c : Answers F s at (view r)) (e : r ≡ t) where
   -- the reading was refused
-  pub not-read : (lost : R → Refusal) {q : Refusal} → q ≡ lost r → view t ≡ refusal (lost t) → Copies F s at start o (unread (numberOf q) (placeOf q)) o
-  not-read lost {q} g h =
-      let k : opened s at (F .held .read s at) ≡ refused (numberOf q) (placeOf q) =
-      sym (c .is) ∙ ap view e ∙ h ∙ ap refusal (sym (g ∙ ap lost e)) in
+  pub not-read : {q p : ℕ} → view t ≡ refused q p → Copies F s at start o (unread q p) o
+  not-read {q} {p} h =
+      let k : opened s at (F .held .read s at) ≡ refused q p = sym (c .is) ∙ ap view e ∙ h in
       record { says = rw k; leaves = rw k }
 
-  module _ {x : S} {n : ℕ} {b : Bool} (v : view t ≡ took x n b) {o′ : List ℕ} (w : Wrote) (d : Writes F s x start o (viewWrote w) o′) where
-    took-it : opened s at (F .held .read s at) ≡ took x n b
-    took-it = sym (c .is) ∙ ap view e ∙ v
-
-    -- the writing was refused
-    pub not-written : {u : Wrote} {q : Refusal} → w ≡ u → q ≡ lostWrote w → viewWrote u ≡ unwritten (numberOf (lostWrote u))
-        → Copies F s at start o (unmade (numberOf q)) o′
-    not-written {u} {q} f g h =
-        let k : viewWrote w ≡ unwritten (numberOf q) = ap viewWrote f ∙ h ∙ ap (λ z. unwritten (numberOf z)) (sym (g ∙ ap lostWrote f)) in
-        let j : writing F s x start _ ≡ unwritten (numberOf q) = sym (d .says) ∙ k in
-        record { says = rw (took-it, j); leaves = d .leaves ∙ sym (rw (took-it, d .says)) }
-
-    -- it was written
-    pub copied : {m : ℕ} → w ≡ wrote.Done m → Copies F s at start o (made n b m) o′
-    copied {m} f =
-        let k : viewWrote w ≡ done m = ap viewWrote f in
-        let j : writing F s x start _ ≡ done m = sym (d .says) ∙ k in
-        record { says = rw (took-it, j); leaves = d .leaves ∙ sym (rw (took-it, d .says)) }
+  -- it was taken: the writer's answer is the copy's
+  pub was-read : {x : S} {n : ℕ} {b : Bool} → view t ≡ took x n b → {o′ : List ℕ} {w : Written} → Writes F s x start o w o′
+      → {a : Copy} → a ≡ saidOf n b w → Copies F s at start o a o′
+  was-read {x} {n} {b} v d f =
+      let k : opened s at (F .held .read s at) ≡ took x n b = sym (c .is) ∙ ap view e ∙ v in
+      record { says = rw k (f ∙ ap (saidOf n b) (d .says)); leaves = d .leaves ∙ sym (rw (k, d .says)) }
 
 -- a message without pieces is written with no source; with any source that is not too long it is written alike
 abbrev pub Free : {M S : Type 0} → Format M S → S → Type 0

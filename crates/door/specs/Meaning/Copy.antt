@@ -25,11 +25,12 @@ viewCopied (Unread r) = unread (numberOf r) (placeOf r)
 viewCopied (Unwritten r) = unmade (numberOf r)
 viewCopied (Done n b e) = made n b e
 
-module _ {M S : Type 0} (F : Format M S) (s : List ℕ) (start : ℕ) (o : List ℕ) where
-  abbrev pub saidOf : ℕ → Bool → Written → Copy
-  saidOf n b (done e) = made n b e
-  saidOf n b (unwritten r) = unmade r
+-- what is said of a reading that was taken, by what its writer says
+abbrev pub saidOf : ℕ → Bool → Written → Copy
+saidOf n b (done e) = made n b e
+saidOf n b (unwritten r) = unmade r
 
+module _ {M S : Type 0} (F : Format M S) (s : List ℕ) (start : ℕ) (o : List ℕ) where
   -- what is said of a reading, and what the other buffer then holds
   abbrev pub copySaid : Answer S → Copy
   copySaid (took x n b) = saidOf n b (writing F s x start (length o))

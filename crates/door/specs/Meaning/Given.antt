@@ -15,11 +15,11 @@ use Rattle.xdr.specs.Meaning.Combinators.{Seen, means, undeclared, among}
 use Rattle.xdr.specs.Meaning.Format.{exactly}
 use Rattle.xdr.specs.Meaning.Public.{Writes}
 use Rattle.xdr.specs.declared.piece.Piece.{Piece}
-use Rattle.nfs.specs.Meaning.Attr.{ftypeNumber, ftypes, fattr}
+use Rattle.nfsattr.specs.Meaning.Attr.{ftypeNumber, ftypes, fattr}
 use Rattle.nfs.specs.Meaning.Set.{SetTime, dont-change, server-time, client-time, modeTo, uidTo, gidTo, sizeTo, atimeTo, mtimeTo, sattr}
 use Rattle.nfs.specs.Meaning.Dir.{diropargs}
-use Rattle.nfs.specs.declared.attr.ftype3.{ftype3}
-use Rattle.nfs.specs.declared.attr.fattr3.{fattr3}
+use Rattle.nfsattr.specs.declared.attr.ftype3.{ftype3}
+use Rattle.nfsattr.specs.declared.attr.fattr3.{fattr3}
 use Rattle.nfs.specs.declared.set.sattr3.{sattr3}
 use Rattle.nfs.specs.declared.dir.diropargs3.{diropargs3}
 use Rattle.rpc.specs.Meaning.Closed.{flavorNumber, flavors}

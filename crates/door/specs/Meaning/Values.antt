@@ -12,10 +12,10 @@ use Rattle.xdr.specs.Meaning.Format.{exactly}
 use Rattle.xdr.specs.Meaning.Public.{Answers}
 use Rattle.xdr.specs.Meaning.Pieces.{isInside}
 use Rattle.xdr.specs.declared.piece.Piece.{Piece}
-use Rattle.nfs.specs.Meaning.Attr.{ftypeNumber, fattr}
+use Rattle.nfsattr.specs.Meaning.Attr.{ftypeNumber, fattr}
 use Rattle.nfs.specs.Meaning.Set.{SetTime, dont-change, server-time, client-time, modeFrom, uidFrom, gidFrom, sizeFrom, atimeFrom, mtimeFrom, sattr}
 use Rattle.nfs.specs.Meaning.Dir.{diropargs}
-use Rattle.nfs.specs.declared.attr.fattr3.{fattr3}
+use Rattle.nfsattr.specs.declared.attr.fattr3.{fattr3}
 use Rattle.nfs.specs.declared.set.sattr3.{sattr3}
 use Rattle.nfs.specs.declared.dir.diropargs3.{diropargs3}
 use Rattle.rpc.specs.Meaning.Closed.{flavorNumber, authStatNumber}

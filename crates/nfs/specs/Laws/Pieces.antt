@@ -5,9 +5,8 @@ use mathlib.Core.Bool.{Bool, true, false, _&&_}
 use mathlib.Core.List.{List, _++_, append-nil}
 use Prim.Native.Nat.{ℕ, _+_, _≤_}
 use native.Mathlib.Omega.{arith}
-use lib.Dec.{leb}
 use lib.ListN.{length, length-append}
-use borrow.Author.Tests.{le-leb, leb-true, leb-false}
+use borrow.Author.Tests.{le-leb}
 use Rattle.xdr.specs.Meaning.Answer.{Written, most}
 use Rattle.xdr.specs.Meaning.Items.{flag}
 use Rattle.xdr.specs.Meaning.Format.{Format}
@@ -15,7 +14,7 @@ use Rattle.xdr.specs.Meaning.Formats.{bytes, pieceHeld}
 use Rattle.xdr.specs.Meaning.Pieces.{isInside, sizeUpTo}
 use Rattle.xdr.specs.Meaning.Public.{output, writing, Writes, laid, laidOf}
 use Rattle.xdr.specs.Laws.Marks.{and-left, and-right}
-use Rattle.xdr.specs.Laws.Padding.{flag-length, size-within, size-over}
+use Rattle.xdr.specs.Laws.Padding.{flag-length, size-small}
 use Rattle.xdr.specs.Laws.LayPieces.{bytes-size}
 use Rattle.xdr.specs.Laws.Write.{Ready}
 use Rattle.nfs.specs.Meaning.Set.{sattr}
@@ -37,14 +36,7 @@ entrySize x = sizeUpTo (x .dir .«data» .count) + sizeUpTo (x .name .count)
 abbrev pub linkSize : symlinkdata3 → ℕ
 linkSize x = length (sattr .kind .write (x .«symlink_attributes»)) + sizeUpTo (x .«symlink_data» .count)
 
-pub size-small : (n : ℕ) → sizeUpTo n ≤ 1048584
-size-small n = by-test (leb n most) refl
-  where
-    by-test : (t : Bool) → leb n most ≡ t → sizeUpTo n ≤ 1048584
-    by-test true e = let h : n ≤ 1048576 = leb-true n most e in omega (arith, size-within n h)
-    by-test false e = omega (arith, size-over n (leb-false n most e))
-
-pub small : (n : ℕ) {r : ℕ} → r ≡ sizeUpTo n → r ≤ 1048584
+pub small : (n : ℕ) {r : ℕ} → r ≡ sizeUpTo n → r ≤ 1048580
 small n e = omega (arith, size-small n)
 
 -- what was laid of a message whose pieces lie inside

@@ -9,9 +9,9 @@ use Rattle.xdr.specs.Meaning.Combinators.{Seen, means, undeclared}
 use Rattle.xdr.specs.Meaning.Codecs.{void, _⨾_, mapped}
 use Rattle.xdr.specs.Meaning.Items.{word, hyper, closed, Arm, arm, Kept, Back, union}
 use Rattle.xdr.specs.Meaning.Combinators.{among}
-use Rattle.nfs.specs.Meaning.Cases.{Cases, maybe}
-use Rattle.nfs.specs.Meaning.Attr.{nfstime}
-use Rattle.nfs.specs.declared.attr.nfstime3.{nfstime3}
+use Rattle.nfsattr.specs.Meaning.Cases.{Cases, maybe}
+use Rattle.nfsattr.specs.Meaning.Attr.{nfstime}
+use Rattle.nfsattr.specs.declared.attr.nfstime3.{nfstime3}
 use Rattle.nfs.specs.declared.set._time_how.{«_time_how»}
 use Rattle.nfs.specs.declared.set._time_how.the-variants as how
 use Rattle.nfs.specs.declared.set.set_mode3.{«set_mode3»}

@@ -1,13 +1,9 @@
 // What may be set.
 ghost use mathlib.Core.Path.{_≡_};
 ghost use lib.ListN.{length};
-ghost use Rattle.nfs.specs.Meaning.Set.{time-how, set-mode, set-uid, set-gid, set-size, set-atime, set-mtime, sattr};
+ghost use Rattle.nfs.specs.Meaning.Set.{set-mode, set-uid, set-gid, set-size, set-atime, set-mtime, sattr};
 ghost use Rattle.xdr.specs.Meaning.Public.{laid};
 ghost use Rattle.nfs.specs.Laws.Bytes.{ownerBytes, changeBytes};
-use crate::attr::nfstime3;
-use crate::put::words::put_u32_three;
-use crate::put::words::put_u32_u64;
-use crate::set::_time_how;
 use crate::set::sattr3;
 use crate::set::set_atime;
 use crate::set::set_gid3;
@@ -15,15 +11,12 @@ use crate::set::set_mode3;
 use crate::set::set_mtime;
 use crate::set::set_size3;
 use crate::set::set_uid3;
+use nfsattr::attr::nfstime3;
+use nfsattr::put::words::put_u32_three;
+use nfsattr::put::words::put_u32_u64;
 use xdr::inner::put_bool;
 use xdr::inner::put_u32;
 use xdr::inner::put_u32_pair;
-
-pub fn put_time_how(v: _time_how, out: &mut [u8])
-    ensures { λ _. ⌜ now (out .exit) ≡ laid (time-how .kind .write v) (now (out .entry)) ⌝ }
-{
-    put_u32(v.number(), out);
-}
 
 pub fn put_set_mode3(v: set_mode3, out: &mut [u8])
     ensures { λ _. ⌜ now (out .exit) ≡ laid (set-mode .kind .write v) (now (out .entry)) ⌝ }

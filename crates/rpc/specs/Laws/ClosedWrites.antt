@@ -1,14 +1,13 @@
 -- A closed enumeration is written as the word of its number.
 -- Assumes nothing.
-use mathlib.Core.Path.{_≡_, subst}
+use mathlib.Core.Path.{_≡_}
 use mathlib.Core.List.{List, []}
 use Prim.Native.Nat.{ℕ}
-use Rattle.xdr.specs.Meaning.Answer.{Written, done, unwritten}
-use Rattle.xdr.specs.Meaning.Items.{word, closed}
-use Rattle.xdr.specs.Meaning.Combinators.{means}
+use Rattle.xdr.specs.Meaning.Answer.{Written}
+use Rattle.xdr.specs.Meaning.Items.{word}
 use Rattle.xdr.specs.Meaning.Format.{exactly}
-use Rattle.xdr.specs.Meaning.Public.{writing, Writes}
-use Rattle.xdr.specs.Meaning.Combinators.{among}
+use Rattle.xdr.specs.Meaning.Public.{Writes}
+use Rattle.xdr.specs.Laws.Closed.{by-number}
 use Rattle.rpc.specs.Meaning.Closed.{msg-type, msgTypeNumber, msgTypes, each-msg-type, reply-stat, replyStatNumber, replyStats, each-reply-stat, accept-stat, acceptStatNumber, acceptStats, each-accept-stat, reject-stat, rejectStatNumber, rejectStats, each-reject-stat, auth-flavor, flavorNumber, flavors, each-auth-flavor, auth-stat, authStatNumber, authStats, each-auth-stat}
 use Rattle.rpc.specs.declared.message.msg_type.{«msg_type»}
 use Rattle.rpc.specs.declared.reply.reply_stat.{«reply_stat»}
@@ -16,17 +15,6 @@ use Rattle.rpc.specs.declared.reply.accept_stat.{«accept_stat»}
 use Rattle.rpc.specs.declared.reply.reject_stat.{«reject_stat»}
 use Rattle.rpc.specs.declared.auth.auth_flavor.{«auth_flavor»}
 use Rattle.rpc.specs.declared.auth.auth_stat.{«auth_stat»}
-
-module _ {A : Type 0} (number : A → ℕ) (l : List A) (each : (a : A) → among number l (number a) ≡ means a []) where
-  by-number : (a : A) {v : ℕ} (at : ℕ) (o : List ℕ) {w : Written} {o′ : List ℕ} → v ≡ number a → Writes (exactly word) [] v at o w o′
-      → Writes (exactly (closed number l each)) [] a at o w o′
-  unfolding writing
-  by-number a at o {w} {o′} e c =
-      again w (subst (λ v. Writes (exactly word) [] v at o w o′) e c)
-    where
-      again : (w : Written) → Writes (exactly word) [] (number a) at o w o′ → Writes (exactly (closed number l each)) [] a at o w o′
-      again (done n) c = record { says = c .says; leaves = c .leaves; good = c .good }
-      again (unwritten r) c = record { says = c .says; leaves = c .leaves; good = c .good }
 
 pub msg-type-writes : (a : «msg_type») {v : ℕ} (at : ℕ) (o : List ℕ) {w : Written} {o′ : List ℕ} → v ≡ msgTypeNumber a → Writes (exactly word) [] v at o w o′
     → Writes (exactly msg-type) [] a at o w o′

@@ -1,31 +1,11 @@
--- The promise, kind by kind: demands 2 and 3 of what is read and of the answers of the public reader, and that whatever the public writer
--- wrote reads back as itself. The writer's contract says that what it wrote is in range, so this holds of every value of the code's type.
+-- What is owed of each kind: demands 2 and 3, and that what was written reads back as itself.
 -- Assumes nothing.
-use mathlib.Core.Path.{_≡_}
-use mathlib.Core.List.{List}
-use Prim.Native.Nat.{ℕ}
-use Rattle.xdr.specs.Meaning.Answer.{Written, done}
-use Rattle.xdr.specs.Meaning.Promise.{Promise}
-use Rattle.xdr.specs.Meaning.Format.{Format, exactly}
-use Rattle.xdr.specs.Meaning.Public.{Writes, Back, Kept}
-use Rattle.xdr.specs.Laws.Promise.{keeps}
-use Rattle.xdr.specs.Laws.Public.{kept}
-use Rattle.xdr.specs.Laws.Write.{wrote-back, one-writing}
+use Rattle.xdr.specs.Meaning.Format.{exactly}
+use Rattle.xdr.specs.Laws.Owed.{Owed, owed}
 use Rattle.rpc.specs.Meaning.Closed.{msg-type, reply-stat, accept-stat, reject-stat, auth-flavor, auth-stat}
 use Rattle.rpc.specs.Meaning.Auth.{opaque-auth, auth-unix}
 use Rattle.rpc.specs.Meaning.Reply.{mismatch-info, accept-body, accepted-reply, rejected-reply, reply-body}
 use Rattle.rpc.specs.Meaning.Message.{call-body, rpc-body, rpc-msg}
-
-pub record Owed {M S : Type 0} (F : Format M S) : Type 0 where
-  pub promise : Promise (F .codec .kind)
-  pub answers : Kept F
-  pub back : (s : List ℕ) (x : S) (at : ℕ) (o : List ℕ) {n : ℕ} {o′ : List ℕ} → Writes F s x at o (done n) o′ → Back F s x at n o′
-  -- what the writer's contract permits is one answer and one buffer
-  pub one : (s : List ℕ) (x : S) (at : ℕ) (o : List ℕ) {v w : Written} {p q : List ℕ} → Writes F s x at o v p → Writes F s x at o w q
-      → (v ≡ w) × (p ≡ q)
-
-owed : {M S : Type 0} (F : Format M S) → Owed F
-owed F = record { promise = keeps (F .codec); answers = kept F; back = wrote-back F; one = one-writing F }
 
 pub msg-type-owed : Owed (exactly msg-type)
 msg-type-owed = owed (exactly msg-type)

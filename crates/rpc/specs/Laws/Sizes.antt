@@ -12,12 +12,12 @@ use Rattle.xdr.specs.Meaning.Bytes.{Bytes}
 use Rattle.xdr.specs.Meaning.Answer.{most}
 use Rattle.xdr.specs.Meaning.Items.{word, word-pair}
 use Rattle.xdr.specs.Meaning.Formats.{bytes, wordList, pieceHeld, wordsHeld}
-use Rattle.xdr.specs.Meaning.Pieces.{isInside, areInside, opaqueSize, sizeUpTo}
+use Rattle.xdr.specs.Meaning.Pieces.{isInside, areInside, sizeUpTo, wordsUpTo}
 use Rattle.xdr.specs.Meaning.Public.{output}
 use Rattle.xdr.specs.Laws.Marks.{and-left, and-right}
 use Rattle.xdr.specs.Laws.Padding.{word-length, word-pair-length}
 use Rattle.xdr.specs.Laws.Words.{words-le}
-use Rattle.xdr.specs.Laws.LayPieces.{bytes-size, words-long}
+use Rattle.xdr.specs.Laws.LayPieces.{bytes-size, words-size}
 use Rattle.xdr.specs.Laws.Write.{Ready}
 use Rattle.rpc.specs.Meaning.Closed.{auth-flavor, auth-stat, flavorNumber, authStatNumber, msg-type, msgTypeNumber, reply-stat, replyStatNumber, accept-stat, acceptStatNumber, reject-stat, rejectStatNumber}
 use Rattle.rpc.specs.Meaning.Auth.{opaque-auth, auth-unix}
@@ -45,9 +45,6 @@ use Rattle.rpc.specs.declared.message.rpc_body.the-variants.{CALL, REPLY
 use Rattle.rpc.specs.declared.message.rpc_msg.{«rpc_msg»}
 
 -- the sizes; those of pieces are 0 for counts that cannot be written
-unfoldable pub wordsUpTo : ℕ → ℕ
-wordsUpTo n = cond (leb n most) (4 + n * 4) 0
-
 abbrev pub authSize : «opaque_auth» → ℕ
 authSize m = 4 + sizeUpTo (m .body .count)
 
@@ -88,31 +85,6 @@ bodySize (REPLY r) = 4 + replySize r
 
 abbrev pub msgSize : «rpc_msg» → ℕ
 msgSize m = 4 + bodySize (m .body)
-
--- they are small
-size-by : (n : ℕ) (t : Bool) → leb n most ≡ t → cond t (opaqueSize n) 0 ≤ 1048580
-size-by n true e = let h : n ≤ 1048576 = leb-true n most e in omega arith
-size-by n false e = omega arith
-
-pub size-small : (n : ℕ) → sizeUpTo n ≤ 1048580
-unfolding sizeUpTo
-size-small n = size-by n (leb n most) refl
-
-words-by : (n : ℕ) (t : Bool) → leb n most ≡ t → cond t (4 + n * 4) 0 ≤ 4194308
-words-by n true e = let h : n ≤ 1048576 = leb-true n most e in omega arith
-words-by n false e = omega arith
-
-pub words-small : (n : ℕ) → wordsUpTo n ≤ 4194308
-unfolding wordsUpTo
-words-small n = words-by n (leb n most) refl
-
-pub words-over : (n : ℕ) → most < n → 0 ≡ wordsUpTo n
-unfolding wordsUpTo
-words-over n h = sym (simp (lt-leb n most h))
-
-pub words-within : (n : ℕ) → n ≤ most → 4 + n * 4 ≡ wordsUpTo n
-unfolding wordsUpTo
-words-within n h = sym (simp (le-leb n most h))
 
 -- the closed enumerations have 4 bytes
 pub msg-type-length : (a : «msg_type») → length (msg-type .kind .write a) ≡ 4
@@ -242,10 +214,7 @@ module _ (s : List ℕ) where
 
   pub gids-size : Bytes s → (m : «auth_unix») → Ready auth-unix s m → length (output wordList s (m .gids)) ≡ wordsUpTo (m .gids .count)
   unfolding wordsHeld
-  gids-size b m h =
-      let i : areInside s (m .gids) ≡ true = unix-gids m h .inside in
-      let k = words-le s (m .gids) i in
-      words-long s (m .gids) b i ∙ words-within (m .gids .count) (omega (arith, h .short))
+  gids-size b m h = words-size s (m .gids) b (h .short) (unix-gids m h .inside)
 
   pub unix-length : Bytes s → (m : «auth_unix») → Ready auth-unix s m → length (output auth-unix s m) ≡ unixSize m
   unix-length b m h =

@@ -11,12 +11,12 @@ use borrow.Author.Tests.{not-true, not-false}
 use Rattle.xdr.specs.Meaning.Bytes.{Bytes}
 use Rattle.xdr.specs.Meaning.Answer.{most}
 use Rattle.xdr.specs.Meaning.Items.{word, opaque, words}
-use Rattle.xdr.specs.Meaning.Pieces.{bytesIn, wordsIn, isInside, areInside, opaqueSize, sizeUpTo}
+use Rattle.xdr.specs.Meaning.Pieces.{bytesIn, wordsIn, isInside, areInside, opaqueSize, sizeUpTo, wordsUpTo}
 use Rattle.xdr.specs.Meaning.Formats.{bytes, pieceHeld, wordList, wordsHeld}
 use Rattle.xdr.specs.Meaning.Public.{output, laidOf}
 use Rattle.xdr.specs.Laws.Pieces.{piece-part, inside-le}
 use Rattle.xdr.specs.Laws.Words.{words-part, words-le, words-bytes, words-length}
-use Rattle.xdr.specs.Laws.Padding.{opaque-length, piece-long, size-within}
+use Rattle.xdr.specs.Laws.Padding.{opaque-length, piece-long, size-within, words-within}
 use Rattle.xdr.specs.Laws.Write.{Put, put-same, Ready, of-long, of-outside, of-short, of-is}
 use Rattle.xdr.specs.declared.piece.Piece.{Piece}
 
@@ -58,6 +58,11 @@ module _ (s : List ℕ) (x : Piece) where
       let k : x .at + x .count ≤ length s = inside-le s x i in
       let c : x .count ≤ most = omega arith in
       bytes-long i ∙ sym (size-within (x .count) c) ∙ sym e
+
+  pub words-size : Bytes s → length s ≤ most → areInside s x ≡ true → length (output wordList s x) ≡ wordsUpTo (x .count)
+  words-size b h i =
+      let k = words-le s x i in
+      words-long b i ∙ words-within (x .count) (omega arith)
 
   -- the part of the source that a piece inside is
   pub part-long : isInside s x ≡ true → length (take (x .at + x .count - x .at) (drop (x .at) s)) ≡ x .count

@@ -11,11 +11,11 @@ use lib.Dec.{eqb, leb}
 use lib.IntN.{ℤ}
 use lib.ListN.{length, getD, take, drop, replicate, length-append, length-drop, length-replicate}
 use lib.Seq.{drop-cons, length-take-le}
-use borrow.Author.Tests.{eq-eqb, ne-eqb, eqb-true, eqb-false, le-leb, lt-leb}
+use borrow.Author.Tests.{eq-eqb, ne-eqb, eqb-true, eqb-false, le-leb, lt-leb, leb-true}
 use Rattle.xdr.specs.Meaning.Bytes.{value, digits, unsigned, numberAt, padding, zeros}
 use Rattle.xdr.specs.Meaning.Answer.{Answer, took, refused, most}
 use Rattle.xdr.specs.Meaning.Items.{number, word, hyper, word-pair, hyper-pair, flag, fromFlag, int, long, eight, opaque}
-use Rattle.xdr.specs.Meaning.Pieces.{bytesIn, isInside, pieceAnswer, opaqueSize, sizeUpTo}
+use Rattle.xdr.specs.Meaning.Pieces.{bytesIn, isInside, pieceAnswer, opaqueSize, sizeUpTo, wordsUpTo}
 use Rattle.xdr.specs.Laws.Digits.{length-digits}
 use Rattle.xdr.specs.Laws.Pieces.{inside-le}
 use Rattle.xdr.specs.declared.piece.Piece.{Piece}
@@ -161,3 +161,28 @@ size-within n h = simp (le-leb n most h)
 pub size-over : (n : ℕ) → most < n → 0 ≡ sizeUpTo n
 unfolding sizeUpTo
 size-over n h = simp (lt-leb n most h)
+
+size-by : (n : ℕ) (t : Bool) → leb n most ≡ t → cond t (opaqueSize n) 0 ≤ 1048580
+size-by n true e = let h : n ≤ 1048576 = leb-true n most e in omega arith
+size-by n false e = omega arith
+
+pub size-small : (n : ℕ) → sizeUpTo n ≤ 1048580
+unfolding sizeUpTo
+size-small n = size-by n (leb n most) refl
+
+-- the same of a list of words
+pub words-within : (n : ℕ) → n ≤ most → 4 + n * 4 ≡ wordsUpTo n
+unfolding wordsUpTo
+words-within n h = sym (simp (le-leb n most h))
+
+pub words-over : (n : ℕ) → most < n → 0 ≡ wordsUpTo n
+unfolding wordsUpTo
+words-over n h = sym (simp (lt-leb n most h))
+
+words-by : (n : ℕ) (t : Bool) → leb n most ≡ t → cond t (4 + n * 4) 0 ≤ 4194308
+words-by n true e = let h : n ≤ 1048576 = leb-true n most e in omega arith
+words-by n false e = omega arith
+
+pub words-small : (n : ℕ) → wordsUpTo n ≤ 4194308
+unfolding wordsUpTo
+words-small n = words-by n (leb n most) refl

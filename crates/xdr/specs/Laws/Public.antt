@@ -1,4 +1,4 @@
--- Demands 2 and 3 hold of the answers of every public reader, and the three answers that one gives.
+-- Demands 2 and 3 hold of the answers of every public reader, and what it answers by the tests that come first.
 -- Assumes nothing.
 use mathlib.Core.Path.{_≡_, refl, sym, ap, _∙_}
 use mathlib.Core.Bool.{Bool, true, false, cond}
@@ -18,13 +18,17 @@ use Rattle.xdr.specs.Meaning.Public.{Answers, Took, message, Kept}
 use Rattle.xdr.specs.Laws.Lists.{known-bytes}
 use Rattle.xdr.specs.Laws.Held.{taken-means, refused-means, taken-inside}
 use Rattle.xdr.specs.Laws.Promise.{keeps}
+use Rattle.xdr.specs.Meaning.Views.{refusal, viewOpening}
+use Rattle.xdr.specs.declared.refusal.Refusal.{Refusal}
+use Rattle.xdr.specs.declared.order.Opening.{Opening}
+use Rattle.xdr.specs.declared.order.Opening.the-variants as opening
 
 module _ {A : Type 0} (s : List ℕ) (p : ℕ) where
-  opened-long : (x : Answer A) → most < length s → opened s p x ≡ refused 3 0
+  pub opened-long : (x : Answer A) → most < length s → opened s p x ≡ refused 3 0
   unfolding opened
   opened-long x h = simp (lt-leb (length s) most h)
 
-  opened-past : (x : Answer A) → length s ≤ most → length s < p → opened s p x ≡ refused 9 0
+  pub opened-past : (x : Answer A) → length s ≤ most → length s < p → opened s p x ≡ refused 9 0
   unfolding opened
   opened-past x h g = simp (le-leb (length s) most h, lt-leb p (length s) g)
 
@@ -47,16 +51,35 @@ module _ {A : Type 0} (s : List ℕ) (p : ℕ) where
           let f : _≡_ {A = Answer A} (took a n b) (refused 3 0) = simp h at e in
           let z : _≡_ {A = ℕ} 0 1 = cc in absurd (omega arith)
 
--- the three answers of a public reader; `given` is what a slice's rule gives
-module _ {M S : Type 0} (F : Format M S) (s : List ℕ) (p : ℕ) (given : (i : ℕ) → Fits w8 (getD s i 0)) where
-  pub answers-long : most < length s → Answers F s p (refused 3 0)
-  answers-long h = record { is = sym (opened-long s p (F .held .read s p) h); bytes = known-bytes s given }
+-- refused before it reads, whatever stands there
+opened-off : {A B : Type 0} (s : List ℕ) (p : ℕ) (a : A) (y : Answer B) {r q : ℕ} → refused r q ≡ opened s p (took a p true) → refused r q ≡ opened s p y
+unfolding opened
+opened-off {A} s p a y {r} {q} e = by (leb (length s) most) refl (leb p (length s)) refl
+  where
+    by : (t : Bool) → leb (length s) most ≡ t → (u : Bool) → leb p (length s) ≡ u → refused r q ≡ opened s p y
+    by true h true g =
+        let f : _≡_ {A = Answer A} (refused r q) (took a p true) = simp (h, g) at e in
+        let z : _≡_ {A = ℕ} 0 1 = cc in absurd (omega arith)
+    by true h false g =
+        let f : _≡_ {A = Answer A} (refused r q) (refused 9 0) = simp (h, g) at e in
+        let i : r ≡ 9 = cc in let j : q ≡ 0 = cc in rw (h, g, i, j)
+    by false h u g =
+        let f : _≡_ {A = Answer A} (refused r q) (refused 3 0) = simp h at e in
+        let i : r ≡ 3 = cc in let j : q ≡ 0 = cc in rw (h, i, j)
 
-  pub answers-past : length s ≤ most → length s < p → Answers F s p (refused 9 0)
-  answers-past h g = record { is = sym (opened-past s p (F .held .read s p) h g); bytes = known-bytes s given }
+-- what a public reader answers; `given` is what a slice's rule gives
+module _ {M S : Type 0} (F : Format M S) (s : List ℕ) (p : ℕ) (given : (i : ℕ) → Fits w8 (getD s i 0)) {r : Opening}
+    (e : viewOpening p r ≡ opened s p (took tt p true)) where
+  -- it may not read
+  pub answers-off : {q : Refusal} → r ≡ opening.Refused q → Answers F s p (refusal q)
+  answers-off f =
+      record { is = opened-off s p tt (F .held .read s p) (sym (ap (viewOpening p) f) ∙ e); bytes = known-bytes s given }
 
-  pub answers-in : {a : Answer S} → length s ≤ most → p ≤ length s → a ≡ F .held .read s p → Answers F s p a
-  answers-in h g e = record { is = e ∙ sym (opened-in s p (F .held .read s p) h g); bytes = known-bytes s given }
+  -- it may
+  pub answers-on : {a : Answer S} → r ≡ opening.Open → a ≡ F .held .read s p → Answers F s p a
+  answers-on f g =
+      let o = opened-took s p (took tt p true) (sym (ap (viewOpening p) f) ∙ e) in
+      record { is = g ∙ sym (opened-in s p (F .held .read s p) (o .1) (o .2)); bytes = known-bytes s given }
 
 module _ {M S : Type 0} (F : Format M S) where
   reading : Took F → Reading (F .codec .kind)

@@ -71,3 +71,7 @@ opaqueSize n = 4 + n + padding n
 -- the same for the counts that can be written, and 0 for the others
 unfoldable pub sizeUpTo : ℕ → ℕ
 sizeUpTo n = cond (leb n most) (opaqueSize n) 0
+
+-- how many bytes a list of n words takes, in the same way
+unfoldable pub wordsUpTo : ℕ → ℕ
+wordsUpTo n = cond (leb n most) (4 + n * 4) 0

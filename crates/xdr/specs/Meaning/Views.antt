@@ -28,6 +28,8 @@ use Rattle.xdr.specs.declared.answer.PieceRead.{PieceRead}
 use Rattle.xdr.specs.declared.answer.PieceRead.the-variants as Piece
 use Rattle.xdr.specs.declared.answer.Wrote.{Wrote}
 use Rattle.xdr.specs.declared.answer.Wrote.the-variants as wrote
+use Rattle.xdr.specs.declared.order.Opening.{Opening}
+use Rattle.xdr.specs.declared.order.Opening.the-variants as opening
 
 abbrev pub numberOf : Refusal → ℕ
 numberOf (Ended p) = 1
@@ -130,3 +132,8 @@ lostWrote (wrote.Done n) = PastEnd
 abbrev pub viewWord : WordFound → Option ℕ
 viewWord word-found.None = none
 viewWord (word-found.Word v) = some v
+
+-- a place that may be read from is an answer that took nothing yet
+abbrev pub viewOpening : ℕ → Opening → Answer (Unit {0})
+viewOpening p (opening.Refused r) = refusal r
+viewOpening p opening.Open = took tt p true

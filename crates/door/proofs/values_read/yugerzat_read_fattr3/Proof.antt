@@ -1,7 +1,7 @@
 use borrow.Author.Needs.{needs}
 use native.Mathlib.Omega.{arith}
 use mathlib.Core.Path.{refl}
-use Rattle.nfs.specs.Meaning.Views.{viewFattr3}
+use Rattle.nfsattr.specs.Meaning.Views.{viewFattr3}
 use Rattle.door.specs.Laws.Values.{tell-value}
 use Rattle.door.proofs.values_read.yugerzat_read_fattr3.Statement.{statement}
 use Rattle.door.proofs.values_read.yugerzat_read_fattr3.Tie as tie

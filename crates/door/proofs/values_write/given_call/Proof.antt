@@ -7,7 +7,7 @@ use denote.Ref.{now}
 use Rattle.xdr.specs.Laws.LayPieces.{yes, no}
 use Rattle.xdr.specs.Meaning.Combinators.{among}
 use Rattle.rpc.specs.Meaning.Closed.{flavorNumber, flavors}
-use Rattle.nfs.specs.Laws.Read.{told}
+use Rattle.xdr.specs.Laws.Closed.{told}
 use Rattle.door.specs.Meaning.Given.{seenOr, foundFlavor, callWords, callOf}
 use Rattle.door.specs.Laws.Given.{words-hold, test-fails, seen-none, seen-some}
 use Rattle.door.proofs.values_write.given_call.Statement.{statement}

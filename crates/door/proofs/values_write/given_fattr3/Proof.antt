@@ -5,9 +5,9 @@ use lib.ListN.{getD}
 use denote.Ref.{now}
 use Rattle.xdr.specs.Laws.LayPieces.{yes, no}
 use Rattle.xdr.specs.Meaning.Combinators.{among}
-use Rattle.nfs.specs.Meaning.Attr.{ftypeNumber, ftypes}
-use Rattle.nfs.specs.Meaning.Views.{foundFtype}
-use Rattle.nfs.specs.Laws.Read.{told}
+use Rattle.nfsattr.specs.Meaning.Attr.{ftypeNumber, ftypes}
+use Rattle.nfsattr.specs.Meaning.Views.{foundFtype}
+use Rattle.xdr.specs.Laws.Closed.{told}
 use Rattle.door.specs.Meaning.Given.{seenOr, fattr3Words, fattr3Of}
 use Rattle.door.specs.Laws.Given.{words-hold, test-fails, seen-none, seen-some}
 use Rattle.door.proofs.values_write.given_fattr3.Statement.{statement}

@@ -9,7 +9,7 @@ use Rattle.door.specs.Meaning.Given.{viewGivenFattr3}
 use Rattle.door.specs.Laws.Given.{tell-wide, tell-given}
 use mathlib.Core.List.{[]}
 use Rattle.xdr.specs.Meaning.Format.{exactly}
-use Rattle.nfs.specs.Meaning.Attr.{fattr}
+use Rattle.nfsattr.specs.Meaning.Attr.{fattr}
 use Rattle.door.proofs.values_write.yugerzat_write_fattr3.Statement.{statement}
 use Rattle.door.proofs.values_write.yugerzat_write_fattr3.Tie as tie
 

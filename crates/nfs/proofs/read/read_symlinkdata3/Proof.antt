@@ -1,20 +1,17 @@
 use borrow.Author.Needs.{needs}
-use Rattle.xdr.specs.Laws.Public.{answers-long, answers-past, answers-in}
+use Rattle.xdr.specs.Laws.Public.{answers-off, answers-on}
 use Rattle.nfs.specs.Meaning.Dir.{symlinkdata}
 use Rattle.nfs.proofs.read.read_symlinkdata3.Statement.{statement}
 use Rattle.nfs.proofs.read.read_symlinkdata3.Tie as tie
 
 returns : tie.Need-returns
-returns c = answers-long symlinkdata _ _ (c .before .shared-slice-known .given) (c .if1 .taken)
+returns c = answers-off symlinkdata _ _ (c .before .before .before .before .shared-slice-known .given) (c .before .before .before .open-at .ensures) (c .before .r .given .1)
 
 returns-2 : tie.Need-returns-2
-returns-2 c = answers-past symlinkdata _ _ (c .before .before .shared-slice-known .given) (c .before .if1 .left) (c .if2 .taken)
-
-returns-3 : tie.Need-returns-3
-returns-3 c = answers-in symlinkdata _ _ (c .before .before .before .shared-slice-known .given) (c .before .before .if1 .left) (c .before .if2 .left) (c .symlinkdata3-at .ensures)
+returns-2 c = answers-on symlinkdata _ _ (c .before .before .before .before .shared-slice-known .given) (c .before .before .before .open-at .ensures) (c .before .enum-told .given .1) (c .symlinkdata3-at .ensures)
 
 pub read-symlinkdata3-spec : {M : Type 1} → statement M
 read-symlinkdata3-spec =
     tie.close
     (tie.spec
-    returns returns-2 (search needs) returns-3)
+    (search needs) (search needs) (search needs) (search needs) returns returns-2)

@@ -1,8 +1,10 @@
 use borrow.Author.Needs.{needs}
+use mathlib.Core.Path.{ap, refl}
+use lib.ListN.{length}
 use denote.Ref.{now}
-use Rattle.xdr.specs.Laws.LayPieces.{yes, no}
+use Rattle.xdr.specs.Meaning.Views.{viewWrote}
 use Rattle.xdr.specs.Laws.Lists.{known-bytes}
-use Rattle.xdr.specs.Laws.Write.{writes-past, writes-long, writes-outside, sized-large, sized-short, sized-done-of}
+use Rattle.xdr.specs.Laws.Placing.{placing-as, refuses, ready, at-place, wrote-of}
 use Rattle.nfs.specs.Meaning.Dir.{symlinkdata}
 use Rattle.nfs.specs.Laws.Pieces.{link-size}
 use Rattle.nfs.proofs.Ranges.{link-good}
@@ -10,26 +12,47 @@ use Rattle.nfs.proofs.write.write_symlinkdata3.Statement.{statement}
 use Rattle.nfs.proofs.write.write_symlinkdata3.Tie as tie
 
 returns : tie.Need-returns
-returns c = writes-past symlinkdata _ _ _ _ (c .if1 .taken)
+returns c =
+    let d = c .before .before .before .before .before .before .before in
+    let s = now (d .args .src) in
+    let at = d .args .at in
+    let o = now (d .args .out) in
+    let e = placing-as (length s) (length o) at (c .before .before .place .ensures) (c .before .before .before .before .symlinkdata3-inside .ensures) (c .before .before .before .symlinkdata3-size .ensures) in
+    refuses symlinkdata s (d .args .x) (λ r. link-size s (d .args .x) (r .short) (r .inside) refl) at o e (ap viewWrote (c .enum-told2 .given .1))
+
+sub-put-symlinkdata3 : tie.Need-sub-put-symlinkdata3
+sub-put-symlinkdata3 c =
+    let d = c .before .before .before .before .before .before .before in
+    let s = now (d .args .src) in
+    let at = d .args .at in
+    let o = now (d .args .out) in
+    let e = placing-as (length s) (length o) at (c .before .before .place .ensures) (c .before .before .before .before .symlinkdata3-inside .ensures) (c .before .before .before .symlinkdata3-size .ensures) in
+    at-place symlinkdata s (d .args .x) (λ r. link-size s (d .args .x) (r .short) (r .inside) refl) at o e (ap viewWrote (c .enum-told .given .1))
+
+part-put-symlinkdata3-start : tie.Need-part-put-symlinkdata3-start
+part-put-symlinkdata3-start c =
+    let d = c .before .before .before .before .before .before .before in
+    let s = now (d .args .src) in
+    let at = d .args .at in
+    let o = now (d .args .out) in
+    let e = placing-as (length s) (length o) at (c .before .before .place .ensures) (c .before .before .before .before .symlinkdata3-inside .ensures) (c .before .before .before .symlinkdata3-size .ensures) in
+    at-place symlinkdata s (d .args .x) (λ r. link-size s (d .args .x) (r .short) (r .inside) refl) at o e (ap viewWrote (c .enum-told .given .1))
 
 returns-2 : tie.Need-returns-2
-returns-2 c = writes-long symlinkdata _ _ _ _ (c .before .if1 .left) (c .if2 .taken)
-
-returns-3 : tie.Need-returns-3
-returns-3 c = writes-outside symlinkdata _ _ _ _ (c .before .before .before .if1 .left) (c .before .before .if2 .left) (no (c .before .symlinkdata3-inside .ensures) (c .if3 .taken))
-
-returns-4 : tie.Need-returns-4
-returns-4 c = sized-large symlinkdata _ _ (link-size (now (c .before .before .before .before .before .before .before .before .args .src)) (c .before .before .before .before .before .before .before .before .args .x) (c .before .before .before .before .if2 .left) (yes (c .before .before .before .symlinkdata3-inside .ensures) (c .before .before .if3 .left)) (c .before .symlinkdata3-size .ensures)) (record { short = (c .before .before .before .before .if2 .left); inside = (yes (c .before .before .before .symlinkdata3-inside .ensures) (c .before .before .if3 .left)) }) _ _ (c .before .before .before .before .before .if1 .left) (c .if4 .taken)
-
-returns-5 : tie.Need-returns-5
-returns-5 c = sized-short symlinkdata _ _ (link-size (now (c .before .before .before .before .before .before .before .before .before .args .src)) (c .before .before .before .before .before .before .before .before .before .args .x) (c .before .before .before .before .before .if2 .left) (yes (c .before .before .before .before .symlinkdata3-inside .ensures) (c .before .before .before .if3 .left)) (c .before .before .symlinkdata3-size .ensures)) (record { short = (c .before .before .before .before .before .if2 .left); inside = (yes (c .before .before .before .before .symlinkdata3-inside .ensures) (c .before .before .before .if3 .left)) }) _ _ (c .before .before .before .before .before .before .if1 .left) (c .before .if4 .left) (c .if5 .taken)
-
-returns-6 : tie.Need-returns-6
-returns-6 c = sized-done-of symlinkdata _ _ (link-size (now (c .before .before .before .before .before .before .before .before .before .before .before .before .before .args .src)) (c .before .before .before .before .before .before .before .before .before .before .before .before .before .args .x) (c .before .before .before .before .before .before .before .before .before .if2 .left) (yes (c .before .before .before .before .before .before .before .before .symlinkdata3-inside .ensures) (c .before .before .before .before .before .before .before .if3 .left)) (c .before .before .before .before .before .before .symlinkdata3-size .ensures)) (record { short = (c .before .before .before .before .before .before .before .before .before .if2 .left); inside = (yes (c .before .before .before .before .before .before .before .before .symlinkdata3-inside .ensures) (c .before .before .before .before .before .before .before .if3 .left)) }) _ _ (c .before .before .before .before .before .before .before .before .before .before .if1 .left) (c .before .before .before .before .before .if4 .left) (link-good (now (c .before .before .before .before .before .before .before .before .before .before .before .before .before .args .src)) (known-bytes (now (c .before .before .before .before .before .before .before .before .before .before .before .before .before .args .src)) (c .before .before .before .before .before .before .before .before .before .before .before .before .shared-slice-known .given)) (c .before .before .before .before .before .before .before .before .before .if2 .left) (c .before .before .before .before .before .before .before .before .before .before .before .before .before .args .x) (c .before .before .before .before .before .before .before .before .before .before .before .before .before .good .1 .0)) (c .before .before .before .before .if5 .left) (c .before .before .put-symlinkdata3 .ensures)
+returns-2 c =
+    let d = c .before .before .before .before .before .before .before .before .before .before .before in
+    let s = now (d .args .src) in
+    let at = d .args .at in
+    let o = now (d .args .out) in
+    let k = known-bytes s (c .before .before .before .before .before .before .before .before .before .before .shared-slice-known .given) in
+    let e = placing-as (length s) (length o) at (c .before .before .before .before .before .before .place .ensures) (c .before .before .before .before .before .before .before .before .symlinkdata3-inside .ensures) (c .before .before .before .before .before .before .before .symlinkdata3-size .ensures) in
+    let f = ap viewWrote (c .before .before .before .before .enum-told .given .1) in
+    let g = ready symlinkdata s (d .args .x) (λ r. link-size s (d .args .x) (r .short) (r .inside) refl) at o e f in
+    wrote-of symlinkdata s (d .args .x) (λ r. link-size s (d .args .x) (r .short) (r .inside) refl) at o e f (link-good s k (g .short) (d .args .x) (d .good .1 .0)) (c .before .before .put-symlinkdata3 .ensures)
 
 pub write-symlinkdata3-spec : {M : Type 1} → statement M
 write-symlinkdata3-spec =
     tie.close
     (tie.spec
-    returns returns-2 (search needs) returns-3 (search needs) returns-4 (search needs) returns-5 (search needs) (search needs)
-    (search needs) (search needs) (search needs) (search needs) returns-6)
+    (search needs) (search needs) (search needs) (search needs) (search needs) returns sub-put-symlinkdata3 part-put-symlinkdata3-start (search needs)
+    (search needs) (search needs) returns-2)

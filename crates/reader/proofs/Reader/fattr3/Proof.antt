@@ -9,14 +9,14 @@ use denote.Struct.Laws as LL
 use denote.Signature.{namedLft}
 use denote.Triple.Spec.{tripleOf}
 use denote.Triple.Table.{entered, cited}
-use Rattle.nfs.specs.Meaning.Attr.{fattr}
+use Rattle.nfsattr.specs.Meaning.Attr.{fattr}
 use Rattle.xdr.specs.Meaning.Format.{exactly}
 use Rattle.xdr.specs.Meaning.Public.{Answers}
-use Rattle.nfs.specs.Meaning.Views.{viewFattr3 as view}
-use Rattle.nfs.proofs.answer.Fattr3Read as S
-use Rattle.nfs.proofs.answer.Fattr3Read.Laws as S′
-use Rattle.nfs.proofs.read_fattr3.Symbol as plain
-use Rattle.nfs.proofs.read_fattr3.Met as plain-thm
+use Rattle.nfsattr.specs.Meaning.Views.{viewFattr3 as view}
+use Rattle.nfsattr.proofs.answer.Fattr3Read as S
+use Rattle.nfsattr.proofs.answer.Fattr3Read.Laws as S′
+use Rattle.nfsattr.proofs.read_fattr3.Symbol as plain
+use Rattle.nfsattr.proofs.read_fattr3.Met as plain-thm
 use Rattle.reader.specs.Meaning.Step.{onward, Stepped}
 use Rattle.reader.proofs.Stepping.{Kind, made-own, Plain, After, meets}
 use Rattle.reader.proofs.step.Fattr3Step as K

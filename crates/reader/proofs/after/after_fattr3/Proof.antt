@@ -1,7 +1,7 @@
 use borrow.Author.Needs.{needs}
 use mathlib.Core.Path.{ap, sym}
-use Rattle.nfs.specs.Meaning.Views.{viewFattr3}
-use Rattle.nfs.specs.declared.answer.Fattr3Read.{Fattr3Read}
+use Rattle.nfsattr.specs.Meaning.Views.{viewFattr3}
+use Rattle.nfsattr.specs.declared.answer.Fattr3Read.{Fattr3Read}
 use Rattle.reader.specs.Meaning.Step.{onward}
 use Rattle.reader.proofs.after.after_fattr3.Statement.{statement}
 use Rattle.reader.proofs.after.after_fattr3.Tie as tie

@@ -1,6 +1,6 @@
 use borrow.Author.Needs.{needs}
 use native.Mathlib.Omega.{arith}
-use Rattle.rpc.specs.Laws.Sizes.{size-small}
+use Rattle.xdr.specs.Laws.Padding.{size-small}
 use Rattle.rpc.proofs.fit.opaque_auth_size.Statement.{statement}
 use Rattle.rpc.proofs.fit.opaque_auth_size.Tie as tie
 

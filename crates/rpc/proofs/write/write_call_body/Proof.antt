@@ -5,7 +5,7 @@ use denote.Ref.{now}
 use Rattle.xdr.specs.Meaning.Views.{viewWrote}
 use Rattle.xdr.specs.Laws.Lists.{known-bytes}
 use Rattle.rpc.specs.Meaning.Message.{call-body}
-use Rattle.rpc.specs.Laws.Placing.{placing-as, refuses, ready, at-place, has-room, wrote}
+use Rattle.xdr.specs.Laws.Placing.{placing-as, refuses, ready, at-place, has-room, wrote}
 use Rattle.rpc.specs.Laws.Sizes.{call-length}
 use Rattle.rpc.proofs.Ranges.{call-good}
 use Rattle.rpc.proofs.write.write_call_body.Statement.{statement}

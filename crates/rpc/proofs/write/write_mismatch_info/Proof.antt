@@ -5,7 +5,7 @@ use denote.Ref.{now}
 use Rattle.xdr.specs.Meaning.Format.{exactly}
 use Rattle.xdr.specs.Meaning.Views.{viewWrote}
 use Rattle.rpc.specs.Meaning.Reply.{mismatch-info}
-use Rattle.rpc.specs.Laws.Placing.{refuses, at-place, has-room, wrote}
+use Rattle.xdr.specs.Laws.Placing.{refuses, at-place, has-room, wrote}
 use Rattle.rpc.specs.Laws.Sizes.{info-length}
 use Rattle.rpc.proofs.Ranges.{info-good}
 use Rattle.rpc.proofs.write.write_mismatch_info.Statement.{statement}

@@ -1,43 +1,65 @@
 use borrow.Author.Needs.{needs}
-use native.Mathlib.Omega.{arith}
+use mathlib.Core.Path.{ap, refl}
+use lib.ListN.{length}
 use denote.Ref.{now}
 use Rattle.xdr.specs.Meaning.Formats.{wordList, wordsHeld}
+use Rattle.xdr.specs.Meaning.Views.{viewWrote}
 use Rattle.xdr.specs.Laws.Lists.{known-bytes}
-use Rattle.xdr.specs.Laws.Words.{words-good, words-le}
-use Rattle.xdr.specs.Laws.LayPieces.{yes, no, words-long, words-ready}
-use Rattle.xdr.specs.Laws.Write.{writes-past, writes-long, writes-outside, sized-large, sized-short, sized-done-of}
+use Rattle.xdr.specs.Laws.Words.{words-good}
+use Rattle.xdr.specs.Laws.LayPieces.{words-size}
+use Rattle.xdr.specs.Laws.Placing.{placing-as, refuses, ready, at-place, wrote-of}
 use Rattle.xdr.proofs.write.write_words.Statement.{statement}
 use Rattle.xdr.proofs.write.write_words.Tie as tie
 
 returns : tie.Need-returns
-returns c = writes-past wordList _ _ _ _ (c .if1 .taken)
+unfolding wordsHeld
+returns c =
+    let d = c .before .before .before .before .before .before .before in
+    let s = now (d .args .src) in
+    let at = d .args .at in
+    let o = now (d .args .out) in
+    let k = known-bytes s (c .before .before .before .before .before .before .shared-slice-known .given) in
+    let e = placing-as (length s) (length o) at (c .before .before .place .ensures) (c .before .before .before .before .words-inside .ensures) (c .before .before .before .words-size .ensures) in
+    refuses wordList s (d .args .x) (λ r. words-size s (d .args .x) k (r .short) (r .inside)) at o e (ap viewWrote (c .enum-told2 .given .1))
+
+sub-put-words : tie.Need-sub-put-words
+unfolding wordsHeld
+sub-put-words c =
+    let d = c .before .before .before .before .before .before .before in
+    let s = now (d .args .src) in
+    let at = d .args .at in
+    let o = now (d .args .out) in
+    let k = known-bytes s (c .before .before .before .before .before .before .shared-slice-known .given) in
+    let e = placing-as (length s) (length o) at (c .before .before .place .ensures) (c .before .before .before .before .words-inside .ensures) (c .before .before .before .words-size .ensures) in
+    at-place wordList s (d .args .x) (λ r. words-size s (d .args .x) k (r .short) (r .inside)) at o e (ap viewWrote (c .enum-told .given .1))
+
+part-put-words-start : tie.Need-part-put-words-start
+unfolding wordsHeld
+part-put-words-start c =
+    let d = c .before .before .before .before .before .before .before in
+    let s = now (d .args .src) in
+    let at = d .args .at in
+    let o = now (d .args .out) in
+    let k = known-bytes s (c .before .before .before .before .before .before .shared-slice-known .given) in
+    let e = placing-as (length s) (length o) at (c .before .before .place .ensures) (c .before .before .before .before .words-inside .ensures) (c .before .before .before .words-size .ensures) in
+    at-place wordList s (d .args .x) (λ r. words-size s (d .args .x) k (r .short) (r .inside)) at o e (ap viewWrote (c .enum-told .given .1))
 
 returns-2 : tie.Need-returns-2
-returns-2 c = writes-long wordList _ _ _ _ (c .before .if1 .left) (c .if2 .taken)
-
-returns-3 : tie.Need-returns-3
 unfolding wordsHeld
-returns-3 c = writes-outside wordList _ _ _ _ (c .before .before .before .if1 .left) (c .before .before .if2 .left) (no (c .before .words-inside .ensures) (c .if3 .taken))
-
-mul-size : tie.Need-mul-size
-mul-size c = let k = words-le _ _ (yes (c .before .before .words-inside .ensures) (c .before .if3 .left)) in omega arith
-
-add-size : tie.Need-add-size
-add-size c = let k = words-le _ _ (yes (c .before .before .words-inside .ensures) (c .before .if3 .left)) in omega arith
-
-returns-4 : tie.Need-returns-4
-returns-4 c = sized-large wordList _ _ (words-long _ _ (known-bytes (now (c .before .before .before .before .before .before .before .before .args .src)) (c .before .before .before .before .before .before .before .shared-slice-known .given)) (yes (c .before .before .before .words-inside .ensures) (c .before .before .if3 .left))) (words-ready _ _ (c .before .before .before .before .if2 .left) (yes (c .before .before .before .words-inside .ensures) (c .before .before .if3 .left))) _ _ (c .before .before .before .before .before .if1 .left) (c .if4 .taken)
-
-returns-5 : tie.Need-returns-5
-returns-5 c = sized-short wordList _ _ (words-long _ _ (known-bytes (now (c .before .before .before .before .before .before .before .before .before .args .src)) (c .before .before .before .before .before .before .before .before .shared-slice-known .given)) (yes (c .before .before .before .before .words-inside .ensures) (c .before .before .before .if3 .left))) (words-ready _ _ (c .before .before .before .before .before .if2 .left) (yes (c .before .before .before .before .words-inside .ensures) (c .before .before .before .if3 .left))) _ _ (c .before .before .before .before .before .before .if1 .left) (c .before .if4 .left) (c .if5 .taken)
-
-returns-6 : tie.Need-returns-6
-unfolding wordsHeld
-returns-6 c = sized-done-of wordList _ _ (words-long _ _ (known-bytes (now (c .before .before .before .before .before .before .before .before .before .before .before .before .before .args .src)) (c .before .before .before .before .before .before .before .before .before .before .before .before .shared-slice-known .given)) (yes (c .before .before .before .before .before .before .before .before .words-inside .ensures) (c .before .before .before .before .before .before .before .if3 .left))) (words-ready _ _ (c .before .before .before .before .before .before .before .before .before .if2 .left) (yes (c .before .before .before .before .before .before .before .before .words-inside .ensures) (c .before .before .before .before .before .before .before .if3 .left))) _ _ (c .before .before .before .before .before .before .before .before .before .before .if1 .left) (c .before .before .before .before .before .if4 .left) (words-good (now (c .before .before .before .before .before .before .before .before .before .before .before .before .before .args .src)) (c .before .before .before .before .before .before .before .before .before .before .before .before .before .args .x) (known-bytes (now (c .before .before .before .before .before .before .before .before .before .before .before .before .before .args .src)) (c .before .before .before .before .before .before .before .before .before .before .before .before .shared-slice-known .given)) (c .before .before .before .before .before .before .before .before .before .if2 .left) (yes (c .before .before .before .before .before .before .before .before .words-inside .ensures) (c .before .before .before .before .before .before .before .if3 .left))) (c .before .before .before .before .if5 .left) (c .before .before .put-words .ensures)
+returns-2 c =
+    let d = c .before .before .before .before .before .before .before .before .before .before .before in
+    let s = now (d .args .src) in
+    let at = d .args .at in
+    let o = now (d .args .out) in
+    let k = known-bytes s (c .before .before .before .before .before .before .before .before .before .before .shared-slice-known .given) in
+    let e = placing-as (length s) (length o) at (c .before .before .before .before .before .before .place .ensures) (c .before .before .before .before .before .before .before .before .words-inside .ensures) (c .before .before .before .before .before .before .before .words-size .ensures) in
+    let f = ap viewWrote (c .before .before .before .before .enum-told .given .1) in
+    let g = ready wordList s (d .args .x) (λ r. words-size s (d .args .x) k (r .short) (r .inside)) at o e f in
+    wrote-of wordList s (d .args .x) (λ r. words-size s (d .args .x) k (r .short) (r .inside)) at o e f (words-good s (d .args .x) k (g .short) (g .inside)) (c .before .before .put-words .ensures)
 
 pub write-words-spec : {M : Type 1} → statement M
 write-words-spec =
     tie.close
     (tie.spec
-    returns returns-2 (search needs) returns-3 mul-size add-size returns-4 (search needs) returns-5 (search needs) (search needs)
-    (search needs) (search needs) (search needs) (search needs) returns-6)
+    (search needs) (search needs) (search needs) (search needs) (search needs) returns sub-put-words part-put-words-start (search needs)
+    (search needs) (search needs) returns-2)

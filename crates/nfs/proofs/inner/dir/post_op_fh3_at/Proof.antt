@@ -5,7 +5,7 @@ use Rattle.xdr.specs.Laws.Answers.{on, off}
 use Rattle.xdr.specs.Meaning.Views.{lostBool, viewBool}
 use Rattle.nfs.specs.Meaning.Views.{lostNfsFh3, viewNfsFh3}
 use Rattle.nfs.specs.Meaning.Dir.{post-op-fh}
-use Rattle.nfs.specs.Laws.Read.{flag-true, flag-false}
+use Rattle.nfsattr.specs.Laws.Read.{flag-true, flag-false}
 use Rattle.nfs.proofs.inner.dir.post_op_fh3_at.Statement.{statement}
 use Rattle.nfs.proofs.inner.dir.post_op_fh3_at.Tie as tie
 

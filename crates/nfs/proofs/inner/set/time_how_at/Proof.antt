@@ -1,7 +1,7 @@
 use borrow.Author.Needs.{needs}
 use mathlib.Core.Path.{refl}
 use Rattle.xdr.specs.Laws.Answers.{on, off}
-use Rattle.nfs.specs.Laws.Read.{told, closed-refused, closed-undeclared, closed-took}
+use Rattle.xdr.specs.Laws.Closed.{told, closed-refused, closed-undeclared, closed-took}
 use Rattle.xdr.specs.Meaning.Views.{lostU32, viewU32}
 use Rattle.nfs.specs.Meaning.Set.{howNumber, hows, each-how, time-how}
 use Rattle.nfs.specs.Meaning.Views.{foundHow}

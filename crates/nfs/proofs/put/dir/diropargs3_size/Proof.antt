@@ -2,7 +2,7 @@ use borrow.Author.Needs.{needs}
 use native.Mathlib.Omega.{arith}
 use mathlib.Core.Path.{ap₂}
 use Prim.Native.Nat.{_+_}
-use Rattle.nfs.specs.Laws.Pieces.{size-small}
+use Rattle.xdr.specs.Laws.Padding.{size-small}
 use Rattle.nfs.proofs.put.dir.diropargs3_size.Statement.{statement}
 use Rattle.nfs.proofs.put.dir.diropargs3_size.Tie as tie
 

@@ -3,7 +3,7 @@ use native.Mathlib.Omega.{arith}
 use mathlib.Core.Path.{ap₂}
 use Prim.Native.Nat.{_+_}
 use Rattle.nfs.specs.Laws.Bytes.{sattr-between}
-use Rattle.nfs.specs.Laws.Pieces.{size-small}
+use Rattle.xdr.specs.Laws.Padding.{size-small}
 use Rattle.nfs.proofs.put.dir.symlinkdata3_size.Statement.{statement}
 use Rattle.nfs.proofs.put.dir.symlinkdata3_size.Tie as tie
 

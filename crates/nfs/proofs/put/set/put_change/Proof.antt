@@ -2,7 +2,7 @@ use borrow.Author.Needs.{needs}
 use native.Mathlib.Omega.{arith}
 use mathlib.Core.Path.{sym}
 use Rattle.xdr.specs.Laws.Write.{laid-short, laid-same}
-use Rattle.nfs.specs.Laws.Lent.{laid-three}
+use Rattle.nfsattr.specs.Laws.Lent.{laid-three}
 use Rattle.nfs.specs.Laws.Bytes.{change-bytes, change-length, set-size-between, set-atime-between, set-mtime-between}
 use Rattle.nfs.proofs.put.set.put_change.Statement.{statement}
 use Rattle.nfs.proofs.put.set.put_change.Tie as tie

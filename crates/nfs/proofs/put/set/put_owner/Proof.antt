@@ -2,7 +2,7 @@ use borrow.Author.Needs.{needs}
 use native.Mathlib.Omega.{arith}
 use mathlib.Core.Path.{sym}
 use Rattle.xdr.specs.Laws.Write.{laid-short, laid-same}
-use Rattle.nfs.specs.Laws.Lent.{laid-three}
+use Rattle.nfsattr.specs.Laws.Lent.{laid-three}
 use Rattle.nfs.specs.Laws.Bytes.{owner-bytes, owner-length, set-mode-between, set-uid-between, set-gid-between}
 use Rattle.nfs.proofs.put.set.put_owner.Statement.{statement}
 use Rattle.nfs.proofs.put.set.put_owner.Tie as tie

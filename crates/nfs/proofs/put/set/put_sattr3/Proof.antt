@@ -2,7 +2,7 @@ use borrow.Author.Needs.{needs}
 use native.Mathlib.Omega.{arith}
 use mathlib.Core.Path.{sym}
 use Rattle.xdr.specs.Laws.Write.{laid-short, laid-same}
-use Rattle.nfs.specs.Laws.Lent.{laid-two}
+use Rattle.nfsattr.specs.Laws.Lent.{laid-two}
 use Rattle.nfs.specs.Laws.Bytes.{sattr-bytes, sattr-length, owner-between, change-between}
 use Rattle.nfs.proofs.put.set.put_sattr3.Statement.{statement}
 use Rattle.nfs.proofs.put.set.put_sattr3.Tie as tie

@@ -2,7 +2,7 @@ use borrow.Author.Needs.{needs}
 use mathlib.Core.Path.{_∙_}
 use Rattle.xdr.specs.Laws.Write.{laid-same}
 use Rattle.nfs.specs.Meaning.Set.{set-mtime, mtimeCases, dont-change, server-time, client-time}
-use Rattle.nfs.specs.Laws.Words.{tag-time}
+use Rattle.nfsattr.specs.Laws.Words.{tag-time}
 use Rattle.nfs.specs.Laws.Write.{time-bytes}
 use Rattle.nfs.proofs.put.set.put_set_mtime.Statement.{statement}
 use Rattle.nfs.proofs.put.set.put_set_mtime.Tie as tie

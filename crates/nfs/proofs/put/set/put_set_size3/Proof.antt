@@ -4,8 +4,8 @@ use mathlib.Core.Option.{none, some}
 use Rattle.xdr.specs.Meaning.Items.{hyper}
 use Rattle.xdr.specs.Laws.Write.{laid-same}
 use Rattle.nfs.specs.Meaning.Set.{set-size, sizeCases}
-use Rattle.nfs.specs.Laws.Words.{flag-hyper}
-use Rattle.nfs.specs.Laws.Write.{maybe-bytes}
+use Rattle.nfsattr.specs.Laws.Words.{flag-hyper}
+use Rattle.nfsattr.specs.Laws.Write.{maybe-bytes}
 use Rattle.nfs.proofs.put.set.put_set_size3.Statement.{statement}
 use Rattle.nfs.proofs.put.set.put_set_size3.Tie as tie
 

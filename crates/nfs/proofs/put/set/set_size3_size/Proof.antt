@@ -3,8 +3,8 @@ use mathlib.Core.Path.{sym}
 use mathlib.Core.Option.{none, some}
 use Rattle.xdr.specs.Meaning.Items.{hyper}
 use Rattle.nfs.specs.Meaning.Set.{set-size, sizeCases}
-use Rattle.nfs.specs.Laws.Fixed.{hyper-fixed}
-use Rattle.nfs.specs.Laws.Write.{maybe-length}
+use Rattle.xdr.specs.Laws.Fixed.{hyper-fixed}
+use Rattle.nfsattr.specs.Laws.Write.{maybe-length}
 use Rattle.nfs.proofs.put.set.set_size3_size.Statement.{statement}
 use Rattle.nfs.proofs.put.set.set_size3_size.Tie as tie
 

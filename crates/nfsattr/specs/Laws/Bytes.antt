@@ -1,0 +1,116 @@
+-- Records are written as their fields in order; and the ranges of those that have no constant size.
+-- Assumes nothing.
+use mathlib.Core.Path.{_≡_, refl, sym, ap, _∙_}
+use mathlib.Core.Option.{none, some}
+use mathlib.Core.List.{_++_, append-assoc}
+use Prim.Native.Nat.{_+_}
+use native.Mathlib.Omega.{arith}
+use lib.ListN.{length, length-append}
+use Rattle.xdr.specs.Meaning.Items.{word, hyper, word-pair, hyper-pair}
+use Rattle.nfsattr.specs.Meaning.Attr.{ftype, specdata, nfstime, ids, sizes, times, fattr, wcc-attr, pre-op-attr, preCases, post-op-attr, postCases, wcc-data, transfer, limits, fsinfo}
+use Rattle.nfsattr.specs.Laws.Sizes.{fattr-fixed, wcc-attr-fixed}
+use Rattle.nfsattr.specs.Laws.Words.{bounds-length}
+use Rattle.nfsattr.specs.Laws.Write.{Between, maybe-length, maybe-between}
+use Rattle.nfsattr.specs.declared.attr.specdata3.{specdata3}
+use Rattle.nfsattr.specs.declared.attr.nfstime3.{nfstime3}
+use Rattle.nfsattr.specs.declared.inner.attr.Ids.{Ids}
+use Rattle.nfsattr.specs.declared.inner.attr.Sizes.{Sizes}
+use Rattle.nfsattr.specs.declared.inner.attr.Times.{Times}
+use Rattle.nfsattr.specs.declared.attr.wcc_attr.{«wcc_attr»}
+use Rattle.nfsattr.specs.declared.attr.wcc_data.{«wcc_data»}
+use Rattle.nfsattr.specs.declared.inner.attr.Transfer.{Transfer}
+use Rattle.nfsattr.specs.declared.inner.attr.Limits.{Limits}
+use Rattle.nfsattr.specs.declared.attr.fattr3.{fattr3}
+use Rattle.nfsattr.specs.declared.attr.fsinfo3.{fsinfo3}
+use Rattle.nfsattr.specs.declared.attr.pre_op_attr.{«pre_op_attr»}
+use Rattle.nfsattr.specs.declared.attr.post_op_attr.{«post_op_attr»}
+use Rattle.nfsattr.specs.declared.attr.post_op_attr.the-variants as post
+
+pub specdata-bytes : (m : specdata3)
+    → word-pair .kind .write (m .specdata1, m .specdata2) ≡ specdata .kind .write m
+unfolding specdata
+specdata-bytes m = refl
+
+pub nfstime-bytes : (m : nfstime3)
+    → word-pair .kind .write (m .seconds, m .nseconds) ≡ nfstime .kind .write m
+unfolding nfstime
+nfstime-bytes m = refl
+
+pub ids-bytes : (m : Ids)
+    → (ftype .kind .write (m .ftype) ++ word-pair .kind .write (m .mode, m .nlink)) ++ word-pair .kind .write (m .uid, m .gid) ≡ ids .kind .write m
+unfolding ids
+ids-bytes m = simp append-assoc
+
+pub sizes-bytes : (m : Sizes)
+    → (hyper-pair .kind .write (m .size, m .used) ++ specdata .kind .write (m .rdev)) ++ hyper-pair .kind .write (m .fsid, m .fileid) ≡ sizes .kind .write m
+unfolding sizes
+sizes-bytes m = simp append-assoc
+
+pub times-bytes : (m : Times)
+    → nfstime .kind .write (m .atime) ++ (nfstime .kind .write (m .mtime) ++ nfstime .kind .write (m .ctime)) ≡ times .kind .write m
+unfolding times
+times-bytes m = refl
+
+pub wcc-attr-bytes : (m : «wcc_attr»)
+    → hyper .kind .write (m .size) ++ (nfstime .kind .write (m .mtime) ++ nfstime .kind .write (m .ctime)) ≡ wcc-attr .kind .write m
+unfolding wcc-attr
+wcc-attr-bytes m = refl
+
+pub wcc-data-bytes : (m : «wcc_data»)
+    → pre-op-attr .kind .write (m .before) ++ post-op-attr .kind .write (m .after) ≡ wcc-data .kind .write m
+unfolding wcc-data
+wcc-data-bytes m = refl
+
+pub transfer-bytes : (m : Transfer)
+    → word .kind .write (m .max) ++ word-pair .kind .write (m .pref, m .mult) ≡ transfer .kind .write m
+unfolding transfer
+transfer-bytes m = refl
+
+pub limits-bytes : (m : Limits)
+    → (word .kind .write (m .dtpref) ++ hyper .kind .write (m .maxfilesize)) ++ (word .kind .write (m .«time_delta» .seconds) ++ word-pair .kind .write (m .«time_delta» .nseconds, m .properties)) ≡ limits .kind .write m
+unfolding limits nfstime word-pair
+limits-bytes m = simp append-assoc
+
+pub fattr-bytes : (m : fattr3)
+    → (ids .kind .write (record { ftype = m .ftype; mode = m .mode; nlink = m .nlink; uid = m .uid; gid = m .gid }) ++ sizes .kind .write (record { size = m .size; used = m .used; rdev = m .rdev; fsid = m .fsid; fileid = m .fileid })) ++ times .kind .write (record { atime = m .atime; mtime = m .mtime; ctime = m .ctime })
+    ≡ fattr .kind .write m
+unfolding fattr
+fattr-bytes m = simp append-assoc
+
+pub fsinfo-bytes : (m : fsinfo3)
+    → post-op-attr .kind .write (m .«obj_attributes») ++ ((transfer .kind .write (record { max = m .rtmax; pref = m .rtpref; mult = m .rtmult }) ++ transfer .kind .write (record { max = m .wtmax; pref = m .wtpref; mult = m .wtmult })) ++ limits .kind .write (record { dtpref = m .dtpref; maxfilesize = m .maxfilesize; «time_delta» = m .«time_delta»; properties = m .properties }))
+    ≡ fsinfo .kind .write m
+unfolding fsinfo
+fsinfo-bytes m = simp append-assoc
+
+-- ranges
+pub pre-op-attr-between : (v : «pre_op_attr») → Between 4 28 (length (pre-op-attr .kind .write v))
+unfolding pre-op-attr
+pre-op-attr-between v = maybe-between wcc-attr preCases wcc-attr-fixed v
+
+pub post-op-attr-between : (v : «post_op_attr») → Between 4 88 (length (post-op-attr .kind .write v))
+unfolding post-op-attr
+post-op-attr-between v = maybe-between fattr postCases fattr-fixed v
+
+pub wcc-data-length : (m : «wcc_data»)
+    → length (wcc-data .kind .write m) ≡ length (pre-op-attr .kind .write (m .before)) + length (post-op-attr .kind .write (m .after))
+wcc-data-length m = ap length (sym (wcc-data-bytes m)) ∙ length-append (pre-op-attr .kind .write (m .before)) (post-op-attr .kind .write (m .after))
+
+pub wcc-data-between : (m : «wcc_data») → Between 8 116 (length (wcc-data .kind .write m))
+wcc-data-between m =
+    let a = pre-op-attr-between (m .before) in
+    let b = post-op-attr-between (m .after) in
+    record { least = omega (arith, wcc-data-length m); greatest = omega (arith, wcc-data-length m) }
+
+pub fsinfo-length : (m : fsinfo3) → length (fsinfo .kind .write m) ≡ length (post-op-attr .kind .write (m .«obj_attributes»)) + 48
+fsinfo-length m =
+    ap length (sym (fsinfo-bytes m)) ∙ length-append (post-op-attr .kind .write (m .«obj_attributes»)) _ ∙ ap (λ k. length (post-op-attr .kind .write (m .«obj_attributes»)) + k) (bounds-length _ _ _)
+
+-- fsinfo3 is 52 bytes without attributes, and 136 with them
+pub fsinfo-void : (m : fsinfo3) → m .«obj_attributes» ≡ post.Void → length (fsinfo .kind .write m) ≡ 52
+unfolding post-op-attr
+fsinfo-void m e = omega (arith, fsinfo-length m, maybe-length fattr postCases fattr-fixed none e)
+
+pub fsinfo-attributes : (m : fsinfo3) {a : fattr3} → m .«obj_attributes» ≡ post.attributes a → length (fsinfo .kind .write m) ≡ 136
+unfolding post-op-attr
+fsinfo-attributes m {a} e = omega (arith, fsinfo-length m, maybe-length fattr postCases fattr-fixed (some a) e)
