@@ -22,6 +22,7 @@ pub mod Placing
 pub mod Swap
 pub mod Padding
 pub mod Ranges
+pub mod Copying
 pub mod Lay
 pub mod LayPieces
 pub mod Signed

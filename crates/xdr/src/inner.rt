@@ -22,6 +22,7 @@ use crate::answer::U32PairRead;
 use crate::answer::U32Read;
 use crate::answer::U64PairRead;
 use crate::answer::U64Read;
+use crate::copy::copy;
 use crate::number::hyper_here;
 use crate::number::signed32;
 use crate::number::signed64;
@@ -317,7 +318,7 @@ fn lay_opaque(body: &[u8], out: &mut [u8])
     let m = (n + 3) / 4 * 4;
     put_u32(0, &mut out[m..]);
     put_u32(n as u32, &mut out[0..]);
-    bytes::copy(body, &mut out[4..]);
+    copy(body, &mut out[4..]);
 }
 
 // An opaque, whose bytes are a piece of a source, at the front of a buffer, which is left as it was where the source is too long, the piece
@@ -347,7 +348,7 @@ fn lay_words(body: &[u8], n: usize, out: &mut [u8])
     ensures { λ _. ⌜ Put (now (out .entry)) (now (out .exit)) (4 + length (now (body .entry))) (word .kind .write n ++ now (body .entry)) ⌝ }
 {
     put_u32(n as u32, &mut out[0..]);
-    bytes::copy(body, &mut out[4..]);
+    copy(body, &mut out[4..]);
 }
 
 pub fn put_words(src: &[u8], x: Piece, out: &mut [u8])

@@ -3,6 +3,7 @@
 // `read_X(src, at)` reads an X of a message from a place on; `write_X(.., out, at)` writes one into a buffer from a place on.
 // Every input gets an answer. What the answers mean stands in specs/Meaning.
 pub mod answer;
+mod copy;
 pub mod inner;
 mod number;
 pub mod order;
