@@ -28,14 +28,14 @@ use denote.Laws.{Is, Makes, shows}
 use denote.Plain.{uint-makes, uint-lawful}
 use denote.Builtin.{u8, usize, SliceRefOf}
 use denote.Ref.{now, NamedLft}
-use denote.Signature.{Signature, plain, namedLft}
+use denote.Signature.{plain, namedLft}
 use denote.Slice.{sliceVal, sliceTy, ShrSlice}
 use denote.Steps.{owned, peeks, heard, nothing}
 use denote.Struct.Declared.{Declared, shape, fields}
 use denote.Struct.Field.{rows}
 use denote.Struct.Laws as LL
 use denote.Struct.Rest.{all-own, ownAt, rest, own-open, own-out}
-use denote.Struct.Struct.{Struct, AreAll, within}
+use denote.Struct.Struct.{Struct, within}
 use denote.Struct.Values.{Values, intos}
 use denote.Triple.Statement.{Contract, Triple}
 use denote.Triple.Call.{calls-at}

@@ -14,3 +14,4 @@ pub mod Pieces
 pub mod Formats
 pub mod Public
 pub mod Views
+pub mod Order

@@ -4,7 +4,6 @@ ghost use mathlib.Core.Path.{_≡_};
 ghost use Prim.Native.Nat.{_+_, _<_, _≤_};
 ghost use lib.ListN.{length};
 ghost use mathlib.Core.List.{_++_};
-ghost use Rattle.xdr.specs.Meaning.Bytes.{numberAt, zeros};
 ghost use Rattle.xdr.specs.Meaning.Items.{word, hyper, word-pair, hyper-pair, flag, int, long, opaque, words};
 ghost use Rattle.xdr.specs.Meaning.Pieces.{pieceAnswer, opaqueSize, sizeUpTo, wordsUpTo};
 ghost use Rattle.xdr.specs.Meaning.Formats.{eightHeld, pieceHeld, wordsHeld, bytes, wordList};

@@ -3,8 +3,7 @@ ghost use mathlib.Core.Path.{_≡_};
 ghost use mathlib.Core.Bool.{true};
 ghost use Rattle.xdr.specs.Meaning.Answer.{opened, took};
 ghost use Rattle.xdr.specs.Meaning.Views.{viewOpening, viewWrote};
-ghost use Rattle.xdr.specs.Laws.Room.{roomed};
-ghost use Rattle.xdr.specs.Laws.Placing.{placing};
+ghost use Rattle.xdr.specs.Meaning.Order.{roomed, placing};
 use crate::answer::Wrote;
 use crate::refusal::Refusal;
 

@@ -10,9 +10,9 @@ use lib.Dec.{leb}
 use borrow.Author.Tests.{le-leb, leb-true, leb-false}
 use Rattle.xdr.specs.Meaning.Answer.{Answer, took, refused, opened, most, Written, done, unwritten}
 use Rattle.xdr.specs.Meaning.Format.{Format, Branch}
-use Rattle.xdr.specs.Meaning.Public.{Answers, output, writing, leaving, Writes}
+use Rattle.xdr.specs.Meaning.Public.{Answers, output, writing, Writes}
 use Rattle.xdr.specs.Laws.Public.{kept}
-use Rattle.door.specs.Meaning.Copy.{Copy, unknown, unread, saidOf, copySaid, copyLeft, Copies}
+use Rattle.door.specs.Meaning.Copy.{Copy, unknown, unread, saidOf, Copies}
 use Rattle.door.specs.Meaning.Kinds.{CopiesOf}
 
 module _ {M S R : Type 0} (F : Format M S) (view : R → Answer S) (s : List ℕ) (at start : ℕ) (o : List ℕ) {r t : R} (c : Answers F s at (view r)) (e : r ≡ t) where

@@ -1,13 +1,13 @@
 -- What the exported functions' proofs cite.
 -- Assumes nothing.
-use mathlib.Core.Path.{_≡_, refl, sym, ap, _∙_}
-use mathlib.Core.Bool.{Bool, true, false, cond}
+use mathlib.Core.Path.{_≡_, sym, ap, _∙_}
+use mathlib.Core.Bool.{Bool, cond}
 use mathlib.Core.List.{List, [], _∷_}
 use Prim.Native.Nat.{ℕ}
 use lib.Seq.{sets}
 use Rattle.xdr.specs.Meaning.Views.{numberOf, placeOf}
 use Rattle.xdr.specs.declared.refusal.Refusal.{Refusal}
-use Rattle.door.specs.Meaning.Copy.{Copy, unknown, unread, unmade, made, viewCopied}
+use Rattle.door.specs.Meaning.Copy.{viewCopied}
 use Rattle.xdr.specs.Meaning.Views.{viewWrote}
 use Rattle.xdr.specs.declared.answer.Wrote.{Wrote}
 use Rattle.rpcwire.specs.Meaning.Fragment.{WritesFragment}

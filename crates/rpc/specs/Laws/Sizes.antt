@@ -1,22 +1,18 @@
 -- How long each kind is written: fixed, or by its pieces and its choices.
 -- Assumes nothing.
 use mathlib.Core.Path.{_≡_, refl, sym, ap, ap₂, _∙_}
-use mathlib.Core.Bool.{Bool, true, false, cond, _&&_, and-true}
+use mathlib.Core.Bool.{_&&_, and-true}
 use mathlib.Core.List.{List, _++_, append-assoc, append-nil}
-use Prim.Native.Nat.{ℕ, _+_, _*_, _<_, _≤_}
+use Prim.Native.Nat.{ℕ, _+_}
 use native.Mathlib.Omega.{arith}
-use lib.Dec.{leb}
 use lib.ListN.{length, length-append}
-use borrow.Author.Tests.{le-leb, lt-leb, leb-true}
 use Rattle.xdr.specs.Meaning.Bytes.{Bytes}
-use Rattle.xdr.specs.Meaning.Answer.{most}
 use Rattle.xdr.specs.Meaning.Items.{word, word-pair}
 use Rattle.xdr.specs.Meaning.Formats.{bytes, wordList, pieceHeld, wordsHeld}
 use Rattle.xdr.specs.Meaning.Pieces.{isInside, areInside, sizeUpTo, wordsUpTo}
 use Rattle.xdr.specs.Meaning.Public.{output}
 use Rattle.xdr.specs.Laws.Marks.{and-left, and-right}
 use Rattle.xdr.specs.Laws.Padding.{word-length, word-pair-length}
-use Rattle.xdr.specs.Laws.Words.{words-le}
 use Rattle.xdr.specs.Laws.LayPieces.{bytes-size, words-size}
 use Rattle.xdr.specs.Laws.Write.{Ready}
 use Rattle.rpc.specs.Meaning.Closed.{auth-flavor, auth-stat, flavorNumber, authStatNumber, msg-type, msgTypeNumber, reply-stat, replyStatNumber, accept-stat, acceptStatNumber, reject-stat, rejectStatNumber}

@@ -2,8 +2,8 @@
 -- Assumes nothing.
 use mathlib.Core.Path.{_≡_, refl, sym, ap, ap₂, _∙_}
 use mathlib.Core.List.{List, [], _∷_, _++_, foldl, append-assoc}
-use mathlib.Core.Bool.{Bool, true, false, cond}
-use Prim.Native.Nat.{ℕ, zero, suc, _+_, _-_, _*_, _/_, _%_, _≤_, _<_}
+use mathlib.Core.Bool.{Bool, true, false}
+use Prim.Native.Nat.{ℕ, _+_, _-_, _*_, _/_, _%_, _≤_, _<_}
 use native.Mathlib.Nat.{zero-add, div-add-mod'}
 use native.Mathlib.Omega.{arith}
 use lib.Dec.{leb}
@@ -17,7 +17,7 @@ use Rattle.xdr.specs.Meaning.Items.{number, word}
 use Rattle.xdr.specs.Meaning.Public.{laid}
 use Rattle.xdr.specs.Laws.Padding.{word-length}
 use Rattle.xdr.specs.Laws.Write.{copy-put, laid-is, laid-at, room-at}
-use Rattle.rpcwire.specs.Meaning.Stream.{Said, more, complete, refused, Now, stand, fresh, begin, advance, after, stepAt, headerByte, headed, settled, feedOf}
+use Rattle.rpcwire.specs.Meaning.Stream.{Said, more, complete, stand, fresh, advance, after, stepAt, headerByte, headed, settled, feedOf}
 use Rattle.rpcwire.specs.Meaning.Fragment.{fragmentOf, fragmentSaid, fragmentLeft, WritesFragment, FragmentBack}
 use Rattle.rpcwire.specs.Laws.Steps.{begin-more, settled-done, walk-ended}
 use Rattle.rpcwire.specs.Laws.Promise.{fresh-fits}

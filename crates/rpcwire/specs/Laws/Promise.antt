@@ -4,14 +4,14 @@ use mathlib.Core.Path.{_≡_, refl, sym, ap, _∙_, subst}
 use mathlib.Core.Logic.{_↔_}
 use mathlib.Core.List.{List, [], _∷_, _++_, foldl, foldl-append}
 use mathlib.Core.Bool.{Bool, true, false}
-use Prim.Native.Nat.{ℕ, zero, suc, _+_, _-_, _≤_, _<_}
+use Prim.Native.Nat.{ℕ, zero, suc, _+_, _-_, _≤_}
 use native.Mathlib.Nat.{add-zero}
 use native.Mathlib.Omega.{arith}
-use lib.ListN.{length, take, drop, length-set}
+use lib.ListN.{length, take, length-set}
 use Rattle.xdr.specs.Meaning.Bytes.{Bytes}
 use Rattle.xdr.specs.Meaning.Answer.{most}
 use Rattle.rpcwire.specs.Meaning.Stream.{Said, more, complete, refused, Now, stand, fresh, begin, advance, after, stepAt, feedOf, fitsOf, Feeds}
-use Rattle.rpcwire.specs.Meaning.Promise.{numberSaid, stateSaid, usedSaid, placedSaid, shiftSaid, shift, resumeSaid, resume, Kept, Promised, Promise}
+use Rattle.rpcwire.specs.Meaning.Promise.{numberSaid, stateSaid, shift, resumeSaid, resume, Promised, Promise}
 use Rattle.rpcwire.specs.Laws.Fits.{fits-header}
 use Rattle.rpcwire.specs.Laws.Steps.{begin-more, begin-stopped, begin-misfit, walk-ended, shift-walk, Sound, SoundNow, sound-walk, used, used-walk, used-begin, cut-walk, KeptNow, kept-walk, placed-begin}
 use Rattle.rpcwire.specs.declared.assembler.Assembler.{Assembler}

@@ -11,7 +11,7 @@ use lib.ListN.{length, set, take, drop, length-set}
 use lib.Seq.{take-suc-set}
 use Rattle.xdr.specs.Meaning.Bytes.{Bytes}
 use Rattle.xdr.specs.Meaning.Answer.{most}
-use Rattle.rpcwire.specs.Meaning.Stream.{Said, more, complete, refused, Now, stand, fresh, feedOf, begin, advance, after, stepAt, headerByte, headed, settled, fitsOf}
+use Rattle.rpcwire.specs.Meaning.Stream.{Said, more, complete, refused, Now, stand, fresh, feedOf, advance, after, stepAt, headerByte, headed, settled, fitsOf}
 use Rattle.rpcwire.specs.Meaning.Promise.{usedSaid, placedSaid, stateSaid, shiftSaid, shift, resumeSaid}
 use Rattle.rpcwire.specs.Meaning.Session.{Heard, noteSaid, note, hear, hearAll, joined, unheard, AllBytes, Equal, HoweverCut}
 use Rattle.rpcwire.specs.Laws.Fits.{fit}

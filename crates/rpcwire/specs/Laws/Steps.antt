@@ -12,7 +12,7 @@ use lib.Seq.{take-nil, take-set-le, drop-set-lt, take-take, drop-drop}
 use borrow.Author.Tests.{ltb-true, leb-true}
 use Rattle.xdr.specs.Meaning.Bytes.{Bytes}
 use Rattle.xdr.specs.Meaning.Answer.{most}
-use Rattle.rpcwire.specs.Meaning.Stream.{Said, more, complete, refused, Now, stand, fresh, inHeader, inFragment, halted, begin, advance, after, stepAt, headerByte, headed, settled, fitsOf}
+use Rattle.rpcwire.specs.Meaning.Stream.{Said, more, complete, refused, Now, stand, fresh, inHeader, inFragment, begin, advance, after, stepAt, headerByte, headed, settled, fitsOf}
 use Rattle.rpcwire.specs.Meaning.Promise.{usedSaid, placedSaid, shiftSaid, shift, Kept}
 use Rattle.rpcwire.specs.Laws.Fits.{Fit, fit, fits-header, fits-fragment, fits-halted, more-value}
 use Rattle.rpcwire.specs.declared.assembler.Assembler.{Assembler}

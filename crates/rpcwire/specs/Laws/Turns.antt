@@ -10,12 +10,10 @@ use native.Mathlib.Omega.{arith}
 use lib.ListN.{length, getD, set, take, drop, length-drop, length-take, drop-of-length-le}
 use lib.Seq.{sets, sets-eq, length-sets, drop-cons, drop-drop, take-all, length-take-le}
 use borrow.Rule.Slice.PartMut.{midOf, putMid}
-use Rattle.xdr.specs.Meaning.Bytes.{Bytes}
-use Rattle.rpcwire.specs.Meaning.Stream.{Said, more, complete, refused, Now, stand, feedOf, begin, advance, after, stepAt, headerByte, settled, fitsOf, Feeds}
+use Rattle.rpcwire.specs.Meaning.Stream.{Said, more, stand, feedOf, advance, after, stepAt, headerByte, settled, fitsOf}
 use Rattle.rpcwire.specs.Meaning.Promise.{usedSaid}
 use Rattle.rpcwire.specs.Laws.Fits.{Fit, fit}
 use Rattle.rpcwire.specs.Laws.Steps.{begin-more, Ended, walk-ended, Sound, sound-step, sound-settled, used-step, used-settled}
-use Rattle.rpcwire.specs.Laws.Promise.{feed-misfit, feed-stopped}
 use Rattle.rpcwire.specs.declared.assembler.Assembler.{Assembler}
 
 -- k bytes of a fragment at once

@@ -2,8 +2,8 @@
 -- Assumes nothing.
 use mathlib.Core.Path.{_≡_, refl, sym, ap, _∙_}
 use mathlib.Core.Bool.{Bool, true, false, cond}
-use mathlib.Core.List.{List, [], _++_}
-use Prim.Native.Nat.{ℕ, _+_, _-_, _≤_}
+use mathlib.Core.List.{List, []}
+use Prim.Native.Nat.{ℕ, _+_, _-_}
 use native.Mathlib.Nat.{add-zero}
 use native.Mathlib.Omega.{arith}
 use lib.Dec.{leb}
@@ -11,9 +11,9 @@ use borrow.Author.Tests.{le-leb, leb-true}
 use lib.ListN.{length, take, drop, length-drop, take-append-drop}
 use lib.Seq.{take-at, length-take-le}
 use Rattle.xdr.specs.Meaning.Bytes.{Bytes, Stands}
-use Rattle.xdr.specs.Meaning.Answer.{Answer, took, refused, Loose, clean}
+use Rattle.xdr.specs.Meaning.Answer.{took, refused, Loose, clean}
 use Rattle.xdr.specs.Meaning.Kind.{Sound, Lawful}
-use Rattle.xdr.specs.Meaning.Combinators.{blockKind, voidKind, Raw}
+use Rattle.xdr.specs.Meaning.Combinators.{blockKind, voidKind}
 use Rattle.xdr.specs.Laws.Lists.{bytes-take, bytes-drop, room}
 
 module _ (n : ℕ) where

@@ -1,13 +1,13 @@
 -- Bytes copied as numbers, and as two runs that may overlap.
 -- Assumes nothing.
-use mathlib.Core.Path.{_≡_, refl, sym, ap, ap₂, _∙_}
+use mathlib.Core.Path.{_≡_, sym, ap, ap₂, _∙_}
 use mathlib.Core.List.{List, _++_, append-assoc}
 use Prim.Native.Nat.{ℕ, _+_, _-_, _≤_}
 use native.Mathlib.Omega.{arith}
 use lib.ListN.{length, take, drop, take-append-drop, length-append, length-drop}
 use lib.Seq.{length-take-le, take-all, take-length, take-append-le, take-take, drop-append-add, drop-drop, take-add}
 use borrow.Rule.Slice.PartMut.{midOf, putMid}
-use Rattle.xdr.specs.Meaning.Bytes.{Bytes, digits, value, numberAt}
+use Rattle.xdr.specs.Meaning.Bytes.{Bytes, digits, numberAt}
 use Rattle.xdr.specs.Meaning.Items.{hyper}
 use Rattle.xdr.specs.Meaning.Public.{laid}
 use Rattle.xdr.specs.Laws.Digits.{digits-value, value-at}

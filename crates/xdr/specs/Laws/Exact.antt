@@ -7,7 +7,6 @@ use Prim.Native.Nat.{ℕ}
 use native.Mathlib.Omega.{arith}
 use lib.Dec.{eqb}
 use borrow.Author.Tests.{eqb-true}
-use Rattle.xdr.specs.Meaning.Answer.{Loose}
 use Rattle.xdr.specs.Meaning.Combinators.{Seen, means, undeclared, Faithful, Exact, among}
 
 module _ {M N : Type 0} (Good : M → Type 0) (to : N → M) where

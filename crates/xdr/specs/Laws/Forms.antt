@@ -2,23 +2,22 @@
 -- Assumes nothing.
 use mathlib.Core.Path.{_≡_, refl, sym, ap, ap₂, _∙_, subst}
 use mathlib.Core.Logic.{_↔_}
-use mathlib.Core.Bool.{Bool, true, false, not, cond}
+use mathlib.Core.Bool.{Bool, not, cond}
 use mathlib.Core.List.{List, [], _∷_, _++_, append-nil}
-use Prim.Native.Nat.{ℕ, zero, suc, _+_, _*_, _^_, _<_, _≤_}
+use Prim.Native.Nat.{ℕ, zero, suc, _+_, _^_, _<_}
 use native.Mathlib.Omega.{arith}
 use lib.Dec.{eqb, leb}
 use lib.ListN.{length}
-use borrow.Author.Tests.{le-leb, lt-leb, eq-eqb, ne-eqb}
+use borrow.Author.Tests.{lt-leb, ne-eqb}
 use Rattle.xdr.specs.Meaning.Bytes.{Bytes, digits, padding, zeros}
 use Rattle.xdr.specs.Meaning.Answer.{Loose, odd-flag, dirty-pad}
 use Rattle.xdr.specs.Meaning.Kind.{Codec}
-use Rattle.xdr.specs.Meaning.Combinators.{Seen, means}
+use Rattle.xdr.specs.Meaning.Combinators.{means}
 use Rattle.xdr.specs.Meaning.Shapes.{Tuple}
 use Rattle.xdr.specs.Meaning.Codecs.{times}
-use Rattle.xdr.specs.Meaning.Items.{number, word, flag, seeFlag, fromFlag, opaque, words}
+use Rattle.xdr.specs.Meaning.Items.{number, word, flag, seeFlag, opaque, words}
 use Rattle.xdr.specs.Meaning.Forms.{NumberForm, FlagForm, OpaqueForm, allDigits, AllWords, WordsForm}
-use Rattle.xdr.specs.Meaning.Shapes.{toList, fromList}
-use Rattle.xdr.specs.Laws.Made.{list-from-to}
+use Rattle.xdr.specs.Meaning.Shapes.{fromList}
 
 -- of any codec, the forms with nothing loose are what is written of the messages in range
 pub plain-form : {M : Type 0} (C : Codec M) (m : M) (e : List ℕ) → C .kind .Form m [] e ↔ (C .kind .Good m × (e ≡ C .kind .write m))

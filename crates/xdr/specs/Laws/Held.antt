@@ -1,11 +1,11 @@
 -- The combinators keep the link between what is held and what is meant.
 -- Assumes nothing.
 use mathlib.Core.Path.{_≡_, refl, sym, ap, ap₂, _∙_, subst}
-use mathlib.Core.Bool.{Bool, true, false, _&&_}
+use mathlib.Core.Bool.{Bool, true, _&&_}
 use mathlib.Core.List.{List}
 use Prim.Native.Nat.{ℕ}
 use native.Mathlib.Omega.{arith}
-use Rattle.xdr.specs.Meaning.Answer.{Answer, took, refused, mapAnswer, Taken, Loose, clean}
+use Rattle.xdr.specs.Meaning.Answer.{Answer, took, refused, mapAnswer, Taken}
 use Rattle.xdr.specs.Meaning.Kind.{Codec}
 use Rattle.xdr.specs.Meaning.Combinators.{first, second, Seen, means, undeclared, View, meant, look}
 use Rattle.xdr.specs.Meaning.Codecs.{chain, view}

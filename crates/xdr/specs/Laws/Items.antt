@@ -1,6 +1,6 @@
 -- The views by which the items are defined are faithful.
 -- Assumes nothing.
-use mathlib.Core.Path.{_≡_, refl, sym, ap, ap₂, _∙_}
+use mathlib.Core.Path.{_≡_, refl, ap}
 use mathlib.Core.Bool.{Bool, true, false, cond}
 use mathlib.Core.List.{List, [], _∷_}
 use Prim.Native.Nat.{ℕ, zero, suc, _+_, _-_, _^_, _<_, _≤_}
@@ -11,7 +11,7 @@ use lib.ListN.{length, replicate, length-replicate}
 use borrow.Author.Tests.{eqb-true, lt-ltb, le-ltb, ltb-true, ltb-false}
 use Rattle.xdr.specs.Meaning.Bytes.{Bytes, value, digits, padding, zeros, signed, unsigned, InHalf}
 use Rattle.xdr.specs.Meaning.Answer.{Loose, dirty-pad}
-use Rattle.xdr.specs.Meaning.Combinators.{Raw, Seen, means, undeclared, Faithful}
+use Rattle.xdr.specs.Meaning.Combinators.{Raw, means}
 use Rattle.xdr.specs.Laws.Marks.{and-left, and-right}
 use Rattle.xdr.specs.Laws.Digits.{value-lt, digits-bytes, value-digits, digits-value, length-digits}
 

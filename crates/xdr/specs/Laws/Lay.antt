@@ -1,11 +1,11 @@
 -- What the code's stores leave: a word, an opaque and a list of words at the front of a buffer.
 -- Assumes nothing.
 use mathlib.Core.Path.{_≡_, refl, sym, ap, ap₂, subst, _∙_}
-use mathlib.Core.Bool.{Bool, true, false, cond}
+use mathlib.Core.Bool.{Bool, true, false}
 use mathlib.Core.List.{List, [], _∷_, _++_, append-assoc}
 use Prim.Native.Nat.{ℕ, zero, suc, _+_, _-_, _*_, _/_, _%_, _<_, _≤_}
 use native.Mathlib.Omega.{arith}
-use lib.ListN.{length, take, drop, replicate, length-append, length-drop, length-replicate}
+use lib.ListN.{length, take, drop, replicate, length-append, length-drop}
 use lib.Seq.{sets, drop-append-add, length-take-le}
 use borrow.Rule.Slice.PartMut.{midOf, putMid}
 use lib.IntN.{ℤ}

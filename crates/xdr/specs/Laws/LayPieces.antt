@@ -1,23 +1,23 @@
 -- What laying an opaque or a word list, as a part of its source, leaves.
 -- Assumes nothing.
-use mathlib.Core.Path.{_≡_, refl, sym, ap, ap₂, _∙_}
+use mathlib.Core.Path.{_≡_, sym, ap, _∙_}
 use mathlib.Core.Bool.{Bool, true, false, not}
-use mathlib.Core.List.{List, [], _++_}
-use Prim.Native.Nat.{ℕ, _+_, _-_, _*_, _/_, _<_, _≤_}
+use mathlib.Core.List.{List, _++_}
+use Prim.Native.Nat.{ℕ, _+_, _-_, _*_, _≤_}
 use native.Mathlib.Omega.{arith}
 use lib.ListN.{length, take, drop, length-drop}
 use lib.Seq.{length-take-le}
 use borrow.Author.Tests.{not-true, not-false}
 use Rattle.xdr.specs.Meaning.Bytes.{Bytes}
 use Rattle.xdr.specs.Meaning.Answer.{most}
-use Rattle.xdr.specs.Meaning.Items.{word, opaque, words}
-use Rattle.xdr.specs.Meaning.Pieces.{bytesIn, wordsIn, isInside, areInside, opaqueSize, sizeUpTo, wordsUpTo}
+use Rattle.xdr.specs.Meaning.Items.{word, opaque}
+use Rattle.xdr.specs.Meaning.Pieces.{isInside, areInside, opaqueSize, sizeUpTo, wordsUpTo}
 use Rattle.xdr.specs.Meaning.Formats.{bytes, pieceHeld, wordList, wordsHeld}
 use Rattle.xdr.specs.Meaning.Public.{output, laidOf}
 use Rattle.xdr.specs.Laws.Pieces.{piece-part, inside-le}
 use Rattle.xdr.specs.Laws.Words.{words-part, words-le, words-bytes, words-length}
 use Rattle.xdr.specs.Laws.Padding.{opaque-length, piece-long, size-within, words-within}
-use Rattle.xdr.specs.Laws.Write.{Put, put-same, Ready, of-long, of-outside, of-short, of-is}
+use Rattle.xdr.specs.Laws.Write.{Put, put-same, Ready, of-outside, of-is}
 use Rattle.xdr.specs.declared.piece.Piece.{Piece}
 
 -- what a test of a piece showed

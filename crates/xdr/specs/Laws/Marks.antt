@@ -1,11 +1,11 @@
 -- What is loose in two parts is loose in the whole.
 -- Assumes nothing.
-use mathlib.Core.Path.{_≡_, refl, ap}
-use mathlib.Core.Bool.{Bool, true, false, cond, _&&_}
+use mathlib.Core.Path.{_≡_, refl}
+use mathlib.Core.Bool.{Bool, true, false, _&&_}
 use mathlib.Core.List.{List, [], _∷_, _++_}
 use Prim.Native.Nat.{ℕ}
 use native.Mathlib.Omega.{arith}
-use Rattle.xdr.specs.Meaning.Answer.{Loose, dirty-pad, clean}
+use Rattle.xdr.specs.Meaning.Answer.{Loose, clean}
 
 pub clean-append : (v w : List Loose) → clean (v ++ w) ≡ (clean v && clean w)
 clean-append [] w = refl

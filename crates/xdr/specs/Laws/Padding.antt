@@ -2,9 +2,9 @@
 -- Assumes nothing.
 use mathlib.Core.Path.{_≡_, refl, sym, ap, ap₂, _∙_}
 use mathlib.Core.Bool.{Bool, true, false, cond, _&&_, and-true}
-use mathlib.Core.List.{List, [], _∷_, _++_, append-assoc}
+use mathlib.Core.List.{List, _++_}
 use Prim.Native.Nat.{ℕ, zero, suc, _+_, _-_, _*_, _/_, _%_, _<_, _≤_}
-use native.Mathlib.Nat.{add-assoc, add-zero}
+use native.Mathlib.Nat.{add-assoc}
 use native.Mathlib.Numerals.{add-one}
 use native.Mathlib.Omega.{arith}
 use lib.Dec.{eqb, leb}
@@ -13,7 +13,7 @@ use lib.ListN.{length, getD, take, drop, replicate, length-append, length-drop, 
 use lib.Seq.{drop-cons, length-take-le}
 use borrow.Author.Tests.{eq-eqb, ne-eqb, eqb-true, eqb-false, le-leb, lt-leb, leb-true}
 use Rattle.xdr.specs.Meaning.Bytes.{value, digits, unsigned, numberAt, padding, zeros}
-use Rattle.xdr.specs.Meaning.Answer.{Answer, took, refused, most}
+use Rattle.xdr.specs.Meaning.Answer.{took, refused, most}
 use Rattle.xdr.specs.Meaning.Items.{number, word, hyper, word-pair, hyper-pair, flag, fromFlag, int, long, eight, opaque}
 use Rattle.xdr.specs.Meaning.Pieces.{bytesIn, isInside, pieceAnswer, opaqueSize, sizeUpTo, wordsUpTo}
 use Rattle.xdr.specs.Laws.Digits.{length-digits}

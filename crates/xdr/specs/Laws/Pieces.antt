@@ -11,11 +11,11 @@ use lib.ListN.{length, take, drop, length-take, length-drop, length-append}
 use lib.Seq.{take-append-le, drop-append-le}
 use borrow.Author.Tests.{le-leb, lt-leb, leb-true}
 use Rattle.xdr.specs.Meaning.Bytes.{Bytes, numberAt, padding, zeros}
-use Rattle.xdr.specs.Meaning.Answer.{Answer, took, refused, mapAnswer, Taken, most}
+use Rattle.xdr.specs.Meaning.Answer.{took, refused, mapAnswer, Taken, most}
 use Rattle.xdr.specs.Meaning.Items.{number, word, opaque}
-use Rattle.xdr.specs.Meaning.Pieces.{bytesIn, isInside, partOf, pieceAnswer, pieceAt, nothing}
+use Rattle.xdr.specs.Meaning.Pieces.{bytesIn, isInside, partOf, pieceAt, nothing}
 use Rattle.xdr.specs.Laws.Lists.{bytes-take, bytes-drop}
-use Rattle.xdr.specs.Laws.Reading.{opaqueAnswer, opaqueAt, opaque-read}
+use Rattle.xdr.specs.Laws.Reading.{opaque-read}
 use Rattle.xdr.specs.declared.piece.Piece.{Piece}
 
 module _ (s : List ℕ) (p : ℕ) where

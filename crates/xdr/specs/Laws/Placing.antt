@@ -2,7 +2,7 @@
 -- the encoding, the length of the buffer, and the place.
 -- Assumes nothing.
 use mathlib.Core.Path.{_≡_, refl, sym, ap, ap₂, subst, _∙_}
-use mathlib.Core.Bool.{Bool, true, false, cond}
+use mathlib.Core.Bool.{Bool, true, false}
 use mathlib.Core.List.{List}
 use Prim.Native.Nat.{ℕ, _+_, _-_, _≤_, _<_}
 use native.Mathlib.Omega.{arith}
@@ -11,17 +11,10 @@ use lib.ListN.{length}
 use borrow.Author.Tests.{le-leb, lt-leb, leb-true}
 use borrow.Rule.Slice.PartMut.{midOf, putMid}
 use Rattle.xdr.specs.Meaning.Answer.{most, Written, done, unwritten}
+use Rattle.xdr.specs.Meaning.Order.{placing}
 use Rattle.xdr.specs.Meaning.Format.{Format}
 use Rattle.xdr.specs.Meaning.Public.{output, writing, Writes, laidOf}
 use Rattle.xdr.specs.Laws.Write.{Put, Ready, Done, was-done, writes-done, room-at, put-laid-of}
-
-unfoldable pub placing : ℕ → Bool → ℕ → ℕ → ℕ → Written
-placing source inside size room at =
-    cond (leb at room)
-    (cond (leb source most)
-    (cond inside (cond (leb size most) (cond (leb (at + size) room) (done (at + size)) (unwritten 5)) (unwritten 3)) (unwritten 4))
-    (unwritten 3))
-    (unwritten 9)
 
 module _ (source : ℕ) (inside : Bool) (size room at : ℕ) where
   pub placing-past : room < at → unwritten 9 ≡ placing source inside size room at

@@ -1,7 +1,7 @@
 -- Demands 2 and 3 hold of the answers of every public reader, and what it answers by the tests that come first.
 -- Assumes nothing.
 use mathlib.Core.Path.{_≡_, refl, sym, ap, _∙_}
-use mathlib.Core.Bool.{Bool, true, false, cond}
+use mathlib.Core.Bool.{Bool, true, false}
 use mathlib.Core.List.{List}
 use Prim.Native.Nat.{ℕ, _<_, _≤_}
 use native.Mathlib.Omega.{arith}
@@ -10,7 +10,6 @@ use lib.ListN.{length, getD}
 use borrow.Author.Tests.{le-leb, lt-leb, leb-true}
 use mir.Syntax.{w8}
 use mir.Val.{Fits}
-use Rattle.xdr.specs.Meaning.Bytes.{Bytes}
 use Rattle.xdr.specs.Meaning.Answer.{Answer, took, refused, most, opened}
 use Rattle.xdr.specs.Meaning.Promise.{Begins, Accepted, Reading}
 use Rattle.xdr.specs.Meaning.Format.{Format}

@@ -1,16 +1,15 @@
 -- What reading an item is to code: a test of the room, and numbers by their places.
 -- Assumes nothing.
-use mathlib.Core.Path.{_≡_, refl, sym, ap, ap₂, _∙_}
-use mathlib.Core.Bool.{Bool, true, false, cond, _&&_, and-true}
+use mathlib.Core.Path.{_≡_, refl}
+use mathlib.Core.Bool.{Bool, true, false, cond, _&&_}
 use mathlib.Core.List.{List, [], _∷_}
-use Prim.Native.Nat.{ℕ, zero, suc, _+_, _*_, _-_, _^_, _≤_, _<_}
+use Prim.Native.Nat.{ℕ, zero, _+_, _-_, _≤_, _<_}
 use native.Mathlib.Omega.{arith}
 use lib.Dec.{leb}
-use lib.ListN.{length, getD, take, drop, length-drop}
-use lib.Seq.{length-take-le}
+use lib.ListN.{length, take, drop}
 use borrow.Author.Tests.{leb-true, leb-false, le-leb, lt-leb}
 use Rattle.xdr.specs.Meaning.Bytes.{numberAt, padding, zeros}
-use Rattle.xdr.specs.Meaning.Answer.{Answer, took, refused, Loose, dirty-pad, clean}
+use Rattle.xdr.specs.Meaning.Answer.{Answer, took, refused, dirty-pad, clean}
 use Rattle.xdr.specs.Meaning.Items.{number, word, opaque}
 use Rattle.xdr.specs.Laws.Digits.{value-at}
 

@@ -9,7 +9,8 @@ use lib.Dec.{leb}
 use lib.ListN.{length}
 use borrow.Author.Tests.{leb-true, leb-false, le-leb, lt-leb}
 use borrow.Rule.Slice.PartMut.{midOf, putMid}
-use Rattle.xdr.specs.Meaning.Answer.{most, Written, done, unwritten}
+use Rattle.xdr.specs.Meaning.Answer.{most, done, unwritten}
+use Rattle.xdr.specs.Meaning.Order.{roomed}
 use Rattle.xdr.specs.Meaning.Format.{Format}
 use Rattle.xdr.specs.Meaning.Public.{output, Writes, laid, laidOf}
 use Rattle.xdr.specs.Meaning.Views.{viewWrote}
@@ -17,10 +18,6 @@ use Rattle.xdr.specs.Laws.Write.{Ready, writes-past, sized-short, sized-
 use Rattle.xdr.specs.declared.answer.Wrote.{Wrote}
 use Rattle.xdr.specs.declared.answer.Wrote.the-variants as wrote
 use Rattle.xdr.specs.declared.refusal.Refusal.{Refusal}
-
--- where `size` bytes from `at` on end, in a buffer of `len`
-unfoldable pub roomed : ℕ → ℕ → ℕ → Written
-roomed len at size = cond (leb at len) (cond (leb (at + size) len) (done (at + size)) (unwritten 5)) (unwritten 9)
 
 module _ (len at size : ℕ) where
   pub room-past : len < at → unwritten 9 ≡ roomed len at size

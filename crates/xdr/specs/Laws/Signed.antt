@@ -1,15 +1,14 @@
 -- Two's complement as the machine has it: what the code computes of a word, and of a signed number, for every width.
 -- Assumes nothing.
-use mathlib.Core.Path.{_≡_, refl, sym, ap, _∙_}
-use Prim.Native.Nat.{ℕ, zero, suc, _+_, _-_, _^_, _<_, _≤_}
+use mathlib.Core.Path.{_≡_, refl, ap, _∙_}
+use Prim.Native.Nat.{ℕ, zero, suc, _-_, _^_, _<_, _≤_}
 use native.Mathlib.Omega.{arith}
-use mathlib.Core.Bool.{Bool, true, false}
-use lib.IntN.{ℤ, pos, negsuc, _-ℤ_, natAbs}
-use lib.Dec.{T}
-use lib.Signed.{ltZ, nonNeg}
+use mathlib.Core.Bool.{true, false}
+use lib.IntN.{ℤ, pos, negsuc, _-ℤ_}
+use lib.Signed.{ltZ}
 use borrow.Author.Tests.{le-ltb, ltb-true}
 use mir.Syntax.{Width}
-use mir.Val.{Fits, SFits, hbits, bits, toZ, ofZ}
+use mir.Val.{SFits, hbits, toZ, ofZ}
 use mir.ValLaws.{toZ-pos, toZ-ofZ}
 
 -- -1 - m, for a number of the type's lower half

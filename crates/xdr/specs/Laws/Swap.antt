@@ -1,12 +1,12 @@
 -- A word in the other order of its bytes.
 -- Assumes nothing.
-use mathlib.Core.Path.{_≡_, refl, sym, ap, _∙_}
+use mathlib.Core.Path.{_≡_, _∙_}
 use mathlib.Core.List.{List, [], _∷_, _++_}
-use Prim.Native.Nat.{ℕ, _^_, _+_, _*_, _<_, _/_, _%_}
+use Prim.Native.Nat.{ℕ, _+_, _*_, _<_, _/_, _%_}
 use native.Mathlib.Nat.{add-assoc, mul-one, add-zero, div-one}
 use native.Mathlib.Omega.{arith}
 use lib.ListN.{getD}
-use Rattle.xdr.specs.Meaning.Bytes.{digits, numberAt}
+use Rattle.xdr.specs.Meaning.Bytes.{numberAt}
 use Rattle.xdr.specs.Meaning.Items.{number, word, hyper}
 use Rattle.xdr.specs.Laws.Digits.{digits-append}
 

@@ -1,11 +1,11 @@
 -- A lawful kind, faithfully seen as another, is lawful.
 -- Assumes nothing.
-use mathlib.Core.Path.{_≡_, refl, sym, ap, ap₂, _∙_, subst}
+use mathlib.Core.Path.{_≡_, refl, sym, ap, _∙_, subst}
 use mathlib.Core.Bool.{Bool, _&&_}
-use mathlib.Core.List.{List, [], _∷_, _++_}
+use mathlib.Core.List.{List, [], _++_}
 use Prim.Native.Nat.{ℕ, _+_}
 use lib.ListN.{length}
-use Rattle.xdr.specs.Meaning.Bytes.{Bytes, Stands}
+use Rattle.xdr.specs.Meaning.Bytes.{Stands}
 use Rattle.xdr.specs.Meaning.Answer.{Answer, took, refused, Loose, clean}
 use Rattle.xdr.specs.Meaning.Kind.{Kind, Found, Sound, Lawful}
 use Rattle.xdr.specs.Meaning.Combinators.{Seen, means, undeclared, Faithful, View, meant, look, Viewed, viewKind}

@@ -3,16 +3,16 @@
 use mathlib.Core.Path.{_≡_, refl, sym, ap, ap₂, _∙_}
 use mathlib.Core.Bool.{Bool, true, false, cond}
 use mathlib.Core.List.{List, [], _∷_, _++_}
-use mathlib.Core.Option.{Option, none, some}
+use mathlib.Core.Option.{none, some}
 use Prim.Native.Nat.{ℕ, zero, suc, _+_, _*_, _^_, _-_, _≤_, _<_}
 use native.Mathlib.Omega.{arith}
-use native.Mathlib.Nat.{add-assoc, add-zero, zero-add, suc-add}
+use native.Mathlib.Nat.{add-zero, zero-add, suc-add}
 use lib.Dec.{leb}
 use lib.ListN.{length, take, drop, length-drop, length-append, List·getD-append}
 use lib.Seq.{length-take-le, drop-drop}
 use borrow.Author.Tests.{le-leb, lt-leb, leb-true, leb-false}
 use Rattle.xdr.specs.Meaning.Bytes.{Bytes, value, digits, numberAt}
-use Rattle.xdr.specs.Meaning.Answer.{Answer, took, refused, mapAnswer, Taken, most}
+use Rattle.xdr.specs.Meaning.Answer.{took, refused, mapAnswer, Taken, most}
 use Rattle.xdr.specs.Meaning.Shapes.{Tuple}
 use Rattle.xdr.specs.Meaning.Codecs.{times}
 use Rattle.xdr.specs.Meaning.Items.{number, word, words}

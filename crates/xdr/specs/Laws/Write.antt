@@ -1,21 +1,20 @@
 -- What a writer leaves in its buffer: fields one after another, each lent the tail; and that what was written reads back as itself.
 -- Assumes nothing.
 use mathlib.Core.Path.{_≡_, refl, sym, ap, ap₂, _∙_}
-use mathlib.Core.Bool.{Bool, true, false, cond}
-use mathlib.Core.List.{List, [], _∷_, _++_, append-assoc, append-nil}
-use Prim.Native.Nat.{ℕ, zero, suc, _+_, _-_, _<_, _≤_}
+use mathlib.Core.Bool.{Bool, true, false}
+use mathlib.Core.List.{List, [], _++_, append-assoc, append-nil}
+use Prim.Native.Nat.{ℕ, _+_, _-_, _<_, _≤_}
 use native.Mathlib.Omega.{arith}
 use lib.Dec.{leb}
-use lib.ListN.{length, take, drop, length-append, length-take, length-drop, take-append-drop, drop-of-length-le}
+use lib.ListN.{length, take, drop, length-append, length-drop, drop-of-length-le}
 use native.Mathlib.Nat.{zero-add}
-use lib.Seq.{sets, sets-eq, take-append-seam, drop-append-seam, drop-append-add, drop-drop, take-all, take-at, take-length, drop-at, length-take-le}
+use lib.Seq.{sets, sets-eq, drop-drop, take-all, take-at, take-length, drop-at, length-take-le}
 use borrow.Author.Tests.{le-leb, lt-leb, leb-true}
 use borrow.Rule.Slice.PartMut.{midOf, putMid, mid-len}
-use Rattle.xdr.specs.Meaning.Bytes.{part}
-use Rattle.xdr.specs.Meaning.Answer.{Answer, took, refused, most, Written, done, unwritten}
+use Rattle.xdr.specs.Meaning.Answer.{took, most, Written, done, unwritten}
 use Rattle.xdr.specs.Meaning.Kind.{Codec}
 use Rattle.xdr.specs.Meaning.Format.{Format, exactly}
-use Rattle.xdr.specs.Meaning.Public.{Answers, output, writing, leaving, InRange, Writes, Back, laid, laidOf}
+use Rattle.xdr.specs.Meaning.Public.{output, writing, leaving, Writes, Back, laid, laidOf}
 use Rattle.xdr.specs.Laws.Promise.{keeps}
 use Rattle.xdr.specs.Laws.Held.{means-taken}
 use Rattle.xdr.specs.Laws.Public.{opened-in}

@@ -1,14 +1,11 @@
 -- Lawful kinds, and the combinators that make one of others.
 -- Assumes nothing.
 use mathlib.Core.Path.{_≡_, ap}
-use mathlib.Core.Bool.{Bool, true, false, cond}
-use mathlib.Core.List.{List, [], _∷_}
+use mathlib.Core.List.{List, []}
 use Prim.Native.Nat.{ℕ, zero, suc}
-use lib.Dec.{eqb}
-use Rattle.xdr.specs.Meaning.Answer.{Loose}
 use Rattle.xdr.specs.Meaning.Kind.{Codec}
 use Rattle.xdr.specs.Meaning.Shapes.{Tuple}
-use Rattle.xdr.specs.Meaning.Combinators.{blockKind, voidKind, chainKind, Seen, means, undeclared, View, viewKind, itemKind}
+use Rattle.xdr.specs.Meaning.Combinators.{blockKind, voidKind, chainKind, Seen, means, View, viewKind, itemKind}
 use Rattle.xdr.specs.Laws.Block.{block-lawful, void-lawful}
 use Rattle.xdr.specs.Laws.Chain.{chain-lawful}
 use Rattle.xdr.specs.Laws.View.{view-lawful}

@@ -1,15 +1,14 @@
 -- A format: a codec of messages, and its link to what the code holds of them. The combinators make both at once.
 -- Assumes nothing.
-use mathlib.Core.Path.{_≡_, refl, sym, ap, _∙_}
+use mathlib.Core.Path.{_≡_, sym, ap, _∙_}
 use mathlib.Core.Bool.{Bool, true, false}
-use mathlib.Core.Option.{Option, none, some}
+use mathlib.Core.Option.{Option}
 use mathlib.Core.List.{List, []}
 use Prim.Native.Nat.{ℕ}
-use Rattle.xdr.specs.Meaning.Answer.{Loose}
 use Rattle.xdr.specs.Meaning.Kind.{Codec}
-use Rattle.xdr.specs.Meaning.Combinators.{Seen, means, undeclared, View}
+use Rattle.xdr.specs.Meaning.Combinators.{Seen, means, View}
 use Rattle.xdr.specs.Meaning.Codecs.{void, chain, view, seen, exactView}
-use Rattle.xdr.specs.Meaning.Items.{word, flag, if, option}
+use Rattle.xdr.specs.Meaning.Items.{word, flag}
 use Rattle.xdr.specs.Meaning.Held.{Held, thenFirst, thenMean, thenInside, Holds, lookAt, mapSeen, Meant}
 use Rattle.xdr.specs.Meaning.Combinators.{Exact}
 use Rattle.xdr.specs.Meaning.Shapes.{If, toOption, fromOption}

@@ -1,19 +1,17 @@
 -- The formats of the items: what the code holds of each.
 -- Assumes nothing.
 use mathlib.Core.Path.{refl}
-use mathlib.Core.Bool.{Bool, true}
+use mathlib.Core.Bool.{true}
 use mathlib.Core.List.{List, []}
 use Prim.Native.Nat.{ℕ}
-use lib.IntN.{ℤ}
 use Rattle.xdr.specs.Meaning.Bytes.{digits}
 use Rattle.xdr.specs.Meaning.Combinators.{means}
-use Rattle.xdr.specs.Meaning.Items.{word, hyper, flag, int, long, eight, opaque, words}
+use Rattle.xdr.specs.Meaning.Items.{word, hyper, eight, opaque, words}
 use Rattle.xdr.specs.Meaning.Held.{Held}
-use Rattle.xdr.specs.Meaning.Format.{Format, exactly, plain, heldView}
+use Rattle.xdr.specs.Meaning.Format.{Format, plain, heldView}
 use Rattle.xdr.specs.Meaning.Pieces.{bytesIn, isInside, pieceAt, wordsIn, areInside, wordPieceAt}
 use Rattle.xdr.specs.Laws.Pieces.{piece-agrees, piece-kept}
 use Rattle.xdr.specs.Laws.Words.{words-agrees, words-kept}
-use Rattle.xdr.specs.Laws.Items.{eight-faithful, eight-to-good, eight-see-to}
 use Rattle.xdr.specs.declared.piece.Piece.{Piece}
 
 -- eight bytes are held as the number that they write

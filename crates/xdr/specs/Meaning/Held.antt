@@ -4,7 +4,7 @@ use mathlib.Core.Path.{_≡_}
 use mathlib.Core.Bool.{Bool, true, _&&_}
 use mathlib.Core.List.{List}
 use Prim.Native.Nat.{ℕ}
-use Rattle.xdr.specs.Meaning.Answer.{Answer, took, refused, mapAnswer, Taken, Loose, clean}
+use Rattle.xdr.specs.Meaning.Answer.{Answer, took, refused, mapAnswer, Taken, clean}
 use Rattle.xdr.specs.Meaning.Kind.{Codec}
 use Rattle.xdr.specs.Meaning.Combinators.{Seen, means, undeclared}
 

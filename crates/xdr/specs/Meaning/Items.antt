@@ -8,7 +8,7 @@ use Prim.Native.Nat.{ℕ, zero, suc, _+_, _-_, _^_, _<_}
 use lib.IntN.{ℤ}
 use lib.ListN.{length, replicate}
 use Rattle.xdr.specs.Meaning.Bytes.{Bytes, value, digits, padding, zeros, signed, unsigned, InHalf}
-use Rattle.xdr.specs.Meaning.Answer.{Loose, odd-flag, dirty-pad}
+use Rattle.xdr.specs.Meaning.Answer.{odd-flag, dirty-pad}
 use Rattle.xdr.specs.Meaning.Kind.{Codec}
 use Rattle.xdr.specs.Meaning.Combinators.{Raw, Seen, means, undeclared}
 use Rattle.xdr.specs.Meaning.Codecs.{block, void, chain, view, item, seen, _⨾_, mapped, times}

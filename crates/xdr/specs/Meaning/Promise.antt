@@ -7,7 +7,7 @@ use mathlib.Core.List.{List, []}
 use Prim.Native.Nat.{ℕ, _+_, _-_, _≤_, max}
 use lib.ListN.{length}
 use Rattle.xdr.specs.Meaning.Bytes.{Bytes, Stands, part}
-use Rattle.xdr.specs.Meaning.Answer.{Answer, took, refused, mapAnswer, Loose}
+use Rattle.xdr.specs.Meaning.Answer.{took, refused, mapAnswer, Loose}
 use Rattle.xdr.specs.Meaning.Kind.{Kind}
 
 module _ {M : Type 0} (K : Kind M) where

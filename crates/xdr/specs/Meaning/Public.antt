@@ -8,7 +8,7 @@ use Prim.Native.Nat.{ℕ, _+_, _≤_}
 use lib.Dec.{leb}
 use lib.ListN.{length, take, drop}
 use Rattle.xdr.specs.Meaning.Bytes.{Bytes, part}
-use Rattle.xdr.specs.Meaning.Answer.{Answer, took, refused, most, opened, Written, done, unwritten}
+use Rattle.xdr.specs.Meaning.Answer.{Answer, took, most, opened, Written, done, unwritten}
 use Rattle.xdr.specs.Meaning.Promise.{Begins}
 use Rattle.xdr.specs.Meaning.Format.{Format}
 

@@ -1,7 +1,6 @@
 use borrow.Author.Needs.{needs}
 use mathlib.Core.Path.{refl, ap, sym}
 use mathlib.Core.Bool.{cond}
-use Prim.Native.Nat.{ℕ}
 use denote.Ref.{now}
 use Rattle.door.specs.Laws.Exports.{tell-unknown, tell-unread, tell-unwritten, tell-done}
 use Rattle.door.proofs.exports.tell_copied.Statement.{statement}

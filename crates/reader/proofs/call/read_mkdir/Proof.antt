@@ -1,6 +1,6 @@
 -- `read_mkdir` meets its contract: `InOrder`'s walk, at its three steps and `joined_of`.
 -- Assumes nothing.
-use mathlib.Core.Path.{_≡_, refl, sym, ap, subst}
+use mathlib.Core.Path.{_≡_, sym, ap, subst}
 use mathlib.Core.List.{[], _∷_}
 use mir.Syntax.{erased}
 use contract.Running.{givenOf, tables, tablesOf}
@@ -23,7 +23,7 @@ use Rattle.reader.specs.Meaning.Step.{Stepped, joined}
 use Rattle.reader.specs.Meaning.Call.{mkdir, viewMkdir}
 use Rattle.reader.specs.Laws.Call.{mkdir-steps}
 use Rattle.reader.proofs.Stepping.{α}
-use Rattle.reader.proofs.InOrder.{Link, result-val, End, Step, Joined, meets}
+use Rattle.reader.proofs.InOrder.{Link, End, Step, Joined, meets}
 use Rattle.rpc.proofs.answer.RpcMsgRead as M
 use Rattle.rpc.proofs.answer.RpcMsgRead.Laws as M′
 use Rattle.reader.proofs.step.RpcMsgStep as MK

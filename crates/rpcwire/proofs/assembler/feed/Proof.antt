@@ -3,10 +3,10 @@ use borrow.Author.Needs.{needs}
 use native.Mathlib.Omega.{arith}
 use mathlib.Core.Path.{_≡_, sym, ap, _∙_, subst, subst₂}
 use mathlib.Core.List.{List, foldl}
-use mathlib.Core.Bool.{true, false}
+use mathlib.Core.Bool.{true}
 use mathlib.Core.Logic.{_⊎_, ⊎-elim}
-use Prim.Native.Nat.{ℕ, _+_, _-_, _*_, _<_, _≤_, min}
-use lib.ListN.{length, take, drop, getD}
+use Prim.Native.Nat.{ℕ, _+_, _-_, _*_, _≤_}
+use lib.ListN.{length, take, drop}
 use lib.Seq.{sets}
 use denote.Ref.{now}
 use borrow.Rule.Slice.PartMut.{putMid}
@@ -15,7 +15,6 @@ use Rattle.xdr.specs.Meaning.Bytes.{Bytes}
 use Rattle.xdr.specs.Laws.Lists.{known-bytes}
 use Rattle.rpcwire.specs.Meaning.Stream.{Said, more, stand, advance, fitsOf, headerByte, Feeds}
 use Rattle.rpcwire.specs.Meaning.Views.{viewFed}
-use Rattle.rpcwire.specs.Laws.Fits.{Fit}
 use Rattle.rpcwire.specs.Laws.Steps.{Ended}
 use Rattle.rpcwire.specs.Laws.Promise.{feed-misfit, feed-stopped}
 use Rattle.rpcwire.specs.Laws.Turns.{Going, Turned, header-turned, bytes-turned, turned-out, turned-used, turned-on, going, feed-begun, feed-over, value-bound, part-fits, part-stored, moved-on}

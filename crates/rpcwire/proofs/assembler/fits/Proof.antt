@@ -1,6 +1,6 @@
 use borrow.Author.Needs.{needs}
 use native.Mathlib.Omega.{arith}
-use mathlib.Core.Path.{_≡_, _∙_, subst}
+use mathlib.Core.Path.{_∙_, subst}
 use Prim.Native.Nat.{ℕ, _<_}
 use Rattle.rpcwire.specs.Laws.Fits.{misfit-whole, misfit-small, misfit-room, misfit-within, misfit-few, misfit-value, fits-flags}
 use Rattle.rpcwire.proofs.assembler.fits.Statement.{statement}

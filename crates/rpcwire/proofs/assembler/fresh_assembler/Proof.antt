@@ -1,5 +1,5 @@
 use borrow.Author.Needs.{needs}
-use mathlib.Core.Path.{_≡_, sym, ap, _∙_}
+use mathlib.Core.Path.{sym, ap, _∙_}
 use borrow.Author.Tests.{le-leb, lt-leb}
 use Rattle.rpcwire.specs.Meaning.Stream.{made}
 use Rattle.rpcwire.proofs.assembler.fresh_assembler.Statement.{statement}

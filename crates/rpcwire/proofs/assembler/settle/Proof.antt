@@ -1,7 +1,6 @@
 use borrow.Author.Needs.{needs}
 use native.Mathlib.Omega.{arith}
-use mathlib.Core.Path.{_≡_, sym, ap, _∙_}
-use Prim.Native.Nat.{ℕ, _<_}
+use mathlib.Core.Path.{sym, ap, _∙_}
 use Rattle.rpcwire.specs.Meaning.Stream.{more, complete}
 use Rattle.rpcwire.specs.Laws.Steps.{settled-done, settled-next, settled-on}
 use Rattle.rpcwire.proofs.assembler.settle.Statement.{statement}

@@ -1,8 +1,6 @@
 use borrow.Author.Needs.{needs}
 use mathlib.Core.Path.{sym, ap, _∙_, subst}
-use mathlib.Core.List.{List}
 use denote.Ref.{now}
-use Rattle.rpc.specs.declared.message.rpc_msg.{«rpc_msg»}
 use Rattle.rpcwire.specs.Meaning.Choice.{replying}
 use Rattle.rpcwire.specs.Meaning.Views.{viewCaller}
 use Rattle.rpcwire.specs.Laws.Choice.{Short, mismatch-short, unavail-short, version-other, version-seen, program-served, program-other, is-served, not-served}

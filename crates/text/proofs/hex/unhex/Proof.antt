@@ -1,12 +1,11 @@
 use borrow.Author.Needs.{needs}
 use native.Mathlib.Omega.{arith}
-use mathlib.Core.Path.{_≡_, refl, sym, ap, _∙_, subst}
-use Prim.Native.Nat.{ℕ, _≤_, _<_, _-_, _+_, _*_, _/_}
-use lib.ListN.{length, length-set, take, set, getD}
+use mathlib.Core.Path.{_≡_, refl, sym, _∙_}
+use Prim.Native.Nat.{_≤_, _<_, _-_, _+_, _*_, _/_}
+use lib.ListN.{length, length-set, take}
 use denote.Ref.{now}
-use mathlib.Core.Bool.{true, false}
 use mathlib.Core.Logic.{inl, inr}
-use Rattle.text.specs.Hex.{digitOf, Spells, none}
+use Rattle.text.specs.Hex.{Spells, none}
 use Rattle.text.specs.HexLaws.{spells-turn, spelled-whole, refuses, empty-no, alone-no, alone, odd-no, room-no, digit-no, never}
 use Rattle.text.proofs.hex.unhex.Statement.{statement}
 use Rattle.text.proofs.hex.unhex.Tie as tie

@@ -1,10 +1,10 @@
 use borrow.Author.Needs.{needs}
 use native.Mathlib.Omega.{arith}
-use mathlib.Core.Path.{_≡_, refl, sym, ap, _∙_, subst}
-use Prim.Native.Nat.{ℕ, _≤_, _<_, _-_, _+_, _*_, _/_}
-use lib.ListN.{length, length-set, take, set, getD}
+use mathlib.Core.Path.{_≡_, refl}
+use Prim.Native.Nat.{ℕ, _≤_, _<_, _-_}
+use lib.ListN.{length, take, getD}
 use denote.Ref.{now}
-use borrow.Author.Count.{below-more, below-none}
+use borrow.Author.Count.{below-more}
 use Rattle.text.specs.Decimal.{decimalOf}
 use Rattle.text.specs.DecimalLaws.{further-le, turn, whole}
 use Rattle.text.proofs.numeral.decimal.Statement.{statement}

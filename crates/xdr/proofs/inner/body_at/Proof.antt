@@ -1,8 +1,6 @@
 use borrow.Author.Needs.{needs}
 use native.Mathlib.Omega.{arith}
 use mathlib.Core.Path.{refl}
-use mathlib.Core.List.{List}
-use Prim.Native.Nat.{ℕ, _<_}
 use denote.Ref.{now}
 use Rattle.xdr.specs.Laws.Padding.{body-took, body-short}
 use Rattle.xdr.proofs.inner.body_at.Statement.{statement}

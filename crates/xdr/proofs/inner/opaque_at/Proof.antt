@@ -1,8 +1,7 @@
 use borrow.Author.Needs.{needs}
 use native.Mathlib.Omega.{arith}
 use mathlib.Core.Path.{refl, _∙_}
-use Prim.Native.Nat.{_≤_, _-_}
-use lib.ListN.{length}
+use Prim.Native.Nat.{_-_}
 use denote.Ref.{now}
 use Rattle.xdr.specs.Meaning.Views.{viewU32, lostU32}
 use Rattle.xdr.specs.Laws.Answers.{on, off, piece-took, piece-refused, word-within}

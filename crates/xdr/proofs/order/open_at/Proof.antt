@@ -1,4 +1,3 @@
-use borrow.Author.Needs.{needs}
 use mathlib.Core.Path.{sym}
 use Rattle.xdr.specs.Laws.Public.{opened-long, opened-past, opened-in}
 use Rattle.xdr.proofs.order.open_at.Statement.{statement}
