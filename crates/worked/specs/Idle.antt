@@ -15,6 +15,7 @@ use Rattle.xdr.specs.Meaning.Answer.{Answer, took, refused, Taken, most, opened
 use Rattle.xdr.specs.Meaning.Kind.{Found, Sound}
 use Rattle.xdr.specs.Meaning.Items.{number, word, flag}
 use Rattle.xdr.specs.Meaning.Format.{Format, exactly}
+use Rattle.xdr.specs.Meaning.Order.{placing}
 use Rattle.xdr.specs.Meaning.Public.{Answers, Took, Writes, output, writing, leaving}
 use Rattle.xdr.specs.Laws.Held.{taken-means, means-taken}
 use Rattle.xdr.specs.Laws.Promise.{keeps}
@@ -80,7 +81,7 @@ module _ {M S : Type 0} (F : Format M S) where
   -- and it cannot refuse what there is room for.
   pub refuses-room : (s : List ℕ) (x : S) (at : ℕ) (o o′ : List ℕ) {r : ℕ} → at ≤ length o → length s ≤ most → F .held .inside s x ≡ true
       → length (output F s x) ≤ most → at + length (output F s x) ≤ length o → Writes F s x at o (unwritten r) o′ → ⊥
-  unfolding writing
+  unfolding writing placing
   refuses-room s x at o o′ {r} h g i l k c =
       let e : _≡_ {A = Written} (unwritten r) (done (at + length (output F s x))) =
       c .says ∙ simp (le-leb at (length o) h, le-leb (length s) most g, i, le-leb (length (output F s x)) most l, le-leb (at + length (output F s x)) (length o) k) in
@@ -117,7 +118,7 @@ module _ {M S : Type 0} (F : Format M S) where
 
 -- A flag of 256 is such a reading: the copy is not of its bytes.
 pub loose-copied : Copies (exactly flag) (0 ∷ 0 ∷ 1 ∷ 0 ∷ []) 0 0 (7 ∷ 7 ∷ 7 ∷ 7 ∷ []) (made 4 false 4) (0 ∷ 0 ∷ 0 ∷ 1 ∷ [])
-unfolding opened writing number word flag
+unfolding opened writing placing number word flag
 loose-copied = record { says = refl; leaves = refl }
 
 -- 5. An assembler that works on the first feed and only nods after: whatever was fed before, a byte that is fed to a state that fits and is

@@ -12,6 +12,6 @@ pub mod Held
 pub mod Format
 pub mod Pieces
 pub mod Formats
+pub mod Order
 pub mod Public
 pub mod Views
-pub mod Order

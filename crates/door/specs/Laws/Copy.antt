@@ -10,6 +10,7 @@ use lib.Dec.{leb}
 use borrow.Author.Tests.{le-leb, leb-true, leb-false}
 use Rattle.xdr.specs.Meaning.Answer.{Answer, took, refused, opened, most, Written, done, unwritten}
 use Rattle.xdr.specs.Meaning.Format.{Format, Branch}
+use Rattle.xdr.specs.Meaning.Order.{placing}
 use Rattle.xdr.specs.Meaning.Public.{Answers, output, writing, Writes}
 use Rattle.xdr.specs.Laws.Public.{kept}
 use Rattle.door.specs.Meaning.Copy.{Copy, unknown, unread, saidOf, Copies}
@@ -38,7 +39,7 @@ module _ {M S : Type 0} (F : Format M S) (s : List ℕ) (h : length s ≤ most) 
   out-same = ap (F .codec .kind .write) (free s .0)
 
   said : writing F [] x at (length o) ≡ writing F s x at (length o)
-  unfolding writing
+  unfolding writing placing
   said = rw (out-same, free s .1, le-leb (length s) most h)
 
   by-answer : (w : Written) {o′ : List ℕ} → Writes F [] x at o w o′ → Writes F s x at o w o′

@@ -12,6 +12,7 @@ use Rattle.xdr.specs.Meaning.Items.{flag}
 use Rattle.xdr.specs.Meaning.Format.{Format}
 use Rattle.xdr.specs.Meaning.Formats.{bytes, pieceHeld}
 use Rattle.xdr.specs.Meaning.Pieces.{isInside, sizeUpTo}
+use Rattle.xdr.specs.Meaning.Order.{placing}
 use Rattle.xdr.specs.Meaning.Public.{output, writing, Writes, laid, laidOf}
 use Rattle.xdr.specs.Laws.Marks.{and-left, and-right}
 use Rattle.xdr.specs.Laws.Padding.{flag-length, size-small}
@@ -57,7 +58,7 @@ module _ (s : List ℕ) where
     handle-laid o e = e
 
     pub handle-writes : {at : ℕ} {o o′ : List ℕ} {w : Written} → Writes bytes s (x .«data») at o w o′ → Writes nfs-fh s x at o w o′
-    unfolding nfs-fh writing
+    unfolding nfs-fh writing placing
     handle-writes c = record { says = c .says; leaves = c .leaves; good = c .good }
 
     handle-output : output bytes s (x .«data») ≡ output nfs-fh s x

@@ -15,6 +15,7 @@ use Rattle.xdr.specs.Meaning.Answer.{Answer, took, refused, opened, Written, do
 use Rattle.xdr.specs.Meaning.Items.{number, word, opaque}
 use Rattle.xdr.specs.Meaning.Pieces.{isInside}
 use Rattle.xdr.specs.Meaning.Formats.{pieceHeld}
+use Rattle.xdr.specs.Meaning.Order.{placing}
 use Rattle.xdr.specs.Meaning.Public.{output, writing, leaving, Writes}
 use Rattle.rpc.specs.Meaning.Closed.{auth-flavor, flavorNumber}
 use Rattle.rpc.specs.Meaning.Auth.{opaque-auth}
@@ -48,7 +49,7 @@ unavail-short x = record { long = refl; whole = refl }
 -- what the writer of a message says and leaves, of one that is short
 module _ (m : «rpc_msg») (h : Short m) (o : List ℕ) where
   says-short : writing rpc-msg [] m 0 (length o) ≡ cond (leb 24 (length o)) (done 24) (unwritten 5)
-  unfolding writing
+  unfolding writing placing
   says-short = rw (h .whole, h .long, le-leb 0 (length o) (omega arith))
 
   done-by : (t : Bool) → leb 24 (length o) ≡ t → {n : ℕ} {o′ : List ℕ} → done n ≡ cond t (done 24) (unwritten 5) → o′ ≡ leaving rpc-msg [] m (done n) 0 o

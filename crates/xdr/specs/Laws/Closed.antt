@@ -8,6 +8,7 @@ use Rattle.xdr.specs.Meaning.Answer.{took, refused, Written, done, unwri
 use Rattle.xdr.specs.Meaning.Items.{word, closed}
 use Rattle.xdr.specs.Meaning.Combinators.{Seen, means, undeclared, among}
 use Rattle.xdr.specs.Meaning.Format.{exactly}
+use Rattle.xdr.specs.Meaning.Order.{placing}
 use Rattle.xdr.specs.Meaning.Public.{writing, Writes}
 
 -- what a number was found to be, where that was taken apart
@@ -31,7 +32,7 @@ module _ {A : Type 0} (number : A → ℕ) (l : List A) (each : (a : A) → amon
   -- it is written as the word of its number
   pub by-number : (a : A) {v : ℕ} (at : ℕ) (o : List ℕ) {w : Written} {o′ : List ℕ} → v ≡ number a → Writes (exactly word) [] v at o w o′
       → Writes (exactly (closed number l each)) [] a at o w o′
-  unfolding writing
+  unfolding writing placing
   by-number a at o {w} {o′} e c =
       again w (subst (λ v. Writes (exactly word) [] v at o w o′) e c)
     where

@@ -10,6 +10,7 @@ use lib.ListN.{length}
 use lib.IntN.{ℤ}
 use Rattle.xdr.specs.Meaning.Answer.{Answer, took, refused, most, Written, done, unwritten}
 use Rattle.xdr.specs.Meaning.Format.{Format}
+use Rattle.xdr.specs.Meaning.Order.{placing}
 use Rattle.xdr.specs.Meaning.Public.{Answers, output, writing, Writes}
 use Rattle.xdr.specs.Meaning.Views.{numberOf, placeOf, viewU32, viewU64, viewI32, viewI64, viewBool, viewPiece, viewWrote}
 use Rattle.xdr.specs.Laws.Public.{kept}
@@ -177,7 +178,7 @@ module _ {M S : Type 0} (F : Format M S) (s : List ℕ) (x : S) (at : ℕ) (o : 
 
   -- of every writer: two answers that its contract permits are one, and so are the two buffers
   pub one-wrote : (a b : Wrote) {p q : List ℕ} → Writes F s x at o (viewWrote a) p → Writes F s x at o (viewWrote b) q → (a ≡ b) × (p ≡ q)
-  unfolding writing
+  unfolding writing placing
   one-wrote a b c d = (
     by-tests (leb at (length o)) (leb (length s) most) (F .held .inside s x) (leb (length (output F s x)) most)
         (leb (at + length (output F s x)) (length o)) (at + length (output F s x)) a b (c .says) (d .says),

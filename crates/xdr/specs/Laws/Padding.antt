@@ -37,9 +37,6 @@ last-rest w (suc (suc (suc k))) a b c = refl
 pub padded : (n : ℕ) → (n + 3) / 4 * 4 ≡ n + padding n
 padded n = omega arith
 
-pub pad-count : (n : ℕ) → (n + 3) / 4 * 4 - n ≡ padding n
-pad-count n = omega arith
-
 pad-small : (n : ℕ) → padding n < 4
 pad-small n = omega arith
 

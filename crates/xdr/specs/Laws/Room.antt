@@ -12,9 +12,9 @@ use borrow.Rule.Slice.PartMut.{midOf, putMid}
 use Rattle.xdr.specs.Meaning.Answer.{most, done, unwritten}
 use Rattle.xdr.specs.Meaning.Order.{roomed}
 use Rattle.xdr.specs.Meaning.Format.{Format}
-use Rattle.xdr.specs.Meaning.Public.{output, Writes, laid, laidOf}
+use Rattle.xdr.specs.Meaning.Public.{output, Writes, laid}
 use Rattle.xdr.specs.Meaning.Views.{viewWrote}
-use Rattle.xdr.specs.Laws.Write.{Ready, writes-past, sized-short, sized-done, sized-done-of}
+use Rattle.xdr.specs.Laws.Write.{Ready, writes-past, sized-short, sized-done}
 use Rattle.xdr.specs.declared.answer.Wrote.{Wrote}
 use Rattle.xdr.specs.declared.answer.Wrote.the-variants as wrote
 use Rattle.xdr.specs.declared.refusal.Refusal.{Refusal}
@@ -77,10 +77,3 @@ module _ {M S : Type 0} (F : Format M S) (s : List ℕ) (x : S) {n : ℕ} (l : l
         let y : at + n ≤ length o = h .room in
         let z : done (at + n) ≡ viewWrote w = ap done (h .next) ∙ sym (ap viewWrote f) in
         subst (λ w. Writes F s x at o w (putMid at (length o - at) o zs)) z (sized-done F s x l r at o (omega arith) k good (omega arith) g)
-
-    pub room-laid-of : zs ≡ laidOf F s x (midOf at (length o - at) o) → Writes F s x at o (viewWrote w) (putMid at (length o - at) o zs)
-    room-laid-of g =
-        let h = room-in (length o) at n e f in
-        let y : at + n ≤ length o = h .room in
-        let z : done (at + n) ≡ viewWrote w = ap done (h .next) ∙ sym (ap viewWrote f) in
-        subst (λ w. Writes F s x at o w (putMid at (length o - at) o zs)) z (sized-done-of F s x l r at o (omega arith) k good (omega arith) g)

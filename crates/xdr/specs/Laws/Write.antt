@@ -14,6 +14,7 @@ use borrow.Rule.Slice.PartMut.{midOf, putMid, mid-len}
 use Rattle.xdr.specs.Meaning.Answer.{took, most, Written, done, unwritten}
 use Rattle.xdr.specs.Meaning.Kind.{Codec}
 use Rattle.xdr.specs.Meaning.Format.{Format, exactly}
+use Rattle.xdr.specs.Meaning.Order.{placing}
 use Rattle.xdr.specs.Meaning.Public.{output, writing, leaving, Writes, Back, laid, laidOf}
 use Rattle.xdr.specs.Laws.Promise.{keeps}
 use Rattle.xdr.specs.Laws.Held.{means-taken}
@@ -67,28 +68,15 @@ module _ {M S : Type 0} (F : Format M S) (s : List ℕ) (x : S) where
 
   module _ (at : ℕ) (o : List ℕ) where
     pub writes-past : length o < at → Writes F s x at o (unwritten 9) o
-    unfolding writing
+    unfolding writing placing
     writes-past h = record { says = simp (lt-leb at (length o) h); leaves = refl; good = tt }
 
     module _ (h : at ≤ length o) where
-      pub writes-long : most < length s → Writes F s x at o (unwritten 3) o
-      unfolding writing
-      writes-long g = record { says = simp (le-leb at (length o) h, lt-leb (length s) most g); leaves = refl; good = tt }
-
       module _ (g : length s ≤ most) where
-        pub writes-outside : F .held .inside s x ≡ false → Writes F s x at o (unwritten 4) o
-        unfolding writing
-        writes-outside i = record { says = simp (le-leb at (length o) h, le-leb (length s) most g, i); leaves = refl; good = tt }
-
         module _ (i : F .held .inside s x ≡ true) where
-          pub writes-large : most < length (output F s x) → Writes F s x at o (unwritten 3) o
-          unfolding writing
-          writes-large l =
-              record { says = simp (le-leb at (length o) h, le-leb (length s) most g, i, lt-leb (length (output F s x)) most l); leaves = refl; good = tt }
-
           module _ (l : length (output F s x) ≤ most) where
             pub writes-short : length o < at + length (output F s x) → Writes F s x at o (unwritten 5) o
-            unfolding writing
+            unfolding writing placing
             writes-short r =
                 record {
                   says =
@@ -101,7 +89,7 @@ module _ {M S : Type 0} (F : Format M S) (s : List ℕ) (x : S) where
             -- by a writer that is lent the tail from `at` on
             pub writes-done : F .codec .kind .Good (F .held .mean s x) → {zs : List ℕ} {n : ℕ} → at + n ≤ length o → Put (midOf at (length o - at) o) zs n (output F s x)
                 → Writes F s x at o (done (at + n)) (putMid at (length o - at) o zs)
-            unfolding writing
+            unfolding writing placing
             writes-done good {zs} {n} r f =
                 let e : length (output F s x) ≡ n = f .long in
                 let r′ : at + length (output F s x) ≤ length o = omega arith in
@@ -127,7 +115,7 @@ module _ {M S : Type 0} (F : Format M S) (s : List ℕ) (x : S) where
       pub next : n ≡ at + length (output F s x)
 
     pub was-done : {n : ℕ} → done n ≡ writing F s x at (length o) → Done n
-    unfolding writing
+    unfolding writing placing
     was-done {n} e =
         go (leb at (length o)) refl (leb (length s) most) refl (F .held .inside s x) refl (leb (length (output F s x)) most) refl
         (leb (at + length (output F s x)) (length o)) refl
@@ -195,17 +183,6 @@ pub one-writing : {M S : Type 0} (F : Format M S) (s : List ℕ) (x : S) (at : �
     → Writes F s x at o v p → Writes F s x at o w q → (v ≡ w) × (p ≡ q)
 one-writing F s x at o c d =
     (c .says ∙ sym (d .says), c .leaves ∙ ap (λ z. leaving F s x z at o) (c .says ∙ sym (d .says)) ∙ sym (d .leaves))
-
--- laying bytes at the front of a buffer that has room
-pub laid-put : (bs o : List ℕ) → length bs ≤ length o → Put o (laid bs o) (length bs) bs
-unfolding laid
-laid-put bs o h = record { is = simp (le-leb (length bs) (length o) h); long = refl }
-
-pub laid-of-put : {M S : Type 0} (F : Format M S) (s : List ℕ) (x : S) (o : List ℕ) → Ready F s x → length (output F s x) ≤ length o
-    → Put o (laidOf F s x o) (length (output F s x)) (output F s x)
-unfolding laid laidOf
-laid-of-put F s x o r h =
-    record { is = simp (le-leb (length s) most (r .short), r .inside, le-leb (length (output F s x)) (length o) h); long = refl }
 
 -- what a function that lays bytes leaves, by the case that it is in
 pub laid-short : (bs o : List ℕ) → length o < length bs → o ≡ laid bs o
@@ -287,9 +264,6 @@ module _ {M S : Type 0} (F : Format M S) (s : List ℕ) (x : S) (o : List ℕ) w
 -- a public writer of a message whose size n is known, once the source and the pieces are tested
 module _ {M S : Type 0} (F : Format M S) (s : List ℕ) (x : S) {n : ℕ} (l : length (output F s x) ≡ n) (r : Ready F s x) (at : ℕ) (o : List ℕ)
     (h : at ≤ length o) where
-  pub sized-large : most < n → Writes F s x at o (unwritten 3) o
-  sized-large k = writes-large F s x at o h (r .short) (r .inside) (omega arith)
-
   module _ (k : n ≤ most) where
     pub sized-short : length o - at < n → Writes F s x at o (unwritten 5) o
     sized-short g = writes-short F s x at o h (r .short) (r .inside) (omega arith) (omega arith)
@@ -301,10 +275,6 @@ module _ {M S : Type 0} (F : Format M S) (s : List ℕ) (x : S) {n : ℕ} (l : l
     pub sized-done : F .codec .kind .Good (F .held .mean s x) → n ≤ length o - at → {zs : List ℕ} → zs ≡ laid (output F s x) (midOf at (length o - at) o)
         → Writes F s x at o (done (at + n)) (putMid at (length o - at) o zs)
     sized-done good g e = sized-put good g (put-laid l (room-at o at n (omega arith)) e)
-
-    pub sized-done-of : F .codec .kind .Good (F .held .mean s x) → n ≤ length o - at → {zs : List ℕ} → zs ≡ laidOf F s x (midOf at (length o - at) o)
-        → Writes F s x at o (done (at + n)) (putMid at (length o - at) o zs)
-    sized-done-of good g e = sized-put good g (put-laid-of F s x r l (room-at o at n (omega arith)) e)
 
 -- a message without pieces needs no source
 pub no-pieces : {M : Type 0} (C : Codec M) (x : M) → Ready (exactly C) [] x

@@ -9,6 +9,7 @@ use lib.Dec.{leb}
 use lib.ListN.{length, take, drop}
 use Rattle.xdr.specs.Meaning.Bytes.{Bytes, part}
 use Rattle.xdr.specs.Meaning.Answer.{Answer, took, most, opened, Written, done, unwritten}
+use Rattle.xdr.specs.Meaning.Order.{placing}
 use Rattle.xdr.specs.Meaning.Promise.{Begins}
 use Rattle.xdr.specs.Meaning.Format.{Format}
 
@@ -23,16 +24,9 @@ module _ {M S : Type 0} (F : Format M S) where
     abbrev pub output : List ℕ
     output = F .codec .kind .write (F .held .mean s x)
 
-    -- what a public writer says at a place of a buffer of some length: 9, 3 for the source, 4, 3 for the encoding, 5
+    -- what a public writer says at a place of a buffer of some length
     unfoldable pub writing : ℕ → ℕ → Written
-    writing at len =
-        cond (leb at len)
-        (cond (leb (length s) most)
-        (cond (F .held .inside s x)
-        (cond (leb (length output) most) (cond (leb (at + length output) len) (done (at + length output)) (unwritten 5)) (unwritten 3))
-        (unwritten 4))
-        (unwritten 3))
-        (unwritten 9)
+    writing at len = placing (length s) (F .held .inside s x) (length output) len at
 
     -- what the buffer holds afterwards: a refusal leaves it as it was
     abbrev pub leaving : Written → ℕ → List ℕ → List ℕ
