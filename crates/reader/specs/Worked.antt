@@ -23,6 +23,7 @@ use Rattle.nfs.specs.declared.set.set_size3.the-variants as size
 use Rattle.nfs.specs.declared.set.set_atime.the-variants as atime
 use Rattle.nfs.specs.declared.set.set_mtime.the-variants as mtime
 use Rattle.reader.specs.Meaning.Call.{mkdir}
+use Rattle.xdr.specs.declared.refusal.Refusal.the-variants.{Ended}
 
 -- xid 7, a call of program 100003, version 3, procedure 9, AUTH_NULL twice
 abbrev header : List ℕ → List ℕ
@@ -67,6 +68,6 @@ unfolding mkdir number word word-pair hyper flag opaque pieceHeld auth-flavor op
 taken = refl
 
 -- cut in the attributes: the refusal has the place of the item that is cut
-pub cut : mkdir .held .read (header (dirops (0 ∷ 0 ∷ 0 ∷ 0 ∷ 0 ∷ 0 ∷ []))) 0 ≡ refused 1 60
+pub cut : mkdir .held .read (header (dirops (0 ∷ 0 ∷ 0 ∷ 0 ∷ 0 ∷ 0 ∷ []))) 0 ≡ refused (Ended 60)
 unfolding mkdir number word word-pair hyper flag opaque pieceHeld auth-flavor opaque-auth reply-body call-body rpc-body rpc-msg nfs-fh diropargs nfstime set-mode set-uid set-gid set-size set-time set-atime set-mtime sattr
 cut = refl

@@ -66,18 +66,18 @@ Each (b ∷ l) = Different (b .format) × Each l
 module _ {M S : Type 0} (F : Format M S) (s : List ℕ) where
   abbrev tell : Answer S → List ℕ
   tell (took x n b) = output F s x
-  tell (refused r q) = []
+  tell (refused r) = []
 
   abbrev fine : Answer S → Bool
   fine (took x n b) = leb (length (output F s x)) most && all-bytes (output F s x)
-  fine (refused r q) = false
+  fine (refused r) = false
 
   some-of : (a : Answer S) → opened s 0 (F .held .read s 0) ≡ a → Bytes s → fine a ≡ true → (m : Sample F) × (F .codec .kind .write (m .message) ≡ tell a)
   some-of (took x n b) e h f =
       let t : Took F = record { source = s; place = 0; value = x; next = n; plain = b; answers = record { is = sym e; bytes = h } } in
       let g = both (leb (length (output F s x)) most) (all-bytes (output F s x)) f in
       (record { message = F .held .mean s x; good = kept F .in-range t; short = leb-true (length (output F s x)) most (g .0); bytes = are-bytes (output F s x) (g .1) }, refl)
-  some-of (refused r q) e h f = let z : _≡_ {A = ℕ} 0 1 = cc f in absurd (omega arith)
+  some-of (refused r) e h f = let z : _≡_ {A = ℕ} 0 1 = cc f in absurd (omega arith)
 
 same-self : (l : List ℕ) → same l l ≡ true
 same-self [] = refl

@@ -58,7 +58,7 @@ module _ {M S : Type 0} (F : Format M S) where
   -- 1. A reader that refuses all.
   abbrev pub Refuses : Answer S → Type 0
   Refuses (took x n b) = ⊥
-  Refuses (refused r q) = Unit {0}
+  Refuses (refused r) = Unit {0}
 
   pub refuses-all : (f : List ℕ → ℕ → Answer S) → Reads f → Sample → ((s : List ℕ) (p : ℕ) → Bytes s → Refuses (f s p)) → ⊥
   refuses-all f k m h = subst Refuses (back f k m .1) (h (bytesOf m) 0 (m .bytes))
@@ -101,7 +101,7 @@ module _ {M S : Type 0} (F : Format M S) where
         let z : _≡_ {A = ℕ} 0 1 = cc p in omega arith
 
     by-reading : (a : Answer S) → opened s at (F .held .read s at) ≡ a → made n false e ≡ copySaid F s start o a → o′ ≡ copyLeft F s start o a → ⊥
-    by-reading (refused r q) t h l =
+    by-reading (refused r) t h l =
         let z : _≡_ {A = ℕ} 0 1 = cc h in omega arith
     by-reading (took x k b) t h l = by-said (writing F s x start (length o)) refl h l
       where

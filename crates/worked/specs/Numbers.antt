@@ -26,18 +26,19 @@ use Rattle.nfsattr.specs.Meaning.Attr as attr
 use Rattle.nfs.specs.Meaning.Set.{time-how, set-mode, set-uid, set-gid, set-size, set-time, timeArms, set-atime, set-mtime, sattr}
 use Rattle.nfs.specs.Meaning.Dir.{nfs-fh, post-op-fh, diropargs, symlinkdata}
 use Rattle.door.specs.Meaning.Kinds.{kinds}
+use Rattle.xdr.specs.declared.refusal.Refusal.the-variants.{Ended, TooLong, PastEnd}
 
 -- a refusal of a kind is 1 or 2
 abbrev pub Ends : {A : Type 0} → Answer A → Type 0
 Ends (took a n b) = Unit {0}
-Ends (refused r q) = (r ≡ 1) ⊎ (r ≡ 2)
+Ends (refused r) = (r ≡ 1) ⊎ (r ≡ 2)
 
 pub record Numbered {M : Type 0} (C : Codec M) : Type 0 where
   pub ends : (s : List ℕ) (p : ℕ) → Ends (C .kind .read s p)
 
 -- ---- the combinators
 
-by-room : (l : List ℕ) (n p : ℕ) (t : Bool) → Ends (cond t (took l n true) (refused 1 p))
+by-room : (l : List ℕ) (n p : ℕ) (t : Bool) → Ends (cond t (took l n true) (refused (Ended p)))
 by-room l n p true = tt
 by-room l n p false = inl refl
 
@@ -50,11 +51,11 @@ void-ends = record { ends = λ s p. tt }
 module _ {M : Type 0} {N : M → Type 0} (A : Codec M) (B : (a : M) → Codec (N a)) (h : Numbered A) (g : (a : M) → Numbered (B a)) where
   by-second : (a : M) (b : Bool) (y : Answer (N a)) → Ends y → Ends (second (A .kind) (λ z. B z .kind) a b y)
   by-second a b (took c n b′) e = tt
-  by-second a b (refused r q) e = e
+  by-second a b (refused r) e = e
 
   by-first : (s : List ℕ) (x : Answer M) → Ends x → Ends (first (A .kind) (λ z. B z .kind) s x)
   by-first s (took a n b) e = by-second a b (B a .kind .read s n) (g a .ends s n)
-  by-first s (refused r q) e = e
+  by-first s (refused r) e = e
 
   chain-ends : Numbered (chain A B)
   chain-ends = record { ends = λ s p. by-first s (A .kind .read s p) (h .ends s p) }
@@ -74,7 +75,7 @@ module _ {M N : Type 0} (C : Codec M) (W : View M (C .kind .Good) N) (h : Number
 
   by-look : (p : ℕ) (x : Answer M) → Ends x → Ends (look (C .kind) W p x)
   by-look p (took x n b) e = by-seen p n b (W .see x)
-  by-look p (refused r q) e = e
+  by-look p (refused r) e = e
 
   seen-ends : Numbered (view C W)
   seen-ends = record { ends = λ s p. by-look p (C .kind .read s p) (h .ends s p) }
@@ -85,7 +86,7 @@ view-ends C {W} h = seen-ends C W h
 module _ {M : Type 0} (C : Codec M) (h : Numbered C) where
   by-whole : (p : ℕ) (x : Answer M) → Ends x → Ends (whole p x)
   by-whole p (took m n b) e = tt
-  by-whole p (refused r q) e = e
+  by-whole p (refused r) e = e
 
   item-ends : Numbered (item C)
   item-ends = record { ends = λ s p. by-whole p (C .kind .read s p) (h .ends s p) }
@@ -331,15 +332,15 @@ each-numbered =
 -- a public reading is taken, or refused with 1, 2, 3 or 9
 abbrev pub Refused : {A : Type 0} → Answer A → Type 0
 Refused (took a n b) = Unit {0}
-Refused (refused r q) = (r ≡ 1) ⊎ (r ≡ 2) ⊎ (r ≡ 3) ⊎ (r ≡ 9)
+Refused (refused r) = (r ≡ 1) ⊎ (r ≡ 2) ⊎ (r ≡ 3) ⊎ (r ≡ 9)
 
 module _ {M S : Type 0} (F : Format M S) (h : Numbered (F .codec)) (s : List ℕ) (p : ℕ) where
   by-held : (z : Answer S) → Ends (mapAnswer (F .held .mean s) z) → Refused z
   by-held (took x n b) e = tt
-  by-held (refused r q) (inl e) = inl e
-  by-held (refused r q) (inr e) = inr (inl e)
+  by-held (refused r) (inl e) = inl e
+  by-held (refused r) (inr e) = inr (inl e)
 
-  by-opened : (t u : Bool) → Refused (F .held .read s p) → Refused (cond t (cond u (F .held .read s p) (refused 9 0)) (refused 3 0))
+  by-opened : (t u : Bool) → Refused (F .held .read s p) → Refused (cond t (cond u (F .held .read s p) (refused PastEnd)) (refused TooLong))
   by-opened true true e = e
   by-opened true false e = inr (inr (inr refl))
   by-opened false u e = inr (inr (inl refl))

@@ -11,7 +11,7 @@ use Rattle.rpcwire.specs.Meaning.Stream.{Now, fresh, feedOf}
 -- the bytes that what was read is written as; none for a refusal
 abbrev pub rewritten : {M S : Type 0} → Format M S → Answer M → List ℕ
 rewritten F (took m n b) = F .codec .kind .write m
-rewritten F (refused r q) = []
+rewritten F (refused r) = []
 
 pub data Row : Type 1 where
   -- bytes read from place 0: the answer, and the rewriting

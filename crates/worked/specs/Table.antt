@@ -23,6 +23,7 @@ use Rattle.nfs.specs.declared.set.set_mtime.the-variants as mtime
 use Rattle.rpcwire.specs.Meaning.Stream.{stand, more, complete, fresh, inFragment, halted}
 use Rattle.rpcwire.specs.Meaning.Stream as stream
 use Rattle.worked.specs.Row.{Row, reading, writing, feeding}
+use Rattle.xdr.specs.declared.refusal.Refusal.the-variants.{Ended, Undeclared}
 
 abbrev hello : List ℕ
 hello = 0x68 ∷ 0x65 ∷ 0x6C ∷ 0x6C ∷ 0x6F ∷ []
@@ -64,12 +65,12 @@ rows =
     -- no bytes
     ∷ reading bytes (0 ∷ 0 ∷ 0 ∷ 0 ∷ []) (took [] 4 true) (0 ∷ 0 ∷ 0 ∷ 0 ∷ [])
     -- a pad byte is missing
-    ∷ reading bytes (0 ∷ 0 ∷ 0 ∷ 1 ∷ 0xAA ∷ 0 ∷ 0 ∷ []) (refused 1 0) []
+    ∷ reading bytes (0 ∷ 0 ∷ 0 ∷ 1 ∷ 0xAA ∷ 0 ∷ 0 ∷ []) (refused (Ended 0)) []
     -- two's complement: -1, and the least number
     ∷ reading (exactly int) (0xFF ∷ 0xFF ∷ 0xFF ∷ 0xFF ∷ []) (took (negsuc 0) 4 true) (0xFF ∷ 0xFF ∷ 0xFF ∷ 0xFF ∷ [])
     ∷ reading (exactly int) (0x80 ∷ 0 ∷ 0 ∷ 0 ∷ []) (took (negsuc 2147483647) 4 true) (0x80 ∷ 0 ∷ 0 ∷ 0 ∷ [])
     -- an undeclared tag of set_atime
-    ∷ reading (exactly set-atime) (0 ∷ 0 ∷ 0 ∷ 3 ∷ []) (refused 2 0) []
+    ∷ reading (exactly set-atime) (0 ∷ 0 ∷ 0 ∷ 3 ∷ []) (refused (Undeclared 0)) []
     -- the truncation that was lost: the size set to 0 by a flag of FFFFFFFF
     ∷ reading (exactly sattr)
     (0 ∷ 0 ∷ 0 ∷ 0 ∷ 0 ∷ 0 ∷ 0 ∷ 0 ∷ 0 ∷ 0 ∷ 0 ∷ 0 ∷ 0xFF ∷ 0xFF ∷ 0xFF ∷ 0xFF ∷ 0 ∷ 0 ∷ 0 ∷ 0 ∷ 0 ∷ 0 ∷ 0 ∷ 0 ∷ 0 ∷ 0 ∷ 0 ∷ 0 ∷ 0 ∷ 0 ∷ 0 ∷ 0 ∷ [])

@@ -2,6 +2,7 @@
 pub mod Lists
 pub mod Marks
 pub mod Digits
+pub mod Parted
 pub mod Block
 pub mod Chain
 pub mod View

@@ -1,5 +1,6 @@
 -- What things mean: short definitions, to be held against RFC 4506 and document 01. Read them in this order.
 pub mod Bytes
+pub mod Refusal
 pub mod Answer
 pub mod Kind
 pub mod Promise

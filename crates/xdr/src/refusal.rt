@@ -1,6 +1,6 @@
 // Why a message is not read, written, assembled or answered: document 01's refusals 1 to 9, in one enum for every layer.
 ghost use mathlib.Core.Path.{_≡_};
-ghost use Rattle.xdr.specs.Meaning.Views.{numberOf, placeOf};
+ghost use Rattle.xdr.specs.Meaning.Refusal.{numberOf, placeOf};
 
 pub enum Refusal {
     // 1: the message ends inside an item; the place of the item's first byte.

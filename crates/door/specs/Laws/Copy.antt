@@ -18,9 +18,9 @@ use Rattle.door.specs.Meaning.Kinds.{CopiesOf}
 
 module _ {M S R : Type 0} (F : Format M S) (view : R → Answer S) (s : List ℕ) (at start : ℕ) (o : List ℕ) {r t : R} (c : Answers F s at (view r)) (e : r ≡ t) where
   -- the reading was refused
-  pub not-read : {q p : ℕ} → view t ≡ refused q p → Copies F s at start o (unread q p) o
+  pub not-read : {q p : ℕ} → view t ≡ refused q → Copies F s at start o (unread q p) o
   not-read {q} {p} h =
-      let k : opened s at (F .held .read s at) ≡ refused q p = sym (c .is) ∙ ap view e ∙ h in
+      let k : opened s at (F .held .read s at) ≡ refused q = sym (c .is) ∙ ap view e ∙ h in
       record { says = rw k; leaves = rw k }
 
   -- it was taken: the writer's answer is the copy's

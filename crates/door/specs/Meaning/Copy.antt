@@ -34,11 +34,11 @@ module _ {M S : Type 0} (F : Format M S) (s : List ℕ) (start : ℕ) (o : List 
   -- what is said of a reading, and what the other buffer then holds
   abbrev pub copySaid : Answer S → Copy
   copySaid (took x n b) = saidOf n b (writing F s x start (length o))
-  copySaid (refused r q) = unread r q
+  copySaid (refused r) = unread r q
 
   abbrev pub copyLeft : Answer S → List ℕ
   copyLeft (took x n b) = leaving F s x (writing F s x start (length o)) start o
-  copyLeft (refused r q) = o
+  copyLeft (refused r) = o
 
 -- the message of format F at a place of s, copied to a place of o: the answer, and the buffer o′ that is left of o
 pub record Copies {M S : Type 0} (F : Format M S) (s : List ℕ) (at start : ℕ) (o : List ℕ) (c : Copy) (o′ : List ℕ) : Type 0 where

@@ -109,17 +109,17 @@ stateList s =
 abbrev pub fedCode : Said → ℕ
 fedCode (more s u) = 100
 fedCode (complete n s u) = 101
-fedCode (refused r s u) = r
+fedCode (refused r u) = r
 
 abbrev pub fedState : Said → Assembler
 fedState (more s u) = s
 fedState (complete n s u) = s
-fedState (refused r s u) = s
+fedState (refused r u) = s
 
 abbrev pub fedFigures : Said → List ℕ
 fedFigures (more s u) = u ∷ 0 ∷ []
 fedFigures (complete n s u) = u ∷ n ∷ []
-fedFigures (refused r s u) = u ∷ 0 ∷ []
+fedFigures (refused r u) = u ∷ 0 ∷ []
 
 pub record FeedTold (l run d i : List ℕ) (r : ℕ) (l′ d′ i′ : List ℕ) : Type 0 where
   pub said : Said

@@ -9,10 +9,12 @@ use Rattle.xdr.specs.Meaning.Items.{word}
 use Rattle.nfsattr.specs.Meaning.Attr.{nfstime}
 use Rattle.nfs.specs.Meaning.Set.{set-time, Times, timed, dont-change, server-time, client-time}
 use Rattle.nfsattr.specs.declared.attr.nfstime3.{nfstime3}
+use Rattle.xdr.specs.declared.refusal.Refusal.{Refusal}
+use Rattle.xdr.specs.declared.refusal.Refusal.the-variants.{Undeclared}
 
 -- what is done with a time, by its tag
 module _ {T : Type 0} (U : Times T) (s : List ℕ) (p : ℕ) where
-  pub time-refused : {r q : ℕ} → word .kind .read s p ≡ refused r q → refused r q ≡ timed U .kind .read s p
+  pub time-refused : {r : Refusal} → word .kind .read s p ≡ refused r → refused r ≡ timed U .kind .read s p
   unfolding set-time
   time-refused f = rw f
 
@@ -25,7 +27,7 @@ module _ {T : Type 0} (U : Times T) (s : List ℕ) (p : ℕ) where
     unfolding set-time
     time-server e = rw (f, e)
 
-    pub time-off : {r q : ℕ} → v ≡ 2 → nfstime .kind .read s n ≡ refused r q → refused r q ≡ timed U .kind .read s p
+    pub time-off : {r : Refusal} → v ≡ 2 → nfstime .kind .read s n ≡ refused r → refused r ≡ timed U .kind .read s p
     unfolding set-time
     time-off e g = rw (f, e, g)
 
@@ -33,7 +35,7 @@ module _ {T : Type 0} (U : Times T) (s : List ℕ) (p : ℕ) where
     unfolding set-time
     time-client e g = rw (f, e, g)
 
-  time-other : (v n : ℕ) → word .kind .read s p ≡ took v n true → (v ≡ 0 → ⊥) → (v ≡ 1 → ⊥) → (v ≡ 2 → ⊥) → refused 2 p ≡ timed U .kind .read s p
+  time-other : (v n : ℕ) → word .kind .read s p ≡ took v n true → (v ≡ 0 → ⊥) → (v ≡ 1 → ⊥) → (v ≡ 2 → ⊥) → refused (Undeclared p) ≡ timed U .kind .read s p
   unfolding set-time
   time-other zero n f a b c = absurd (a refl)
   time-other (suc zero) n f a b c = absurd (b refl)
@@ -41,5 +43,5 @@ module _ {T : Type 0} (U : Times T) (s : List ℕ) (p : ℕ) where
   time-other (suc (suc (suc v))) n f a b c = rw f
 
   pub time-undeclared : {v n : ℕ} → word .kind .read s p ≡ took v n true → (v ≡ 0 → ⊥) → (v ≡ 1 → ⊥) → (v ≡ 2 → ⊥)
-      → refused 2 p ≡ timed U .kind .read s p
+      → refused (Undeclared p) ≡ timed U .kind .read s p
   time-undeclared {v} {n} f a b c = time-other v n f a b c

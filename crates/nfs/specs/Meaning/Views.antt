@@ -51,7 +51,7 @@ foundHow how.None = undeclared
 foundHow (how.Is a) = means a []
 
 abbrev pub viewTimeHow : TimeHowRead → Answer «_time_how»
-viewTimeHow (TimeHow.Refused r) = refusal r
+viewTimeHow (TimeHow.Refused r) = refused r
 viewTimeHow (TimeHow.Took v n) = took v n true
 
 abbrev pub lostTimeHow : TimeHowRead → Refusal
@@ -59,7 +59,7 @@ lostTimeHow (TimeHow.Refused r) = r
 lostTimeHow (TimeHow.Took v n) = PastEnd
 
 abbrev pub viewSetMode3 : SetMode3Read → Answer «set_mode3»
-viewSetMode3 (SetMode3.Refused r) = refusal r
+viewSetMode3 (SetMode3.Refused r) = refused r
 viewSetMode3 (SetMode3.Took v n p) = took v n p
 
 abbrev pub lostSetMode3 : SetMode3Read → Refusal
@@ -67,7 +67,7 @@ lostSetMode3 (SetMode3.Refused r) = r
 lostSetMode3 (SetMode3.Took v n p) = PastEnd
 
 abbrev pub viewSetUid3 : SetUid3Read → Answer «set_uid3»
-viewSetUid3 (SetUid3.Refused r) = refusal r
+viewSetUid3 (SetUid3.Refused r) = refused r
 viewSetUid3 (SetUid3.Took v n p) = took v n p
 
 abbrev pub lostSetUid3 : SetUid3Read → Refusal
@@ -75,7 +75,7 @@ lostSetUid3 (SetUid3.Refused r) = r
 lostSetUid3 (SetUid3.Took v n p) = PastEnd
 
 abbrev pub viewSetGid3 : SetGid3Read → Answer «set_gid3»
-viewSetGid3 (SetGid3.Refused r) = refusal r
+viewSetGid3 (SetGid3.Refused r) = refused r
 viewSetGid3 (SetGid3.Took v n p) = took v n p
 
 abbrev pub lostSetGid3 : SetGid3Read → Refusal
@@ -83,7 +83,7 @@ lostSetGid3 (SetGid3.Refused r) = r
 lostSetGid3 (SetGid3.Took v n p) = PastEnd
 
 abbrev pub viewSetSize3 : SetSize3Read → Answer «set_size3»
-viewSetSize3 (SetSize3.Refused r) = refusal r
+viewSetSize3 (SetSize3.Refused r) = refused r
 viewSetSize3 (SetSize3.Took v n p) = took v n p
 
 abbrev pub lostSetSize3 : SetSize3Read → Refusal
@@ -91,7 +91,7 @@ lostSetSize3 (SetSize3.Refused r) = r
 lostSetSize3 (SetSize3.Took v n p) = PastEnd
 
 abbrev pub viewSetAtime : SetAtimeRead → Answer «set_atime»
-viewSetAtime (SetAtime.Refused r) = refusal r
+viewSetAtime (SetAtime.Refused r) = refused r
 viewSetAtime (SetAtime.Took v n) = took v n true
 
 abbrev pub lostSetAtime : SetAtimeRead → Refusal
@@ -99,7 +99,7 @@ lostSetAtime (SetAtime.Refused r) = r
 lostSetAtime (SetAtime.Took v n) = PastEnd
 
 abbrev pub viewSetMtime : SetMtimeRead → Answer «set_mtime»
-viewSetMtime (SetMtime.Refused r) = refusal r
+viewSetMtime (SetMtime.Refused r) = refused r
 viewSetMtime (SetMtime.Took v n) = took v n true
 
 abbrev pub lostSetMtime : SetMtimeRead → Refusal
@@ -107,7 +107,7 @@ lostSetMtime (SetMtime.Refused r) = r
 lostSetMtime (SetMtime.Took v n) = PastEnd
 
 abbrev pub viewSattr3 : Sattr3Read → Answer sattr3
-viewSattr3 (Sattr3.Refused r) = refusal r
+viewSattr3 (Sattr3.Refused r) = refused r
 viewSattr3 (Sattr3.Took v n p) = took v n p
 
 abbrev pub lostSattr3 : Sattr3Read → Refusal
@@ -115,7 +115,7 @@ lostSattr3 (Sattr3.Refused r) = r
 lostSattr3 (Sattr3.Took v n p) = PastEnd
 
 abbrev pub viewNfsFh3 : NfsFh3Read → Answer «nfs_fh3»
-viewNfsFh3 (NfsFh3.Refused r) = refusal r
+viewNfsFh3 (NfsFh3.Refused r) = refused r
 viewNfsFh3 (NfsFh3.Took v n p) = took v n p
 
 abbrev pub lostNfsFh3 : NfsFh3Read → Refusal
@@ -123,7 +123,7 @@ lostNfsFh3 (NfsFh3.Refused r) = r
 lostNfsFh3 (NfsFh3.Took v n p) = PastEnd
 
 abbrev pub viewPostOpFh3 : PostOpFh3Read → Answer «post_op_fh3»
-viewPostOpFh3 (PostOpFh3.Refused r) = refusal r
+viewPostOpFh3 (PostOpFh3.Refused r) = refused r
 viewPostOpFh3 (PostOpFh3.Took v n p) = took v n p
 
 abbrev pub lostPostOpFh3 : PostOpFh3Read → Refusal
@@ -131,7 +131,7 @@ lostPostOpFh3 (PostOpFh3.Refused r) = r
 lostPostOpFh3 (PostOpFh3.Took v n p) = PastEnd
 
 abbrev pub viewDiropargs3 : Diropargs3Read → Answer diropargs3
-viewDiropargs3 (Diropargs3.Refused r) = refusal r
+viewDiropargs3 (Diropargs3.Refused r) = refused r
 viewDiropargs3 (Diropargs3.Took v n p) = took v n p
 
 abbrev pub lostDiropargs3 : Diropargs3Read → Refusal
@@ -139,7 +139,7 @@ lostDiropargs3 (Diropargs3.Refused r) = r
 lostDiropargs3 (Diropargs3.Took v n p) = PastEnd
 
 abbrev pub viewSymlinkdata3 : Symlinkdata3Read → Answer symlinkdata3
-viewSymlinkdata3 (Symlinkdata3.Refused r) = refusal r
+viewSymlinkdata3 (Symlinkdata3.Refused r) = refused r
 viewSymlinkdata3 (Symlinkdata3.Took v n p) = took v n p
 
 abbrev pub lostSymlinkdata3 : Symlinkdata3Read → Refusal

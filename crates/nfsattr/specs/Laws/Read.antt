@@ -18,6 +18,7 @@ use Rattle.nfsattr.specs.Meaning.Stat.{failNumber, failures, statNumber,
 use Rattle.nfsattr.specs.Meaning.Cases.{Cases, maybe}
 use Rattle.nfsattr.specs.declared.stat.nfsfail3.{nfsfail3}
 use Rattle.nfsattr.specs.declared.stat.nfsstat3.the-variants.{«NFS3_OK», Failed}
+use Rattle.xdr.specs.declared.refusal.Refusal.{Refusal}
 
 -- a list of values under another name
 map-first : {A B : Type 0} (f : A → B) (a : A) (t : Bool) (x : Seen A) {y : Seen B} → y ≡ mapSeen f x
@@ -54,14 +55,14 @@ module _ (s : List ℕ) (p : ℕ) where
 
 -- an optional value, by its flag
 module _ {M T : Type 0} (C : Codec M) (U : Cases M T) (s : List ℕ) (p : ℕ) where
-  pub maybe-refused : {r q : ℕ} → flag .kind .read s p ≡ refused r q → refused r q ≡ maybe C U .kind .read s p
+  pub maybe-refused : {r : Refusal} → flag .kind .read s p ≡ refused r → refused r ≡ maybe C U .kind .read s p
   maybe-refused f = rw f
 
   pub maybe-none : {v b : Bool} {n : ℕ} → flag .kind .read s p ≡ took v n b → not v ≡ true → took (U .to none) n b ≡ maybe C U .kind .read s p
   maybe-none {b = b} f e = rw (flag-false s p f e, and-true b)
 
-  pub maybe-off : {v b : Bool} {n r q : ℕ} → flag .kind .read s p ≡ took v n b → not v ≡ false → C .kind .read s n ≡ refused r q
-      → refused r q ≡ maybe C U .kind .read s p
+  pub maybe-off : {v b : Bool} {n : ℕ} {r : Refusal} → flag .kind .read s p ≡ took v n b → not v ≡ false → C .kind .read s n ≡ refused r
+      → refused r ≡ maybe C U .kind .read s p
   maybe-off f e g = rw (flag-true s p f e, g)
 
   -- the value itself is always plain

@@ -74,7 +74,7 @@ foundFtype ftype.None = undeclared
 foundFtype (ftype.Is a) = means a []
 
 abbrev pub viewNfsstat3 : Nfsstat3Read → Answer nfsstat3
-viewNfsstat3 (Nfsstat3.Refused r) = refusal r
+viewNfsstat3 (Nfsstat3.Refused r) = refused r
 viewNfsstat3 (Nfsstat3.Took v n) = took v n true
 
 abbrev pub lostNfsstat3 : Nfsstat3Read → Refusal
@@ -82,7 +82,7 @@ lostNfsstat3 (Nfsstat3.Refused r) = r
 lostNfsstat3 (Nfsstat3.Took v n) = PastEnd
 
 abbrev pub viewFtype3 : Ftype3Read → Answer ftype3
-viewFtype3 (Ftype3.Refused r) = refusal r
+viewFtype3 (Ftype3.Refused r) = refused r
 viewFtype3 (Ftype3.Took v n) = took v n true
 
 abbrev pub lostFtype3 : Ftype3Read → Refusal
@@ -90,7 +90,7 @@ lostFtype3 (Ftype3.Refused r) = r
 lostFtype3 (Ftype3.Took v n) = PastEnd
 
 abbrev pub viewSpecdata3 : Specdata3Read → Answer specdata3
-viewSpecdata3 (Specdata3.Refused r) = refusal r
+viewSpecdata3 (Specdata3.Refused r) = refused r
 viewSpecdata3 (Specdata3.Took v n) = took v n true
 
 abbrev pub lostSpecdata3 : Specdata3Read → Refusal
@@ -98,7 +98,7 @@ lostSpecdata3 (Specdata3.Refused r) = r
 lostSpecdata3 (Specdata3.Took v n) = PastEnd
 
 abbrev pub viewNfstime3 : Nfstime3Read → Answer nfstime3
-viewNfstime3 (Nfstime3.Refused r) = refusal r
+viewNfstime3 (Nfstime3.Refused r) = refused r
 viewNfstime3 (Nfstime3.Took v n) = took v n true
 
 abbrev pub lostNfstime3 : Nfstime3Read → Refusal
@@ -106,7 +106,7 @@ lostNfstime3 (Nfstime3.Refused r) = r
 lostNfstime3 (Nfstime3.Took v n) = PastEnd
 
 abbrev pub viewFattr3 : Fattr3Read → Answer fattr3
-viewFattr3 (Fattr3.Refused r) = refusal r
+viewFattr3 (Fattr3.Refused r) = refused r
 viewFattr3 (Fattr3.Took v n) = took v n true
 
 abbrev pub lostFattr3 : Fattr3Read → Refusal
@@ -114,7 +114,7 @@ lostFattr3 (Fattr3.Refused r) = r
 lostFattr3 (Fattr3.Took v n) = PastEnd
 
 abbrev pub viewWccAttr : WccAttrRead → Answer «wcc_attr»
-viewWccAttr (WccAttr.Refused r) = refusal r
+viewWccAttr (WccAttr.Refused r) = refused r
 viewWccAttr (WccAttr.Took v n) = took v n true
 
 abbrev pub lostWccAttr : WccAttrRead → Refusal
@@ -122,7 +122,7 @@ lostWccAttr (WccAttr.Refused r) = r
 lostWccAttr (WccAttr.Took v n) = PastEnd
 
 abbrev pub viewPreOpAttr : PreOpAttrRead → Answer «pre_op_attr»
-viewPreOpAttr (PreOpAttr.Refused r) = refusal r
+viewPreOpAttr (PreOpAttr.Refused r) = refused r
 viewPreOpAttr (PreOpAttr.Took v n p) = took v n p
 
 abbrev pub lostPreOpAttr : PreOpAttrRead → Refusal
@@ -130,7 +130,7 @@ lostPreOpAttr (PreOpAttr.Refused r) = r
 lostPreOpAttr (PreOpAttr.Took v n p) = PastEnd
 
 abbrev pub viewPostOpAttr : PostOpAttrRead → Answer «post_op_attr»
-viewPostOpAttr (PostOpAttr.Refused r) = refusal r
+viewPostOpAttr (PostOpAttr.Refused r) = refused r
 viewPostOpAttr (PostOpAttr.Took v n p) = took v n p
 
 abbrev pub lostPostOpAttr : PostOpAttrRead → Refusal
@@ -138,7 +138,7 @@ lostPostOpAttr (PostOpAttr.Refused r) = r
 lostPostOpAttr (PostOpAttr.Took v n p) = PastEnd
 
 abbrev pub viewWccData : WccDataRead → Answer «wcc_data»
-viewWccData (WccData.Refused r) = refusal r
+viewWccData (WccData.Refused r) = refused r
 viewWccData (WccData.Took v n p) = took v n p
 
 abbrev pub lostWccData : WccDataRead → Refusal
@@ -146,7 +146,7 @@ lostWccData (WccData.Refused r) = r
 lostWccData (WccData.Took v n p) = PastEnd
 
 abbrev pub viewFsinfo3 : Fsinfo3Read → Answer fsinfo3
-viewFsinfo3 (Fsinfo3.Refused r) = refusal r
+viewFsinfo3 (Fsinfo3.Refused r) = refused r
 viewFsinfo3 (Fsinfo3.Took v n p) = took v n p
 
 abbrev pub lostFsinfo3 : Fsinfo3Read → Refusal
@@ -154,7 +154,7 @@ lostFsinfo3 (Fsinfo3.Refused r) = r
 lostFsinfo3 (Fsinfo3.Took v n p) = PastEnd
 
 abbrev pub viewIds : IdsRead → Answer Ids
-viewIds (Ids·.Refused r) = refusal r
+viewIds (Ids·.Refused r) = refused r
 viewIds (Ids·.Took v n) = took v n true
 
 abbrev pub lostIds : IdsRead → Refusal
@@ -162,7 +162,7 @@ lostIds (Ids·.Refused r) = r
 lostIds (Ids·.Took v n) = PastEnd
 
 abbrev pub viewSizes : SizesRead → Answer Sizes
-viewSizes (Sizes·.Refused r) = refusal r
+viewSizes (Sizes·.Refused r) = refused r
 viewSizes (Sizes·.Took v n) = took v n true
 
 abbrev pub lostSizes : SizesRead → Refusal
@@ -170,7 +170,7 @@ lostSizes (Sizes·.Refused r) = r
 lostSizes (Sizes·.Took v n) = PastEnd
 
 abbrev pub viewTimes : TimesRead → Answer Times
-viewTimes (Times·.Refused r) = refusal r
+viewTimes (Times·.Refused r) = refused r
 viewTimes (Times·.Took v n) = took v n true
 
 abbrev pub lostTimes : TimesRead → Refusal
@@ -178,7 +178,7 @@ lostTimes (Times·.Refused r) = r
 lostTimes (Times·.Took v n) = PastEnd
 
 abbrev pub viewTransfer : TransferRead → Answer Transfer
-viewTransfer (Transfer·.Refused r) = refusal r
+viewTransfer (Transfer·.Refused r) = refused r
 viewTransfer (Transfer·.Took v n) = took v n true
 
 abbrev pub lostTransfer : TransferRead → Refusal
@@ -186,7 +186,7 @@ lostTransfer (Transfer·.Refused r) = r
 lostTransfer (Transfer·.Took v n) = PastEnd
 
 abbrev pub viewLimits : LimitsRead → Answer Limits
-viewLimits (Limits·.Refused r) = refusal r
+viewLimits (Limits·.Refused r) = refused r
 viewLimits (Limits·.Took v n) = took v n true
 
 abbrev pub lostLimits : LimitsRead → Refusal

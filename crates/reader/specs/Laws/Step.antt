@@ -15,6 +15,7 @@ use Rattle.xdr.specs.Meaning.Public.{Answers, Took}
 use Rattle.xdr.specs.Laws.Public.{opened-in, kept}
 use Rattle.reader.specs.Meaning.Step.{onward, Stepped, joined}
 use Rattle.reader.specs.declared.Reader.{Reader}
+use Rattle.xdr.specs.declared.refusal.Refusal.the-variants.{TooLong, PastEnd}
 
 module _ {M N S T : Type 0} (F : Format M S) (G : Format N T) (s : List ℕ) (p : ℕ) where
   abbrev first : Answer S → Answer (S × T)
@@ -25,14 +26,14 @@ module _ {M N S T : Type 0} (F : Format M S) (G : Format N T) (s : List ℕ) (p 
 
   is-second : (x : S) (n : ℕ) (b : Bool) (z : Answer T) → joined (took x n b) z ≡ second x b z
   is-second x n b (took y m c) = refl
-  is-second x n b (refused r q) = refl
+  is-second x n b (refused r) = refl
 
   -- the tests of a public reader come first, whatever is read after them
   first-opened : (y : Answer S) → first (opened s p y) ≡ opened s p (first y)
   unfolding opened
   first-opened y = by (leb (length s) most) (leb p (length s))
     where
-      by : (t u : Bool) → first (cond t (cond u y (refused 9 0)) (refused 3 0)) ≡ cond t (cond u (first y) (refused 9 0)) (refused 3 0)
+      by : (t u : Bool) → first (cond t (cond u y (refused PastEnd)) (refused TooLong)) ≡ cond t (cond u (first y) (refused PastEnd)) (refused TooLong)
       by true true = refl
       by true false = refl
       by false u = refl
@@ -44,7 +45,7 @@ module _ {M N S T : Type 0} (F : Format M S) (G : Format N T) (s : List ℕ) (p 
       let g = kept F .accepted-iff s p c .0 (x, n, b, refl) in
       let k : z ≡ G .held .read s n = d .is ∙ opened-in s n (G .held .read s n) (g .0) (kept F .within t .1) in
       record { is = is-second x n b z ∙ ap (second x b) k ∙ ap first (c .is) ∙ first-opened (F .held .read s p); bytes = c .bytes }
-  in-order (refused r q) z c d = record { is = ap first (c .is) ∙ first-opened (F .held .read s p); bytes = c .bytes }
+  in-order (refused r) z c d = record { is = ap first (c .is) ∙ first-opened (F .held .read s p); bytes = c .bytes }
 
 -- the same of a step and of what is read from the reader that it hands back
 pub step-then : {M N S T : Type 0} (F : Format M S) (G : Format N T) {r r′ : Reader} {a : Answer S} {z : Answer T} → Stepped F r a r′ → Answers G (now (r′ .src)) (r′ .at) z
@@ -59,7 +60,7 @@ module _ {M S : Type 0} (F : Format M S) (r r′ : Reader) where
       let g = kept F .within t in
       let l : length (now (r′ .src)) ≡ length (now (r .src)) = ap (λ (z : RefT (List ℕ)). length (now z)) (e .same) in
       (omega (arith, g .0, e .next), omega (arith, g .1, e .next, l))
-  step-within (refused q p) e h =
+  step-within (refused q) e h =
       let l : length (now (r′ .src)) ≡ length (now (r .src)) = ap (λ (z : RefT (List ℕ)). length (now z)) (e .same) in
       (omega (arith, e .next), omega (arith, h, e .next, l))
 

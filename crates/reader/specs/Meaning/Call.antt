@@ -17,5 +17,5 @@ unfoldable pub mkdir : Format (RpcMsg × (Entry × sattr3)) («rpc_msg» × (dir
 mkdir = rpc-msg ⨟ diropargs ⨟ exactly sattr
 
 abbrev pub viewMkdir : MkdirRead → Answer («rpc_msg» × (diropargs3 × sattr3))
-viewMkdir (Refused r) = refusal r
+viewMkdir (Refused r) = refused r
 viewMkdir (Took m d a n p) = took (m, (d, a)) n p

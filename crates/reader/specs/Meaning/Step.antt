@@ -12,7 +12,7 @@ use Rattle.reader.specs.declared.Reader.{Reader}
 -- where a reader stands after an answer: at the next place, or where it was
 abbrev pub onward : {S : Type 0} → Answer S → ℕ → ℕ
 onward (took x n b) at = n
-onward (refused r p) at = at
+onward (refused r) at = at
 
 -- a step from the reader r: its answer a, and the reader r′ that it hands back
 pub record Stepped {M S : Type 0} (F : Format M S) (r : Reader) (a : Answer S) (r′ : Reader) : Type 0 where
@@ -25,5 +25,5 @@ pub record Stepped {M S : Type 0} (F : Format M S) (r : Reader) (a : Answer S) (
 -- two steps in order: the first refusal stands for both
 abbrev pub joined : {S T : Type 0} → Answer S → Answer T → Answer (S × T)
 joined (took x n b) (took y m c) = took (x, y) m (b && c)
-joined (took x n b) (refused r p) = refused r p
-joined (refused r p) z = refused r p
+joined (took x n b) (refused r) = refused r
+joined (refused r) z = refused r

@@ -17,6 +17,8 @@ use Rattle.xdr.specs.declared.piece.Piece.{Piece}
 use Rattle.rpc.specs.Meaning.Auth.{opaque-auth, auth-unix}
 use Rattle.rpc.specs.Meaning.Message.{call-body}
 use Rattle.rpc.specs.declared.auth.opaque_auth.{«opaque_auth»}
+use Rattle.xdr.specs.declared.refusal.Refusal.{Refusal}
+use Rattle.xdr.specs.declared.refusal.Refusal.the-variants.{Ended}
 
 -- two words that stand together, word by word
 module _ (s : List ℕ) (p : ℕ) where
@@ -43,18 +45,18 @@ module _ (s : List ℕ) (p : ℕ) where
           let z : _≡_ {A = ℕ} 0 1 = cc in absurd (omega arith)
 
   -- the first is refused, or the second
-  pub pair-refused : {r q : ℕ} {C : Type 0} → word-pair .kind .read s p ≡ refused r q → (word .kind .read s p ≡ refused r q → C)
-      → ((v n : ℕ) → word .kind .read s p ≡ took v n true → word .kind .read s n ≡ refused r q → C) → C
+  pub pair-refused : {r : Refusal} {C : Type 0} → word-pair .kind .read s p ≡ refused r → (word .kind .read s p ≡ refused r → C)
+      → ((v n : ℕ) → word .kind .read s p ≡ took v n true → word .kind .read s n ≡ refused r → C) → C
   unfolding word-pair
-  pair-refused {r} {q} {C} g one two = first (leb 4 (length s - p)) refl
+  pair-refused {r} {C} g one two = first (leb 4 (length s - p)) refl
     where
       second : (v n : ℕ) → word .kind .read s p ≡ took v n true → (x : Answer ℕ) → word .kind .read s n ≡ x → C
       second v n f (took w m b) h =
-          let z : _≡_ {A = Answer (ℕ × ℕ)} (took (v, w) m b) (refused r q) = rw (f, h) at g in
+          let z : _≡_ {A = Answer (ℕ × ℕ)} (took (v, w) m b) (refused r) = rw (f, h) at g in
           let y : _≡_ {A = ℕ} 0 1 = cc in absurd (omega arith)
-      second v n f (refused a b) h =
-          let z : _≡_ {A = Answer (ℕ × ℕ)} (refused a b) (refused r q) = rw (f, h) at g in
-          let y : _≡_ {A = Answer ℕ} (refused a b) (refused r q) = cc in
+      second v n f (refused a) h =
+          let z : _≡_ {A = Answer (ℕ × ℕ)} (refused a) (refused r) = rw (f, h) at g in
+          let y : _≡_ {A = Answer ℕ} (refused a) (refused r) = cc in
           two v n f (h ∙ y)
 
       first : (t : Bool) → leb 4 (length s - p) ≡ t → C
@@ -63,38 +65,38 @@ module _ (s : List ℕ) (p : ℕ) where
           second (numberAt 4 s p) (p + 4) f (word .kind .read s (p + 4)) refl
       first false e =
           let f = sym (word-short s p (leb-false 4 (length s - p) e)) in
-          let z : _≡_ {A = Answer (ℕ × ℕ)} (refused 1 p) (refused r q) = rw f at g in
-          let y : _≡_ {A = Answer ℕ} (refused 1 p) (refused r q) = cc in
+          let z : _≡_ {A = Answer (ℕ × ℕ)} (refused (Ended p)) (refused r) = rw f at g in
+          let y : _≡_ {A = Answer ℕ} (refused (Ended p)) (refused r) = cc in
           one (f ∙ y)
 
 -- call, field by field
 module _ (s : List ℕ) (p : ℕ) where
-  call-refused-1 : {r q : ℕ} → word .kind .read s p ≡ refused r q → refused r q ≡ call-body .held .read s p
+  call-refused-1 : {r : Refusal} → word .kind .read s p ≡ refused r → refused r ≡ call-body .held .read s p
   unfolding call-body
   call-refused-1 g = rw (g)
 
   module _ {v1 : ℕ} {n1 : ℕ} (f1 : word .kind .read s p ≡ took v1 n1 true) where
-    call-refused-2 : {r q : ℕ} → word .kind .read s n1 ≡ refused r q → refused r q ≡ call-body .held .read s p
+    call-refused-2 : {r : Refusal} → word .kind .read s n1 ≡ refused r → refused r ≡ call-body .held .read s p
     unfolding call-body
     call-refused-2 g = rw (f1, g)
 
     module _ {v2 : ℕ} {n2 : ℕ} (f2 : word .kind .read s n1 ≡ took v2 n2 true) where
-      call-refused-3 : {r q : ℕ} → word .kind .read s n2 ≡ refused r q → refused r q ≡ call-body .held .read s p
+      call-refused-3 : {r : Refusal} → word .kind .read s n2 ≡ refused r → refused r ≡ call-body .held .read s p
       unfolding call-body
       call-refused-3 g = rw (f1, f2, g)
 
       module _ {v3 : ℕ} {n3 : ℕ} (f3 : word .kind .read s n2 ≡ took v3 n3 true) where
-        call-refused-4 : {r q : ℕ} → word .kind .read s n3 ≡ refused r q → refused r q ≡ call-body .held .read s p
+        call-refused-4 : {r : Refusal} → word .kind .read s n3 ≡ refused r → refused r ≡ call-body .held .read s p
         unfolding call-body
         call-refused-4 g = rw (f1, f2, f3, g)
 
         module _ {v4 : ℕ} {n4 : ℕ} (f4 : word .kind .read s n3 ≡ took v4 n4 true) where
-          call-refused-5 : {r q : ℕ} → opaque-auth .held .read s n4 ≡ refused r q → refused r q ≡ call-body .held .read s p
+          call-refused-5 : {r : Refusal} → opaque-auth .held .read s n4 ≡ refused r → refused r ≡ call-body .held .read s p
           unfolding call-body
           call-refused-5 g = rw (f1, f2, f3, f4, g)
 
           module _ {v5 : «opaque_auth»} {n5 : ℕ} {b5 : Bool} (f5 : opaque-auth .held .read s n4 ≡ took v5 n5 b5) where
-            call-refused-6 : {r q : ℕ} → opaque-auth .held .read s n5 ≡ refused r q → refused r q ≡ call-body .held .read s p
+            call-refused-6 : {r : Refusal} → opaque-auth .held .read s n5 ≡ refused r → refused r ≡ call-body .held .read s p
             unfolding call-body
             call-refused-6 g = rw (f1, f2, f3, f4, f5, g)
 
@@ -105,24 +107,24 @@ module _ (s : List ℕ) (p : ℕ) where
 
 -- the same by its pairs
 module _ (s : List ℕ) (p : ℕ) where
-  pub call-pairs-1 : {r q : ℕ} → word-pair .kind .read s p ≡ refused r q → refused r q ≡ call-body .held .read s p
-  call-pairs-1 g = pair-refused s p g (λ f. call-refused-1 s p f) (λ v n f h. call-refused-2 s p f h)
+  pub call-pairs-1 : {r : Refusal} → word-pair .kind .read s p ≡ refused r → refused r ≡ call-body .held .read s p
+  call-pairs-1 g = pair-refused s g (λ f. call-refused-1 s p f) (λ v n f h. call-refused-2 s p f h)
 
   module _ {v1 v2 n2 : ℕ} (f : word-pair .kind .read s p ≡ took (v1, v2) n2 true) where
-    pub call-pairs-2 : {r q : ℕ} → word-pair .kind .read s n2 ≡ refused r q → refused r q ≡ call-body .held .read s p
+    pub call-pairs-2 : {r : Refusal} → word-pair .kind .read s n2 ≡ refused r → refused r ≡ call-body .held .read s p
     call-pairs-2 g =
         let w = pair-words s p f in
         pair-refused s n2 g (λ h. call-refused-3 s p (w .one) (w .two) h) (λ v n h i. call-refused-4 s p (w .one) (w .two) h i)
 
     module _ {v3 v4 n4 : ℕ} (g : word-pair .kind .read s n2 ≡ took (v3, v4) n4 true) where
-      pub call-pairs-3 : {r q : ℕ} → opaque-auth .held .read s n4 ≡ refused r q → refused r q ≡ call-body .held .read s p
+      pub call-pairs-3 : {r : Refusal} → opaque-auth .held .read s n4 ≡ refused r → refused r ≡ call-body .held .read s p
       call-pairs-3 h =
           let w = pair-words s p f in
           let x = pair-words s n2 g in
           call-refused-5 s p (w .one) (w .two) (x .one) (x .two) h
 
       module _ {v5 : «opaque_auth»} {n5 : ℕ} {b5 : Bool} (h : opaque-auth .held .read s n4 ≡ took v5 n5 b5) where
-        pub call-pairs-4 : {r q : ℕ} → opaque-auth .held .read s n5 ≡ refused r q → refused r q ≡ call-body .held .read s p
+        pub call-pairs-4 : {r : Refusal} → opaque-auth .held .read s n5 ≡ refused r → refused r ≡ call-body .held .read s p
         call-pairs-4 i =
             let w = pair-words s p f in
             let x = pair-words s n2 g in
@@ -137,27 +139,27 @@ module _ (s : List ℕ) (p : ℕ) where
 
 -- unix, field by field
 module _ (s : List ℕ) (p : ℕ) where
-  pub unix-refused-1 : {r q : ℕ} → word .kind .read s p ≡ refused r q → refused r q ≡ auth-unix .held .read s p
+  pub unix-refused-1 : {r : Refusal} → word .kind .read s p ≡ refused r → refused r ≡ auth-unix .held .read s p
   unfolding auth-unix
   unix-refused-1 g = rw (g)
 
   module _ {v1 : ℕ} {n1 : ℕ} (f1 : word .kind .read s p ≡ took v1 n1 true) where
-    pub unix-refused-2 : {r q : ℕ} → pieceHeld .read s n1 ≡ refused r q → refused r q ≡ auth-unix .held .read s p
+    pub unix-refused-2 : {r : Refusal} → pieceHeld .read s n1 ≡ refused r → refused r ≡ auth-unix .held .read s p
     unfolding auth-unix
     unix-refused-2 g = rw (f1, g)
 
     module _ {v2 : Piece} {n2 : ℕ} {b2 : Bool} (f2 : pieceHeld .read s n1 ≡ took v2 n2 b2) where
-      unix-refused-3 : {r q : ℕ} → word .kind .read s n2 ≡ refused r q → refused r q ≡ auth-unix .held .read s p
+      unix-refused-3 : {r : Refusal} → word .kind .read s n2 ≡ refused r → refused r ≡ auth-unix .held .read s p
       unfolding auth-unix
       unix-refused-3 g = rw (f1, f2, g)
 
       module _ {v3 : ℕ} {n3 : ℕ} (f3 : word .kind .read s n2 ≡ took v3 n3 true) where
-        unix-refused-4 : {r q : ℕ} → word .kind .read s n3 ≡ refused r q → refused r q ≡ auth-unix .held .read s p
+        unix-refused-4 : {r : Refusal} → word .kind .read s n3 ≡ refused r → refused r ≡ auth-unix .held .read s p
         unfolding auth-unix
         unix-refused-4 g = rw (f1, f2, f3, g)
 
         module _ {v4 : ℕ} {n4 : ℕ} (f4 : word .kind .read s n3 ≡ took v4 n4 true) where
-          unix-refused-5 : {r q : ℕ} → wordsHeld .read s n4 ≡ refused r q → refused r q ≡ auth-unix .held .read s p
+          unix-refused-5 : {r : Refusal} → wordsHeld .read s n4 ≡ refused r → refused r ≡ auth-unix .held .read s p
           unfolding auth-unix
           unix-refused-5 g = rw (f1, f2, f3, f4, g)
 
@@ -169,11 +171,11 @@ module _ (s : List ℕ) (p : ℕ) where
 -- the same, with the uid and the gid as a pair
 module _ (s : List ℕ) (p : ℕ) {v1 : ℕ} {n1 : ℕ} (f : word .kind .read s p ≡ took v1 n1 true) {v2 : Piece} {n2 : ℕ} {b2 : Bool}
     (g : pieceHeld .read s n1 ≡ took v2 n2 b2) where
-  pub unix-pairs-3 : {r q : ℕ} → word-pair .kind .read s n2 ≡ refused r q → refused r q ≡ auth-unix .held .read s p
+  pub unix-pairs-3 : {r : Refusal} → word-pair .kind .read s n2 ≡ refused r → refused r ≡ auth-unix .held .read s p
   unix-pairs-3 h = pair-refused s n2 h (λ i. unix-refused-3 s p f g i) (λ v n i j. unix-refused-4 s p f g i j)
 
   module _ {v3 v4 n4 : ℕ} (h : word-pair .kind .read s n2 ≡ took (v3, v4) n4 true) where
-    pub unix-pairs-4 : {r q : ℕ} → wordsHeld .read s n4 ≡ refused r q → refused r q ≡ auth-unix .held .read s p
+    pub unix-pairs-4 : {r : Refusal} → wordsHeld .read s n4 ≡ refused r → refused r ≡ auth-unix .held .read s p
     unix-pairs-4 i = let w = pair-words s n2 h in unix-refused-5 s p f g (w .one) (w .two) i
 
     pub unix-pairs-took : {v5 : Piece} {n5 : ℕ} {b5 : Bool} → wordsHeld .read s n4 ≡ took v5 n5 b5

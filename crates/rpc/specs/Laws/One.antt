@@ -69,7 +69,7 @@ msg-type-told = record { back = from; back-view = is }
   where
     from : Answer «msg_type» → MsgTypeRead
     from (took v n b) = MsgType.Took v n
-    from (refused r q) = MsgType.Refused (refusalOf r q)
+    from (refused r) = MsgType.Refused (refusalOf r q)
 
     is : (r : MsgTypeRead) → from (views.viewMsgType r) ≡ r
     is (MsgType.Took v n) = refl
@@ -83,7 +83,7 @@ reply-stat-told = record { back = from; back-view = is }
   where
     from : Answer «reply_stat» → ReplyStatRead
     from (took v n b) = ReplyStat.Took v n
-    from (refused r q) = ReplyStat.Refused (refusalOf r q)
+    from (refused r) = ReplyStat.Refused (refusalOf r q)
 
     is : (r : ReplyStatRead) → from (views.viewReplyStat r) ≡ r
     is (ReplyStat.Took v n) = refl
@@ -97,7 +97,7 @@ accept-stat-told = record { back = from; back-view = is }
   where
     from : Answer «accept_stat» → AcceptStatRead
     from (took v n b) = AcceptStat.Took v n
-    from (refused r q) = AcceptStat.Refused (refusalOf r q)
+    from (refused r) = AcceptStat.Refused (refusalOf r q)
 
     is : (r : AcceptStatRead) → from (views.viewAcceptStat r) ≡ r
     is (AcceptStat.Took v n) = refl
@@ -111,7 +111,7 @@ reject-stat-told = record { back = from; back-view = is }
   where
     from : Answer «reject_stat» → RejectStatRead
     from (took v n b) = RejectStat.Took v n
-    from (refused r q) = RejectStat.Refused (refusalOf r q)
+    from (refused r) = RejectStat.Refused (refusalOf r q)
 
     is : (r : RejectStatRead) → from (views.viewRejectStat r) ≡ r
     is (RejectStat.Took v n) = refl
@@ -125,7 +125,7 @@ auth-flavor-told = record { back = from; back-view = is }
   where
     from : Answer «auth_flavor» → AuthFlavorRead
     from (took v n b) = AuthFlavor.Took v n
-    from (refused r q) = AuthFlavor.Refused (refusalOf r q)
+    from (refused r) = AuthFlavor.Refused (refusalOf r q)
 
     is : (r : AuthFlavorRead) → from (views.viewAuthFlavor r) ≡ r
     is (AuthFlavor.Took v n) = refl
@@ -139,7 +139,7 @@ auth-stat-told = record { back = from; back-view = is }
   where
     from : Answer «auth_stat» → AuthStatRead
     from (took v n b) = AuthStat.Took v n
-    from (refused r q) = AuthStat.Refused (refusalOf r q)
+    from (refused r) = AuthStat.Refused (refusalOf r q)
 
     is : (r : AuthStatRead) → from (views.viewAuthStat r) ≡ r
     is (AuthStat.Took v n) = refl
@@ -153,7 +153,7 @@ opaque-auth-told = record { back = from; back-view = is }
   where
     from : Answer «opaque_auth» → OpaqueAuthRead
     from (took v n b) = OpaqueAuth.Took v n b
-    from (refused r q) = OpaqueAuth.Refused (refusalOf r q)
+    from (refused r) = OpaqueAuth.Refused (refusalOf r q)
 
     is : (r : OpaqueAuthRead) → from (views.viewOpaqueAuth r) ≡ r
     is (OpaqueAuth.Took v n b) = refl
@@ -167,7 +167,7 @@ auth-unix-told = record { back = from; back-view = is }
   where
     from : Answer «auth_unix» → AuthUnixRead
     from (took v n b) = AuthUnix.Took v n b
-    from (refused r q) = AuthUnix.Refused (refusalOf r q)
+    from (refused r) = AuthUnix.Refused (refusalOf r q)
 
     is : (r : AuthUnixRead) → from (views.viewAuthUnix r) ≡ r
     is (AuthUnix.Took v n b) = refl
@@ -181,7 +181,7 @@ mismatch-info-told = record { back = from; back-view = is }
   where
     from : Answer «mismatch_info» → MismatchInfoRead
     from (took v n b) = MismatchInfo.Took v n
-    from (refused r q) = MismatchInfo.Refused (refusalOf r q)
+    from (refused r) = MismatchInfo.Refused (refusalOf r q)
 
     is : (r : MismatchInfoRead) → from (views.viewMismatchInfo r) ≡ r
     is (MismatchInfo.Took v n) = refl
@@ -195,7 +195,7 @@ call-body-told = record { back = from; back-view = is }
   where
     from : Answer «call_body» → CallBodyRead
     from (took v n b) = CallBody.Took v n b
-    from (refused r q) = CallBody.Refused (refusalOf r q)
+    from (refused r) = CallBody.Refused (refusalOf r q)
 
     is : (r : CallBodyRead) → from (views.viewCallBody r) ≡ r
     is (CallBody.Took v n b) = refl
@@ -209,7 +209,7 @@ accept-body-told = record { back = from; back-view = is }
   where
     from : Answer «accept_body» → AcceptBodyRead
     from (took v n b) = AcceptBody.Took v n b
-    from (refused r q) = AcceptBody.Refused (refusalOf r q)
+    from (refused r) = AcceptBody.Refused (refusalOf r q)
 
     is : (r : AcceptBodyRead) → from (views.viewAcceptBody r) ≡ r
     is (AcceptBody.Took v n b) = refl
@@ -223,7 +223,7 @@ accepted-reply-told = record { back = from; back-view = is }
   where
     from : Answer «accepted_reply» → AcceptedReplyRead
     from (took v n b) = AcceptedReply.Took v n b
-    from (refused r q) = AcceptedReply.Refused (refusalOf r q)
+    from (refused r) = AcceptedReply.Refused (refusalOf r q)
 
     is : (r : AcceptedReplyRead) → from (views.viewAcceptedReply r) ≡ r
     is (AcceptedReply.Took v n b) = refl
@@ -237,7 +237,7 @@ rejected-reply-told = record { back = from; back-view = is }
   where
     from : Answer «rejected_reply» → RejectedReplyRead
     from (took v n b) = RejectedReply.Took v n b
-    from (refused r q) = RejectedReply.Refused (refusalOf r q)
+    from (refused r) = RejectedReply.Refused (refusalOf r q)
 
     is : (r : RejectedReplyRead) → from (views.viewRejectedReply r) ≡ r
     is (RejectedReply.Took v n b) = refl
@@ -251,7 +251,7 @@ reply-body-told = record { back = from; back-view = is }
   where
     from : Answer «reply_body» → ReplyBodyRead
     from (took v n b) = ReplyBody.Took v n b
-    from (refused r q) = ReplyBody.Refused (refusalOf r q)
+    from (refused r) = ReplyBody.Refused (refusalOf r q)
 
     is : (r : ReplyBodyRead) → from (views.viewReplyBody r) ≡ r
     is (ReplyBody.Took v n b) = refl
@@ -265,7 +265,7 @@ rpc-body-told = record { back = from; back-view = is }
   where
     from : Answer «rpc_body» → RpcBodyRead
     from (took v n b) = RpcBody.Took v n b
-    from (refused r q) = RpcBody.Refused (refusalOf r q)
+    from (refused r) = RpcBody.Refused (refusalOf r q)
 
     is : (r : RpcBodyRead) → from (views.viewRpcBody r) ≡ r
     is (RpcBody.Took v n b) = refl
@@ -279,7 +279,7 @@ rpc-msg-told = record { back = from; back-view = is }
   where
     from : Answer «rpc_msg» → RpcMsgRead
     from (took v n b) = RpcMsg.Took v n b
-    from (refused r q) = RpcMsg.Refused (refusalOf r q)
+    from (refused r) = RpcMsg.Refused (refusalOf r q)
 
     is : (r : RpcMsgRead) → from (views.viewRpcMsg r) ≡ r
     is (RpcMsg.Took v n b) = refl

@@ -22,9 +22,10 @@ use Rattle.xdr.specs.declared.piece.Piece.{Piece}
 use Rattle.rpc.specs.Meaning.Auth.{auth-unix}
 use Rattle.rpc.specs.Meaning.UnixIn.{unixIn, AnswersIn}
 use Rattle.rpc.specs.declared.auth.auth_unix.{«auth_unix»}
+use Rattle.xdr.specs.declared.refusal.Refusal.the-variants.{Ended, TooLong}
 
 module _ (s : List ℕ) (x : Piece) where
-  pub unix-outside : isInside s x ≡ false → refused 1 0 ≡ unixIn s x
+  pub unix-outside : isInside s x ≡ false → refused (Ended 0) ≡ unixIn s x
   unfolding unixIn
   unix-outside h = simp h
 
@@ -33,7 +34,7 @@ module _ (s : List ℕ) (x : Piece) where
   unix-inside h e = e ∙ sym (simp h)
 
   module _ (given : (i : ℕ) → Fits w8 (getD s i 0)) where
-    pub in-long : most < length s → AnswersIn s x (refused 3 0)
+    pub in-long : most < length s → AnswersIn s x (refused TooLong)
     unfolding opened
     in-long h = record { is = sym (simp (lt-leb (length s) most h)); bytes = known-bytes s given }
 

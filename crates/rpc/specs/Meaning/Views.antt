@@ -55,7 +55,7 @@ use Rattle.rpc.specs.declared.answer.RpcMsgRead.{RpcMsgRead}
 use Rattle.rpc.specs.declared.answer.RpcMsgRead.the-variants as RpcMsg
 
 abbrev pub viewMsgType : MsgTypeRead → Answer «msg_type»
-viewMsgType (MsgType.Refused r) = refusal r
+viewMsgType (MsgType.Refused r) = refused r
 viewMsgType (MsgType.Took v n) = took v n true
 
 abbrev pub lostMsgType : MsgTypeRead → Refusal
@@ -63,7 +63,7 @@ lostMsgType (MsgType.Refused r) = r
 lostMsgType (MsgType.Took v n) = PastEnd
 
 abbrev pub viewReplyStat : ReplyStatRead → Answer «reply_stat»
-viewReplyStat (ReplyStat.Refused r) = refusal r
+viewReplyStat (ReplyStat.Refused r) = refused r
 viewReplyStat (ReplyStat.Took v n) = took v n true
 
 abbrev pub lostReplyStat : ReplyStatRead → Refusal
@@ -71,7 +71,7 @@ lostReplyStat (ReplyStat.Refused r) = r
 lostReplyStat (ReplyStat.Took v n) = PastEnd
 
 abbrev pub viewAcceptStat : AcceptStatRead → Answer «accept_stat»
-viewAcceptStat (AcceptStat.Refused r) = refusal r
+viewAcceptStat (AcceptStat.Refused r) = refused r
 viewAcceptStat (AcceptStat.Took v n) = took v n true
 
 abbrev pub lostAcceptStat : AcceptStatRead → Refusal
@@ -79,7 +79,7 @@ lostAcceptStat (AcceptStat.Refused r) = r
 lostAcceptStat (AcceptStat.Took v n) = PastEnd
 
 abbrev pub viewRejectStat : RejectStatRead → Answer «reject_stat»
-viewRejectStat (RejectStat.Refused r) = refusal r
+viewRejectStat (RejectStat.Refused r) = refused r
 viewRejectStat (RejectStat.Took v n) = took v n true
 
 abbrev pub lostRejectStat : RejectStatRead → Refusal
@@ -87,7 +87,7 @@ lostRejectStat (RejectStat.Refused r) = r
 lostRejectStat (RejectStat.Took v n) = PastEnd
 
 abbrev pub viewAuthFlavor : AuthFlavorRead → Answer «auth_flavor»
-viewAuthFlavor (AuthFlavor.Refused r) = refusal r
+viewAuthFlavor (AuthFlavor.Refused r) = refused r
 viewAuthFlavor (AuthFlavor.Took v n) = took v n true
 
 abbrev pub lostAuthFlavor : AuthFlavorRead → Refusal
@@ -95,7 +95,7 @@ lostAuthFlavor (AuthFlavor.Refused r) = r
 lostAuthFlavor (AuthFlavor.Took v n) = PastEnd
 
 abbrev pub viewAuthStat : AuthStatRead → Answer «auth_stat»
-viewAuthStat (AuthStat.Refused r) = refusal r
+viewAuthStat (AuthStat.Refused r) = refused r
 viewAuthStat (AuthStat.Took v n) = took v n true
 
 abbrev pub lostAuthStat : AuthStatRead → Refusal
@@ -103,7 +103,7 @@ lostAuthStat (AuthStat.Refused r) = r
 lostAuthStat (AuthStat.Took v n) = PastEnd
 
 abbrev pub viewMismatchInfo : MismatchInfoRead → Answer «mismatch_info»
-viewMismatchInfo (MismatchInfo.Refused r) = refusal r
+viewMismatchInfo (MismatchInfo.Refused r) = refused r
 viewMismatchInfo (MismatchInfo.Took v n) = took v n true
 
 abbrev pub lostMismatchInfo : MismatchInfoRead → Refusal
@@ -111,7 +111,7 @@ lostMismatchInfo (MismatchInfo.Refused r) = r
 lostMismatchInfo (MismatchInfo.Took v n) = PastEnd
 
 abbrev pub viewOpaqueAuth : OpaqueAuthRead → Answer «opaque_auth»
-viewOpaqueAuth (OpaqueAuth.Refused r) = refusal r
+viewOpaqueAuth (OpaqueAuth.Refused r) = refused r
 viewOpaqueAuth (OpaqueAuth.Took v n p) = took v n p
 
 abbrev pub lostOpaqueAuth : OpaqueAuthRead → Refusal
@@ -119,7 +119,7 @@ lostOpaqueAuth (OpaqueAuth.Refused r) = r
 lostOpaqueAuth (OpaqueAuth.Took v n p) = PastEnd
 
 abbrev pub viewAuthUnix : AuthUnixRead → Answer «auth_unix»
-viewAuthUnix (AuthUnix.Refused r) = refusal r
+viewAuthUnix (AuthUnix.Refused r) = refused r
 viewAuthUnix (AuthUnix.Took v n p) = took v n p
 
 abbrev pub lostAuthUnix : AuthUnixRead → Refusal
@@ -127,7 +127,7 @@ lostAuthUnix (AuthUnix.Refused r) = r
 lostAuthUnix (AuthUnix.Took v n p) = PastEnd
 
 abbrev pub viewCallBody : CallBodyRead → Answer «call_body»
-viewCallBody (CallBody.Refused r) = refusal r
+viewCallBody (CallBody.Refused r) = refused r
 viewCallBody (CallBody.Took v n p) = took v n p
 
 abbrev pub lostCallBody : CallBodyRead → Refusal
@@ -135,7 +135,7 @@ lostCallBody (CallBody.Refused r) = r
 lostCallBody (CallBody.Took v n p) = PastEnd
 
 abbrev pub viewAcceptBody : AcceptBodyRead → Answer «accept_body»
-viewAcceptBody (AcceptBody.Refused r) = refusal r
+viewAcceptBody (AcceptBody.Refused r) = refused r
 viewAcceptBody (AcceptBody.Took v n p) = took v n p
 
 abbrev pub lostAcceptBody : AcceptBodyRead → Refusal
@@ -143,7 +143,7 @@ lostAcceptBody (AcceptBody.Refused r) = r
 lostAcceptBody (AcceptBody.Took v n p) = PastEnd
 
 abbrev pub viewAcceptedReply : AcceptedReplyRead → Answer «accepted_reply»
-viewAcceptedReply (AcceptedReply.Refused r) = refusal r
+viewAcceptedReply (AcceptedReply.Refused r) = refused r
 viewAcceptedReply (AcceptedReply.Took v n p) = took v n p
 
 abbrev pub lostAcceptedReply : AcceptedReplyRead → Refusal
@@ -151,7 +151,7 @@ lostAcceptedReply (AcceptedReply.Refused r) = r
 lostAcceptedReply (AcceptedReply.Took v n p) = PastEnd
 
 abbrev pub viewRejectedReply : RejectedReplyRead → Answer «rejected_reply»
-viewRejectedReply (RejectedReply.Refused r) = refusal r
+viewRejectedReply (RejectedReply.Refused r) = refused r
 viewRejectedReply (RejectedReply.Took v n p) = took v n p
 
 abbrev pub lostRejectedReply : RejectedReplyRead → Refusal
@@ -159,7 +159,7 @@ lostRejectedReply (RejectedReply.Refused r) = r
 lostRejectedReply (RejectedReply.Took v n p) = PastEnd
 
 abbrev pub viewReplyBody : ReplyBodyRead → Answer «reply_body»
-viewReplyBody (ReplyBody.Refused r) = refusal r
+viewReplyBody (ReplyBody.Refused r) = refused r
 viewReplyBody (ReplyBody.Took v n p) = took v n p
 
 abbrev pub lostReplyBody : ReplyBodyRead → Refusal
@@ -167,7 +167,7 @@ lostReplyBody (ReplyBody.Refused r) = r
 lostReplyBody (ReplyBody.Took v n p) = PastEnd
 
 abbrev pub viewRpcBody : RpcBodyRead → Answer «rpc_body»
-viewRpcBody (RpcBody.Refused r) = refusal r
+viewRpcBody (RpcBody.Refused r) = refused r
 viewRpcBody (RpcBody.Took v n p) = took v n p
 
 abbrev pub lostRpcBody : RpcBodyRead → Refusal
@@ -175,7 +175,7 @@ lostRpcBody (RpcBody.Refused r) = r
 lostRpcBody (RpcBody.Took v n p) = PastEnd
 
 abbrev pub viewRpcMsg : RpcMsgRead → Answer «rpc_msg»
-viewRpcMsg (RpcMsg.Refused r) = refusal r
+viewRpcMsg (RpcMsg.Refused r) = refused r
 viewRpcMsg (RpcMsg.Took v n p) = took v n p
 
 abbrev pub lostRpcMsg : RpcMsgRead → Refusal

@@ -32,6 +32,8 @@ use Rattle.rpc.specs.declared.message.rpc_body.the-variants.{CALL, REPLY}
 use Rattle.rpc.specs.declared.reply.reply_body.{«reply_body»}
 use Rattle.rpc.specs.declared.message.rpc_msg.{«rpc_msg»}
 use Rattle.rpcwire.specs.Meaning.Choice.{Decision, refuse, reply, silence, hand-over, served, byProgram, byVersion, byUnix, byFlavor, byBody, byMessage, decided, Chosen, turned-away, replied, silent, handed, Outcome, outcome, replying, carriedOut, Chooses, Leaves, ChoicePromised}
+use Rattle.xdr.specs.declared.refusal.Refusal.{Refusal}
+use Rattle.xdr.specs.declared.refusal.Refusal.the-variants.{NoRoom}
 
 -- a message of 24 bytes that has no pieces
 pub record Short (m : «rpc_msg») : Type 0 where
@@ -48,11 +50,11 @@ unavail-short x = record { long = refl; whole = refl }
 
 -- what the writer of a message says and leaves, of one that is short
 module _ (m : «rpc_msg») (h : Short m) (o : List ℕ) where
-  says-short : writing rpc-msg [] m 0 (length o) ≡ cond (leb 24 (length o)) (done 24) (unwritten 5)
+  says-short : writing rpc-msg [] m 0 (length o) ≡ cond (leb 24 (length o)) (done 24) (unwritten NoRoom)
   unfolding writing placing
   says-short = rw (h .whole, h .long, le-leb 0 (length o) (omega arith))
 
-  done-by : (t : Bool) → leb 24 (length o) ≡ t → {n : ℕ} {o′ : List ℕ} → done n ≡ cond t (done 24) (unwritten 5) → o′ ≡ leaving rpc-msg [] m (done n) 0 o
+  done-by : (t : Bool) → leb 24 (length o) ≡ t → {n : ℕ} {o′ : List ℕ} → done n ≡ cond t (done 24) (unwritten NoRoom) → o′ ≡ leaving rpc-msg [] m (done n) 0 o
       → outcome (replied n) o′ ≡ replying m o
   unfolding replying
   done-by true e {n} {o′} f g =
@@ -63,13 +65,13 @@ module _ (m : «rpc_msg») (h : Short m) (o : List ℕ) where
   pub reply-done : {w : Written} {n : ℕ} {o′ : List ℕ} → Writes rpc-msg [] m 0 o w o′ → w ≡ done n → outcome (replied n) o′ ≡ replying m o
   reply-done c e = done-by (leb 24 (length o)) refl (sym e ∙ c .says ∙ says-short) (c .leaves ∙ ap (λ v. leaving rpc-msg [] m v 0 o) e)
 
-  none-by : (t : Bool) → leb 24 (length o) ≡ t → {r : ℕ} {o′ : List ℕ} → unwritten r ≡ cond t (done 24) (unwritten 5) → o′ ≡ o
+  none-by : (t : Bool) → leb 24 (length o) ≡ t → {r : Refusal} {o′ : List ℕ} → unwritten r ≡ cond t (done 24) (unwritten NoRoom) → o′ ≡ o
       → outcome (turned-away 5 0) o′ ≡ replying m o
   unfolding replying
   none-by true e f g = let z : _≡_ {A = ℕ} 0 1 = cc in absurd (omega arith)
   none-by false e f g = ap (λ l. outcome (turned-away 5 0) l) g ∙ sym (rw e)
 
-  pub reply-none : {w : Written} {r : ℕ} {o′ : List ℕ} → Writes rpc-msg [] m 0 o w o′ → w ≡ unwritten r → outcome (turned-away 5 0) o′ ≡ replying m o
+  pub reply-none : {w : Written} {r : Refusal} {o′ : List ℕ} → Writes rpc-msg [] m 0 o w o′ → w ≡ unwritten r → outcome (turned-away 5 0) o′ ≡ replying m o
   reply-none c e = none-by (leb 24 (length o)) refl (sym e ∙ c .says ∙ says-short) (c .leaves ∙ ap (λ v. leaving rpc-msg [] m v 0 o) e)
 
 -- a call whose credential is read
@@ -100,7 +102,7 @@ not-served p h = simp (ne-eqb p 100003 (λ e. h (inr (inl e))), ne-eqb p 100000 
 
 -- what the choice is, as far as the message is read
 module _ (s : List ℕ) (seen : Bool) (o : List ℕ) where
-  pub not-taken : {r q : ℕ} → opened s 0 (rpc-msg .held .read s 0) ≡ refused r q → outcome (turned-away r q) o ≡ carriedOut (decided s seen) o
+  pub not-taken : {r : Refusal} → opened s 0 (rpc-msg .held .read s 0) ≡ refused r → outcome (turned-away r q) o ≡ carriedOut (decided s seen) o
   unfolding decided
   not-taken e = sym (ap (λ x. carriedOut (byMessage s seen x) o) e)
 
@@ -130,7 +132,7 @@ module _ (s : List ℕ) (seen : Bool) (o : List ℕ) where
       by-unix : {y : Answer «auth_unix»} → unixIn s (c .cred .body) ≡ y → byFlavor s seen x c n (c .cred .flavor) ≡ byUnix s seen x c n y
       by-unix e = ap (byFlavor s seen x c n) h ∙ ap (byUnix s seen x c n) e
 
-      pub unix-refused : {r q : ℕ} → unixIn s (c .cred .body) ≡ refused r q
+      pub unix-refused : {r : Refusal} → unixIn s (c .cred .body) ≡ refused r
           → outcome (turned-away r q) o ≡ carriedOut (byFlavor s seen x c n (c .cred .flavor)) o
       unix-refused e = sym (ap (λ d. carriedOut d o) (by-unix e))
 
@@ -159,7 +161,7 @@ module _ (s : List ℕ) (seen : Bool) where
 
   brief-unix : (x : ℕ) (c : «call_body») (n : ℕ) (r : Answer «auth_unix») → Brief (byUnix s seen x c n r)
   brief-unix x c n (took a k b) = brief-version x c (some a) n
-  brief-unix x c n (refused r q) = tt
+  brief-unix x c n (refused r) = tt
 
   brief-flavor : (x : ℕ) (c : «call_body») (n : ℕ) (f : «auth_flavor») → Brief (byFlavor s seen x c n f)
   brief-flavor x c n «AUTH_NULL» = brief-version x c none n
@@ -173,7 +175,7 @@ module _ (s : List ℕ) (seen : Bool) where
 
   brief-message : (r : Answer «rpc_msg») → Brief (byMessage s seen r)
   brief-message (took m n b) = brief-body (m .xid) n (m .body)
-  brief-message (refused r q) = tt
+  brief-message (refused r) = tt
 
   brief-decided : Brief (decided s seen)
   unfolding decided

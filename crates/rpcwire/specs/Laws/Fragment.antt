@@ -22,21 +22,22 @@ use Rattle.rpcwire.specs.Meaning.Fragment.{fragmentOf, fragmentSaid, fra
 use Rattle.rpcwire.specs.Laws.Steps.{begin-more, settled-done, walk-ended}
 use Rattle.rpcwire.specs.Laws.Promise.{fresh-fits}
 use Rattle.rpcwire.specs.Laws.Turns.{copied-walk}
+use Rattle.xdr.specs.declared.refusal.Refusal.the-variants.{TooLong, NoRoom, PastEnd}
 
 -- ---- the writer, by case
 
 module _ (m : List ℕ) (at : ℕ) (o : List ℕ) (b : Bytes m) where
-  pub fragment-past : length o < at → WritesFragment m at o (unwritten 9) o
+  pub fragment-past : length o < at → WritesFragment m at o (unwritten PastEnd) o
   unfolding fragmentSaid
   fragment-past h = record { says = simp (lt-leb at (length o) h); leaves = refl; bytes = b }
 
   module _ (h : at ≤ length o) where
-    pub fragment-long : most < length m → WritesFragment m at o (unwritten 3) o
+    pub fragment-long : most < length m → WritesFragment m at o (unwritten TooLong) o
     unfolding fragmentSaid
     fragment-long g = record { says = simp (le-leb at (length o) h, lt-leb (length m) most g); leaves = refl; bytes = b }
 
     module _ (g : length m ≤ most) where
-      pub fragment-short : length o - at < 4 + length m → WritesFragment m at o (unwritten 5) o
+      pub fragment-short : length o - at < 4 + length m → WritesFragment m at o (unwritten NoRoom) o
       unfolding fragmentSaid
       fragment-short r =
           let k : length o < at + 4 + length m = omega arith in
@@ -122,14 +123,14 @@ module _ (m : List ℕ) (at : ℕ) (o : List ℕ) where
   unfolding fragmentSaid
   was-done {n} e = go (leb at (length o)) refl (leb (length m) most) refl (leb (at + 4 + length m) (length o)) refl
     where
-      no : {r : ℕ} → done n ≡ unwritten r → (at ≤ length o) × (n ≡ at + 4 + length m)
+      no : {r : Refusal} → done n ≡ unwritten r → (at ≤ length o) × (n ≡ at + 4 + length m)
       no f = let z : _≡_ {A = ℕ} 0 1 = cc in absurd (omega arith)
 
       go : (a : Bool) → leb at (length o) ≡ a → (b : Bool) → leb (length m) most ≡ b → (r : Bool) → leb (at + 4 + length m) (length o) ≡ r
           → (at ≤ length o) × (n ≡ at + 4 + length m)
-      go false ha b hb r hr = no {r = 9} (simp ha at e)
-      go true ha false hb r hr = no {r = 3} (simp (ha, hb) at e)
-      go true ha true hb false hr = no {r = 5} (simp (ha, hb, hr) at e)
+      go false ha b hb r hr = no {r = PastEnd} (simp ha at e)
+      go true ha false hb r hr = no {r = TooLong} (simp (ha, hb) at e)
+      go true ha true hb false hr = no {r = NoRoom} (simp (ha, hb, hr) at e)
       go true ha true hb true hr =
           let f : _≡_ {A = Written} (done n) (done (at + 4 + length m)) = simp (ha, hb, hr) at e in
           (leb-true at (length o) ha, cc f)

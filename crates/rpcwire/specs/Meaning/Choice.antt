@@ -47,7 +47,7 @@ module _ (s : List ℕ) (seen : Bool) where
   -- the auth_unix of an AUTH_UNIX credential, with the body's end as the end
   abbrev pub byUnix : (xid : ℕ) → «call_body» → (args : ℕ) → Answer «auth_unix» → Decision
   byUnix xid c args (took a n b) = byVersion seen xid c (some a) args
-  byUnix xid c args (refused r q) = refuse r q
+  byUnix xid c args (refused r) = refuse r q
 
   abbrev pub byFlavor : (xid : ℕ) → «call_body» → (args : ℕ) → «auth_flavor» → Decision
   byFlavor xid c args «AUTH_UNIX» = byUnix xid c args (unixIn s (c .cred .body))
@@ -62,7 +62,7 @@ module _ (s : List ℕ) (seen : Bool) where
   -- the rpc_msg at the message's start, with refusals 3, 1 and 2; the arguments begin behind it
   abbrev pub byMessage : Answer «rpc_msg» → Decision
   byMessage (took m n b) = byBody (m .xid) n (m .body)
-  byMessage (refused r q) = refuse r q
+  byMessage (refused r) = refuse r q
 
   unfoldable pub decided : Decision
   unfolding byVersion

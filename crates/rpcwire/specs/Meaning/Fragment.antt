@@ -10,6 +10,7 @@ use Rattle.xdr.specs.Meaning.Bytes.{Bytes, part}
 use Rattle.xdr.specs.Meaning.Answer.{most, Written, done, unwritten}
 use Rattle.xdr.specs.Meaning.Items.{word}
 use Rattle.rpcwire.specs.Meaning.Stream.{complete, stand, fresh, feedOf}
+use Rattle.xdr.specs.declared.refusal.Refusal.the-variants.{TooLong, NoRoom, PastEnd}
 
 -- a last fragment: the header is a word, the length plus 2 ^ 31
 unfoldable pub fragmentOf : List ℕ → List ℕ
@@ -19,8 +20,8 @@ fragmentOf m = word .kind .write (length m + 2147483648) ++ m
 unfoldable pub fragmentSaid : List ℕ → (at len : ℕ) → Written
 fragmentSaid m at len =
     cond (leb at len)
-    (cond (leb (length m) most) (cond (leb (at + 4 + length m) len) (done (at + 4 + length m)) (unwritten 5)) (unwritten 3))
-    (unwritten 9)
+    (cond (leb (length m) most) (cond (leb (at + 4 + length m) len) (done (at + 4 + length m)) (unwritten NoRoom)) (unwritten TooLong))
+    (unwritten PastEnd)
 
 -- what the buffer holds afterwards: a refusal leaves it as it was
 abbrev pub fragmentLeft : List ℕ → Written → ℕ → List ℕ → List ℕ

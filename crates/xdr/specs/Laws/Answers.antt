@@ -15,7 +15,6 @@ use Rattle.xdr.specs.Meaning.Codecs.{_⨾_}
 use Rattle.xdr.specs.Meaning.Items.{number, word, hyper, word-pair, hyper-pair, flag, int, long}
 use Rattle.xdr.specs.Meaning.Formats.{eightHeld, pieceHeld, wordsHeld}
 use Rattle.xdr.specs.Meaning.Pieces.{pieceAnswer}
-use Rattle.xdr.specs.Meaning.Views.{refusal}
 use Rattle.xdr.specs.Laws.Reading.{number-read}
 use Rattle.xdr.specs.declared.refusal.Refusal.{Refusal}
 use Rattle.xdr.specs.declared.refusal.Refusal.the-variants.{Ended}
@@ -27,12 +26,12 @@ module _ {R A : Type 0} (view : R → Answer A) {x : Answer A} {r t : R} where
   on e f = sym e ∙ ap view f
 
   -- it refused
-  pub off : (lost : R → Refusal) {q : Refusal} → view r ≡ x → r ≡ t → q ≡ lost r → view t ≡ refusal (lost t) → x ≡ refusal q
-  off lost e f g h = sym e ∙ ap view f ∙ h ∙ ap refusal (sym (g ∙ ap lost f))
+  pub off : (lost : R → Refusal) {q : Refusal} → view r ≡ x → r ≡ t → q ≡ lost r → view t ≡ refused (lost t) → x ≡ refused q
+  off lost e f g h = sym e ∙ ap view f ∙ h ∙ ap refused (sym (g ∙ ap lost f))
 
 -- a number of k bytes, by the room for it
 module _ (k : ℕ) (s : List ℕ) (p : ℕ) where
-  pub number-short : length s - p < k → refused 1 p ≡ number k .kind .read s p
+  pub number-short : length s - p < k → refused (Ended p) ≡ number k .kind .read s p
   number-short h = rw (number-read k s p, lt-leb k (length s - p) h)
 
   pub number-took : {v : ℕ} → k ≤ length s - p → v ≡ numberAt k s p → took v (p + k) true ≡ number k .kind .read s p
@@ -44,24 +43,24 @@ module _ (k : ℕ) (s : List ℕ) (p : ℕ) where
       let g : took (numberAt k s p) (p + k) true ≡ took v n b = simp e at (sym (number-read k s p) ∙ f) in
       (leb-true k (length s - p) e, cc, cc)
   by-room {v} {n} {b} false e f =
-      let g : _≡_ {A = Answer ℕ} (refused 1 p) (took v n b) = simp e at (sym (number-read k s p) ∙ f) in
+      let g : _≡_ {A = Answer ℕ} (refused (Ended p)) (took v n b) = simp e at (sym (number-read k s p) ∙ f) in
       let z : _≡_ {A = ℕ} 0 1 = cc in absurd (omega arith)
 
   -- what was taken had room
   pub number-within : {v n : ℕ} {b : Bool} → number k .kind .read s p ≡ took v n b → (k ≤ length s - p) × (v ≡ numberAt k s p) × (n ≡ p + k)
   number-within f = by-room (leb k (length s - p)) refl f
 
-  by-no-room : {r q : ℕ} (t : Bool) → leb k (length s - p) ≡ t → number k .kind .read s p ≡ refused r q
-      → (length s - p < k) × (_≡_ {A = Answer ℕ} (refused r q) (refused 1 p))
-  by-no-room {r} {q} true e f =
-      let g : _≡_ {A = Answer ℕ} (took (numberAt k s p) (p + k) true) (refused r q) = simp e at (sym (number-read k s p) ∙ f) in
+  by-no-room : {r : Refusal} (t : Bool) → leb k (length s - p) ≡ t → number k .kind .read s p ≡ refused r
+      → (length s - p < k) × (_≡_ {A = Answer ℕ} (refused r) (refused (Ended p)))
+  by-no-room {r} true e f =
+      let g : _≡_ {A = Answer ℕ} (took (numberAt k s p) (p + k) true) (refused r) = simp e at (sym (number-read k s p) ∙ f) in
       let z : _≡_ {A = ℕ} 0 1 = cc in absurd (omega arith)
-  by-no-room {r} {q} false e f =
-      let g : _≡_ {A = Answer ℕ} (refused 1 p) (refused r q) = simp e at (sym (number-read k s p) ∙ f) in
+  by-no-room {r} false e f =
+      let g : _≡_ {A = Answer ℕ} (refused (Ended p)) (refused r) = simp e at (sym (number-read k s p) ∙ f) in
       (leb-false k (length s - p) e, sym g)
 
   -- what was refused had none
-  pub number-without : {r q : ℕ} → number k .kind .read s p ≡ refused r q → (length s - p < k) × (_≡_ {A = Answer ℕ} (refused r q) (refused 1 p))
+  pub number-without : {r : Refusal} → number k .kind .read s p ≡ refused r → (length s - p < k) × (_≡_ {A = Answer ℕ} (refused r) (refused (Ended p)))
   number-without f = by-no-room (leb k (length s - p)) refl f
 
 -- two numbers of k bytes that stand together: where the first that is not whole begins, in a source of n bytes
@@ -82,16 +81,16 @@ module _ (k : ℕ) (s : List ℕ) (p : ℕ) where
   pub pair-took : {a b n : ℕ} → k + k ≤ length s - p → a ≡ numberAt k s p → b ≡ numberAt k s (p + k) → n ≡ p + k + k → took (a, b) n true ≡ (number k ⨾ number k) .kind .read s p
   pair-took {a} {b} h e f g = rw (g, sym (number-took k s p {v = a} (omega arith) e), sym (number-took k s (p + k) {v = b} (omega arith) f))
 
-  pair-end : (t : Bool) → leb k (length s - p) ≡ t → length s - p < k + k → refused 1 (cond t (p + k) p) ≡ (number k ⨾ number k) .kind .read s p
+  pair-end : (t : Bool) → leb k (length s - p) ≡ t → length s - p < k + k → refused (Ended (cond t (p + k) p)) ≡ (number k ⨾ number k) .kind .read s p
   pair-end true e h = rw (sym (number-took k s p (leb-true k (length s - p) e) refl), sym (number-short k s (p + k) (omega (arith, leb-true k (length s - p) e))))
   pair-end false e h = rw (sym (number-short k s p (leb-false k (length s - p) e)))
 
-  pub pair-short : length s - p < k + k → refused 1 (pairEnd k (length s) p) ≡ (number k ⨾ number k) .kind .read s p
+  pub pair-short : length s - p < k + k → refused (Ended (pairEnd k (length s) p)) ≡ (number k ⨾ number k) .kind .read s p
   unfolding pairEnd
   pair-short h = pair-end (leb k (length s - p)) refl h
 
 module _ (s : List ℕ) (p : ℕ) where
-  pub word-short : length s - p < 4 → refused 1 p ≡ word .kind .read s p
+  pub word-short : length s - p < 4 → refused (Ended p) ≡ word .kind .read s p
   unfolding word
   word-short h = number-short 4 s p h
 
@@ -99,7 +98,7 @@ module _ (s : List ℕ) (p : ℕ) where
   unfolding word
   word-took h e = number-took 4 s p h e
 
-  pub hyper-short : length s - p < 8 → refused 1 p ≡ hyper .kind .read s p
+  pub hyper-short : length s - p < 8 → refused (Ended p) ≡ hyper .kind .read s p
   unfolding hyper
   hyper-short h = number-short 8 s p h
 
@@ -115,7 +114,7 @@ module _ (s : List ℕ) (p : ℕ) where
   unfolding word-pair word
   word-pair-took h e f = pair-took 4 s p h e f (omega arith)
 
-  pub word-pair-short : length s - p < 8 → refused 1 (pairEnd 4 (length s) p) ≡ word-pair .kind .read s p
+  pub word-pair-short : length s - p < 8 → refused (Ended (pairEnd 4 (length s) p)) ≡ word-pair .kind .read s p
   unfolding word-pair word
   word-pair-short h = pair-short 4 s p h
 
@@ -123,7 +122,7 @@ module _ (s : List ℕ) (p : ℕ) where
   unfolding hyper-pair hyper
   hyper-pair-took h e f = pair-took 8 s p h e f (omega arith)
 
-  pub hyper-pair-short : length s - p < 16 → refused 1 (pairEnd 8 (length s) p) ≡ hyper-pair .kind .read s p
+  pub hyper-pair-short : length s - p < 16 → refused (Ended (pairEnd 8 (length s) p)) ≡ hyper-pair .kind .read s p
   unfolding hyper-pair hyper
   hyper-pair-short h = pair-short 8 s p h
 
@@ -132,7 +131,7 @@ module _ (s : List ℕ) (p : ℕ) where
   unfolding word int
   int-took e f = rw (e, f)
 
-  pub int-refused : {r q : ℕ} → word .kind .read s p ≡ refused r q → refused r q ≡ int .kind .read s p
+  pub int-refused : {r : Refusal} → word .kind .read s p ≡ refused r → refused r ≡ int .kind .read s p
   unfolding word int
   int-refused f = rw f
 
@@ -141,7 +140,7 @@ module _ (s : List ℕ) (p : ℕ) where
   unfolding hyper long
   long-took e f = rw (e, f)
 
-  pub long-refused : {r q : ℕ} → hyper .kind .read s p ≡ refused r q → refused r q ≡ long .kind .read s p
+  pub long-refused : {r : Refusal} → hyper .kind .read s p ≡ refused r → refused r ≡ long .kind .read s p
   unfolding hyper long
   long-refused f = rw f
 
@@ -156,14 +155,14 @@ module _ (s : List ℕ) (p : ℕ) where
   pub flag-took : {v n : ℕ} → word .kind .read s p ≡ took v n true → took (not (eqb v 0)) n (ltb v 2) ≡ flag .kind .read s p
   flag-took {v} {n} f = flag-by v n f
 
-  pub flag-refused : {r q : ℕ} → word .kind .read s p ≡ refused r q → refused r q ≡ flag .kind .read s p
+  pub flag-refused : {r : Refusal} → word .kind .read s p ≡ refused r → refused r ≡ flag .kind .read s p
   unfolding flag
   flag-refused f = rw f
 
   eight-by : (x : Answer ℕ) → hyper .kind .read s p ≡ x → x ≡ eightHeld .read s p
   unfolding eightHeld
   eight-by (took v n b) f = rw f
-  eight-by (refused r q) f = rw f
+  eight-by (refused r) f = rw f
 
   pub eight-is : {x : Answer ℕ} → x ≡ hyper .kind .read s p → x ≡ eightHeld .read s p
   eight-is {x} e = eight-by x (sym e)
@@ -173,21 +172,21 @@ module _ (s : List ℕ) (p : ℕ) where
   unfolding pieceHeld
   piece-took f = let w = word-within f in rw (w .1, le-leb 4 (length s - p) (w .0))
 
-  pub piece-refused : {r q : ℕ} → word .kind .read s p ≡ refused r q → refused r q ≡ pieceHeld .read s p
+  pub piece-refused : {r : Refusal} → word .kind .read s p ≡ refused r → refused r ≡ pieceHeld .read s p
   unfolding pieceHeld word
   piece-refused f =
       let w = number-without 4 s p f in
-      let e : _≡_ {A = Answer ℕ} (refused _ _) (refused 1 p) = w .1 in
+      let e : _≡_ {A = Answer ℕ} (refused _) (refused (Ended p)) = w .1 in
       rw (lt-leb 4 (length s - p) (w .0)) (cc e)
 
-  pub words-refused : {r q : ℕ} → word .kind .read s p ≡ refused r q → refused r q ≡ wordsHeld .read s p
+  pub words-refused : {r : Refusal} → word .kind .read s p ≡ refused r → refused r ≡ wordsHeld .read s p
   unfolding wordsHeld word
   words-refused f =
       let w = number-without 4 s p f in
-      let e : _≡_ {A = Answer ℕ} (refused _ _) (refused 1 p) = w .1 in
+      let e : _≡_ {A = Answer ℕ} (refused _) (refused (Ended p)) = w .1 in
       rw (lt-leb 4 (length s - p) (w .0)) (cc e)
 
-  pub words-short : {v n : ℕ} {b : Bool} → word .kind .read s p ≡ took v n b → length s - n < v * 4 → refused 1 p ≡ wordsHeld .read s p
+  pub words-short : {v n : ℕ} {b : Bool} → word .kind .read s p ≡ took v n b → length s - n < v * 4 → refused (Ended p) ≡ wordsHeld .read s p
   unfolding wordsHeld
   words-short {v} {n} f h =
       let w = word-within f in

@@ -7,7 +7,7 @@ use Prim.Native.Nat.{ℕ, _+_, _-_}
 use native.Mathlib.Nat.{add-zero}
 use native.Mathlib.Omega.{arith}
 use lib.Dec.{leb}
-use borrow.Author.Tests.{le-leb, leb-true}
+use borrow.Author.Tests.{le-leb, lt-leb, leb-true, leb-false}
 use lib.ListN.{length, take, drop, length-drop, take-append-drop}
 use lib.Seq.{take-at, length-take-le}
 use Rattle.xdr.specs.Meaning.Bytes.{Bytes, Stands}
@@ -15,11 +15,13 @@ use Rattle.xdr.specs.Meaning.Answer.{took, refused, Loose, clean}
 use Rattle.xdr.specs.Meaning.Kind.{Sound, Lawful}
 use Rattle.xdr.specs.Meaning.Combinators.{blockKind, voidKind}
 use Rattle.xdr.specs.Laws.Lists.{bytes-take, bytes-drop, room}
+use Rattle.xdr.specs.declared.refusal.Refusal.{Refusal}
+use Rattle.xdr.specs.declared.refusal.Refusal.the-variants.{Ended}
 
 module _ (n : ℕ) where
   block-sound : (s : List ℕ) (p : ℕ) → Bytes s → (t : Bool) → leb n (length s - p) ≡ t
-      → Sound (blockKind n) s p (cond t (took (take n (drop p s)) (p + n) true) (refused 1 p))
-  block-sound s p h false e = tt
+      → Sound (blockKind n) s p (cond t (took (take n (drop p s)) (p + n) true) (refused (Ended p)))
+  block-sound s p h false e = (refl, leb-false n (length s - p) e)
   block-sound s p h true e =
       let size : length (take n (drop p s)) ≡ n =
       length-take-le n (drop p s) (rw (length-drop p s) (leb-true n (length s - p) e)) in
@@ -39,11 +41,16 @@ module _ (n : ℕ) where
       let size : length e ≡ n = ap length (f .1) ∙ f .2 .size in
       simp (le-leb n (length s - p) (omega (arith, room e t s p h)), h, take-at e t n size, size, f .0, ← f .1)
 
+  block-refuses : (s : List ℕ) (p : ℕ) (r : Refusal) → blockKind n .Fault s p r → blockKind n .read s p ≡ refused r
+  block-refuses s p r f = simp (lt-leb n (length s - p) (f .1), f .0)
+
   pub block-lawful : Lawful (blockKind n)
   block-lawful =
       record {
         sound = λ s p h. block-sound s p h (leb n (length s - p)) refl;
         complete = block-complete;
+        refuses = block-refuses;
+        alike = λ l l′ w w′ e f f′. f .0 ∙ sym (f′ .0);
         good = λ l w e f. f .2;
         written = λ l g. (refl, refl, g);
         plain = λ l e f. f .1;
@@ -59,6 +66,8 @@ void-lawful =
       sound = λ s p h.
           record { loose = []; used = []; left = drop p s; stands = refl; next = sym (add-zero p); form = (refl, refl); plain = refl };
       complete = void-complete;
+      refuses = λ s p r f. absurd f;
+      alike = λ u u′ w w′ e f f′. f .0 ∙ sym (f′ .0);
       good = λ u w e f. tt;
       written = λ u g. (refl, refl);
       plain = λ u e f. f .1;

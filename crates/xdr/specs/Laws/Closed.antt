@@ -10,6 +10,8 @@ use Rattle.xdr.specs.Meaning.Combinators.{Seen, means, undeclared, among
 use Rattle.xdr.specs.Meaning.Format.{exactly}
 use Rattle.xdr.specs.Meaning.Order.{placing}
 use Rattle.xdr.specs.Meaning.Public.{writing, Writes}
+use Rattle.xdr.specs.declared.refusal.Refusal.{Refusal}
+use Rattle.xdr.specs.declared.refusal.Refusal.the-variants.{Undeclared}
 
 -- what a number was found to be, where that was taken apart
 pub told : {R A : Type 0} (found : R → Seen A) {x : Seen A} {r t : R} → found r ≡ x → r ≡ t → x ≡ found t
@@ -18,11 +20,11 @@ told found e f = sym e ∙ ap found f
 module _ {A : Type 0} (number : A → ℕ) (l : List A) (each : (a : A) → among number l (number a) ≡ means a []) where
   -- by its word and what the word's number is
   module _ (s : List ℕ) (p : ℕ) where
-    pub closed-refused : {r q : ℕ} → word .kind .read s p ≡ refused r q → refused r q ≡ closed number l each .kind .read s p
+    pub closed-refused : {r : Refusal} → word .kind .read s p ≡ refused r → refused r ≡ closed number l each .kind .read s p
     closed-refused f = rw f
 
     pub closed-undeclared : {v n : ℕ} {b : Bool} → word .kind .read s p ≡ took v n b → among number l v ≡ undeclared
-        → refused 2 p ≡ closed number l each .kind .read s p
+        → refused (Undeclared p) ≡ closed number l each .kind .read s p
     closed-undeclared f g = rw (f, g)
 
     pub closed-took : {v n : ℕ} {b : Bool} {a : A} → word .kind .read s p ≡ took v n b → among number l v ≡ means a []

@@ -44,12 +44,12 @@ module _ {M N : Type 0} {i j : ℕ} {A : Codec M} {B : Codec N} (F : Fixed i A) 
   pair-second s p q a b h (took c r e) f {m} {n} {d} g =
       let z : r ≡ n = cc in
       subst (Spans s p (i + j)) z (spans h (G .reads s q f))
-  pair-second s p q a b h (refused r e) f {m} {n} {d} g = let z : _≡_ {A = ℕ} 0 1 = cc in absurd (omega arith)
+  pair-second s p q a b h (refused r) f {m} {n} {d} g = let z : _≡_ {A = ℕ} 0 1 = cc in absurd (omega arith)
 
   pair-first : (s : List ℕ) (p : ℕ) (x : Answer M) → A .kind .read s p ≡ x
       → {m : M × N} {n : ℕ} {d : Bool} → first (A .kind) (λ a. B .kind) s x ≡ took m n d → Spans s p (i + j) n
   pair-first s p (took a q b) f g = pair-second s p q a b (F .reads s p f) (B .kind .read s q) refl g
-  pair-first s p (refused r q) f g = let z : _≡_ {A = ℕ} 0 1 = cc in absurd (omega arith)
+  pair-first s p (refused r) f g = let z : _≡_ {A = ℕ} 0 1 = cc in absurd (omega arith)
 
   pub pair-fixed : Fixed (i + j) (A ⨾ B)
   pair-fixed =
@@ -77,7 +77,7 @@ module _ {M N : Type 0} {k : ℕ} {C : Codec M} (F : Fixed k C) (see : M → See
   seen-looked : (s : List ℕ) (p : ℕ) (x : Answer M) → C .kind .read s p ≡ x → {m : N} {n : ℕ} {d : Bool}
       → look (C .kind) (exactView C see to exact see-to) p x ≡ took m n d → Spans s p k n
   seen-looked s p (took x q b) f g = seen-meant s p q b (F .reads s p f) (see x) g
-  seen-looked s p (refused r q) f g = let z : _≡_ {A = ℕ} 0 1 = cc in absurd (omega arith)
+  seen-looked s p (refused r) f g = let z : _≡_ {A = ℕ} 0 1 = cc in absurd (omega arith)
 
   pub seen-fixed : Fixed k (seen C see to exact see-to)
   seen-fixed = record { reads = λ s p e. seen-looked s p (C .kind .read s p) refl e; writes = λ m. F .writes (to m) }

@@ -2,15 +2,16 @@
 -- Assumes nothing.
 use mathlib.Core.Path.{_≡_, refl, sym, ap, ap₂, _∙_, subst}
 use mathlib.Core.Logic.{_↔_}
-use mathlib.Core.Bool.{Bool, not, cond}
+use mathlib.Core.Bool.{Bool, true, false, not, cond}
 use mathlib.Core.List.{List, [], _∷_, _++_, append-nil}
 use Prim.Native.Nat.{ℕ, zero, suc, _+_, _^_, _<_}
+use native.Mathlib.Nat.{add-zero}
 use native.Mathlib.Omega.{arith}
 use lib.Dec.{eqb, leb}
 use lib.ListN.{length}
 use borrow.Author.Tests.{lt-leb, ne-eqb}
 use Rattle.xdr.specs.Meaning.Bytes.{Bytes, digits, padding, zeros}
-use Rattle.xdr.specs.Meaning.Answer.{Loose, odd-flag, dirty-pad}
+use Rattle.xdr.specs.Meaning.Answer.{Way, Loose, odd-flag, dirty-pad, here, shifted}
 use Rattle.xdr.specs.Meaning.Kind.{Codec}
 use Rattle.xdr.specs.Meaning.Combinators.{means}
 use Rattle.xdr.specs.Meaning.Shapes.{Tuple}
@@ -35,7 +36,7 @@ unfolding number
 number-loose k n w e f =
     let e₁ : f .w₁ ≡ [] = f .form .0 in
     let e₂ : f .w₂ ≡ [] = cc (f .sees) in
-    f .loose ∙ ap₂ (λ x y. x ++ y) e₂ e₁
+    f .loose ∙ ap₂ (λ x y. here x ++ y) e₂ e₁
 
 number-there : (k n : ℕ) (w : List Loose) (e : List ℕ) → number k .kind .Form n w e → NumberForm k n w e
 unfolding number
@@ -52,6 +53,10 @@ pub number-form : (k n : ℕ) (w : List Loose) (e : List ℕ) → number k .kind
 number-form k n w e = (number-there k n w e, number-back k n w e)
 
 -- a flag
+here-if : (t : Bool) (w : List Way) → here (cond t [] w) ≡ cond t [] (here w)
+here-if true w = refl
+here-if false w = refl
+
 flag-see : (n : ℕ) → seeFlag n ≡ means (not (eqb n 0)) (cond (leb n 1) [] (odd-flag ∷ []))
 flag-see zero = refl
 flag-see (suc zero) = refl
@@ -70,7 +75,11 @@ flag-there b w e f =
       range = d .range;
       bytes = d .bytes;
       value = cc s;
-      loose = f .loose ∙ ap₂ (λ x y. x ++ y) marks (d .loose) ∙ append-nil (cond (leb (f .of) 1) [] (odd-flag ∷ []));
+      loose =
+          f .loose
+          ∙ ap₂ (λ x y. here x ++ y) marks (d .loose)
+          ∙ append-nil (here (cond (leb (f .of) 1) [] (odd-flag ∷ [])))
+          ∙ here-if (leb (f .of) 1) (odd-flag ∷ []);
     }
 
 flag-back : (b : Bool) (w : List Loose) (e : List ℕ) → FlagForm b w e → flag .kind .Form b w e
@@ -82,13 +91,20 @@ flag-back b w e d =
       w₂ = cond (leb (d .number) 1) [] (odd-flag ∷ []);
       form = number-back 4 (d .number) [] e (record { loose = refl; range = d .range; bytes = d .bytes });
       sees = flag-see (d .number) ∙ ap (λ x. means x (cond (leb (d .number) 1) [] (odd-flag ∷ []))) (sym (d .value));
-      loose = d .loose ∙ sym (append-nil (cond (leb (d .number) 1) [] (odd-flag ∷ [])));
+      loose =
+          d .loose
+          ∙ sym (here-if (leb (d .number) 1) (odd-flag ∷ []))
+          ∙ sym (append-nil (here (cond (leb (d .number) 1) [] (odd-flag ∷ []))));
     }
 
 pub flag-form : (b : Bool) (w : List Loose) (e : List ℕ) → flag .kind .Form b w e ↔ FlagForm b w e
 flag-form b w e = (flag-there b w e, flag-back b w e)
 
--- opaque bytes
+-- opaque bytes: the padding stands behind the length word and the bytes
+pad-mark : (n : ℕ) (t : Bool) → shifted 4 (shifted n (here (cond t [] (dirty-pad ∷ [])))) ≡ cond t [] (record { offset = 4 + n; way = dirty-pad } ∷ [])
+pad-mark n true = refl
+pad-mark n false = ap (λ (k : ℕ). record { offset = 4 + k; way = dirty-pad } ∷ []) (add-zero n)
+
 opaque-there : (l : List ℕ) (w : List Loose) (e : List ℕ) → opaque .kind .Form l w e → OpaqueForm l w e
 unfolding opaque word
 opaque-there l w e f =
@@ -102,6 +118,9 @@ opaque-there l w e f =
     let none : f .w₂ ≡ [] = cc (f .sees) in
     let marks : p .w₂ ≡ cond (zeros (p .of)) [] (dirty-pad ∷ []) = cc (p .sees) in
     let size : length l ≡ n = ap length (sym same) ∙ h .form₁ .2 .size in
+    let four : length (g .e₁) ≡ 4 = ap length (d .bytes) in
+    let pad-loose : h .w₂ ≡ here (cond (zeros (p .of)) [] (dirty-pad ∷ [])) =
+    p .loose ∙ ap₂ (λ x y. here x ++ y) marks (p .form .0) ∙ append-nil (here (cond (zeros (p .of)) [] (dirty-pad ∷ []))) in
     record {
       pad = p .of;
       range = rw size (d .range);
@@ -111,26 +130,30 @@ opaque-there l w e f =
       bytes = g .bytes ∙ ap₂ (λ x y. x ++ y) (d .bytes ∙ ap (digits 4) (sym size)) (h .bytes ∙ ap₂ (λ x y. x ++ y) (h .form₁ .1 ∙ same) (p .form .1));
       loose =
           f .loose
-          ∙ ap₂ (λ x y. x ++ y) none
-          (g .loose ∙ ap₂ (λ x y. x ++ y) (d .loose) (h .loose ∙ ap₂ (λ x y. x ++ y) (h .form₁ .0) (p .loose ∙ ap₂ (λ x y. x ++ y) marks (p .form .0))))
-          ∙ append-nil (cond (zeros (p .of)) [] (dirty-pad ∷ []));
+          ∙ ap₂ (λ x y. here x ++ y) none
+          (g .loose
+          ∙ ap₂ (λ x y. x ++ y) (d .loose)
+          (ap₂ shifted four
+          (h .loose ∙ ap₂ (λ x y. x ++ y) (h .form₁ .0) (ap₂ shifted (ap length (h .form₁ .1 ∙ same)) pad-loose))))
+          ∙ pad-mark (length l) (zeros (p .of));
     }
 
 opaque-back : (l : List ℕ) (w : List Loose) (e : List ℕ) → OpaqueForm l w e → opaque .kind .Form l w e
 unfolding opaque word
 opaque-back l w e o =
-    let marks : List Loose = cond (zeros (o .pad)) [] (dirty-pad ∷ []) in
+    let ways : List Way = cond (zeros (o .pad)) [] (dirty-pad ∷ []) in
+    let marks : List Loose = here ways in
     record {
       of = (length l, (l, tt));
-      w₁ = marks;
+      w₁ = shifted 4 (shifted (length l) marks);
       w₂ = [];
       sees = refl;
-      loose = o .loose;
+      loose = o .loose ∙ sym (pad-mark (length l) (zeros (o .pad)));
       form = record {
         e₁ = digits 4 (length l);
         e₂ = l ++ o .pad;
         w₁ = [];
-        w₂ = marks;
+        w₂ = shifted (length l) marks;
         bytes = o .bytes;
         loose = refl;
         form₁ = number-back 4 (length l) [] (digits 4 (length l)) (record { loose = refl; range = o .range; bytes = refl });
@@ -145,7 +168,7 @@ opaque-back l w e o =
           form₂ = record {
             of = o .pad;
             w₁ = [];
-            w₂ = marks;
+            w₂ = ways;
             sees = refl;
             loose = sym (append-nil marks);
             form = (refl, refl, record { size = o .pad-size; bytes = o .pad-bytes });
@@ -162,7 +185,9 @@ times-loose : (n : ℕ) (t : Tuple ℕ n) (w : List Loose) (e : List ℕ) → ti
 unfolding word
 times-loose zero t w e f = f .0
 times-loose (suc n) t w e f =
-    f .loose ∙ ap₂ (λ x y. x ++ y) (number-loose 4 (t .0) (f .w₁) (f .e₁) (f .form₁)) (times-loose n (t .1) (f .w₂) (f .e₂) (f .form₂))
+    f .loose
+    ∙ ap₂ (λ x y. x ++ y) (number-loose 4 (t .0) (f .w₁) (f .e₁) (f .form₁))
+    (ap (shifted (length (f .e₁))) (times-loose n (t .1) (f .w₂) (f .e₂) (f .form₂)))
 
 words-loose : (l : List ℕ) (w : List Loose) (e : List ℕ) → words .kind .Form l w e → w ≡ []
 unfolding words word
@@ -170,8 +195,10 @@ words-loose l w e f =
     let g = f .form in
     let none : f .w₂ ≡ [] = cc (f .sees) in
     f .loose
-    ∙ ap₂ (λ x y. x ++ y) none
-    (g .loose ∙ ap₂ (λ x y. x ++ y) (number-loose 4 (f .of .0) (g .w₁) (g .e₁) (g .form₁)) (times-loose (f .of .0) (f .of .1) (g .w₂) (g .e₂) (g .form₂)))
+    ∙ ap₂ (λ x y. here x ++ y) none
+    (g .loose
+    ∙ ap₂ (λ x y. x ++ y) (number-loose 4 (f .of .0) (g .w₁) (g .e₁) (g .form₁))
+    (ap (shifted (length (g .e₁))) (times-loose (f .of .0) (f .of .1) (g .w₂) (g .e₂) (g .form₂))))
 
 count-is : (l : List ℕ) → fromList ℕ l .0 ≡ length l
 count-is [] = refl

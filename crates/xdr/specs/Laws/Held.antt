@@ -10,15 +10,16 @@ use Rattle.xdr.specs.Meaning.Kind.{Codec}
 use Rattle.xdr.specs.Meaning.Combinators.{first, second, Seen, means, undeclared, View, meant, look}
 use Rattle.xdr.specs.Meaning.Codecs.{chain, view}
 use Rattle.xdr.specs.Meaning.Held.{Held, thenFirst, thenSecond, thenMean, thenInside, mapSeen, Meant, seenAs, lookAt, Holds}
+use Rattle.xdr.specs.declared.refusal.Refusal.{Refusal}
 
 -- no pieces: the message itself
 map-same : {M : Type 0} (x : Answer M) → x ≡ mapAnswer (λ m. m) x
 map-same (took m n b) = refl
-map-same (refused r q) = refl
+map-same (refused r) = refl
 
 kept-same : {M : Type 0} (x : Answer M) → Taken (λ m. true ≡ true) x
 kept-same (took m n b) = refl
-kept-same (refused r q) = tt
+kept-same (refused r) = tt
 
 pub plain-agrees : {M : Type 0} (C : Codec M) (s : List ℕ) (p : ℕ) → C .kind .read s p ≡ mapAnswer (λ m. m) (C .kind .read s p)
 plain-agrees C s p = map-same (C .kind .read s p)
@@ -32,22 +33,22 @@ module _ {M S : Type 0} {N : M → Type 0} {T : S → Type 0} {A : Codec M} (B :
   agree₂ : (s : List ℕ) (x : S) (b : Bool) (y : Answer (T x))
       → second (A .kind) (λ a. B a .kind) (H .mean s x) b (mapAnswer (G s x .mean s) y) ≡ mapAnswer (thenMean B H G s) (thenSecond B H G x b y)
   agree₂ s x b (took y n b′) = refl
-  agree₂ s x b (refused r q) = refl
+  agree₂ s x b (refused r) = refl
 
   agree₁ : (s : List ℕ) (z : Answer S)
       → first (A .kind) (λ a. B a .kind) s (mapAnswer (H .mean s) z) ≡ mapAnswer (thenMean B H G s) (thenFirst B H G s z)
   agree₁ s (took x n b) =
       ap (second (A .kind) (λ a. B a .kind) (H .mean s x) b) (G s x .agrees s n) ∙ agree₂ s x b (G s x .read s n)
-  agree₁ s (refused r q) = refl
+  agree₁ s (refused r) = refl
 
   kept₂ : (s : List ℕ) (x : S) (b : Bool) → H .inside s x ≡ true → (y : Answer (T x)) → Taken (λ v. G s x .inside s v ≡ true) y
       → Taken (λ v. thenInside B H G s v ≡ true) (thenSecond B H G x b y)
   kept₂ s x b h (took y n b′) k = ap₂ (λ u v. u && v) h k
-  kept₂ s x b h (refused r q) k = tt
+  kept₂ s x b h (refused r) k = tt
 
   kept₁ : (s : List ℕ) (z : Answer S) → Taken (λ v. H .inside s v ≡ true) z → Taken (λ v. thenInside B H G s v ≡ true) (thenFirst B H G s z)
   kept₁ s (took x n b) h = kept₂ s x b h (G s x .read s n) (G s x .kept s n)
-  kept₁ s (refused r q) h = tt
+  kept₁ s (refused r) h = tt
 
   pub then-agrees : (s : List ℕ) (p : ℕ) → chain A B .kind .read s p ≡ mapAnswer (thenMean B H G s) (thenFirst B H G s (H .read s p))
   then-agrees s p = ap (first (A .kind) (λ a. B a .kind) s) (H .agrees s p) ∙ agree₁ s (H .read s p)
@@ -63,7 +64,7 @@ module _ {M S N T : Type 0} {C : Codec M} (W : View M (C .kind .Good) N) (H : He
 
   see₁ : (s : List ℕ) (p : ℕ) (z : Answer S) → look (C .kind) W p (mapAnswer (H .mean s) z) ≡ mapAnswer (U .mean s) (lookAt (U .holds) p z)
   see₁ s p (took x n b) = ap (meant (C .kind) W p n b) (U .square s x) ∙ see₂ s p n b (U .holds x)
-  see₁ s p (refused r q) = refl
+  see₁ s p (refused r) = refl
 
   in₂ : (s : List ℕ) (p n : ℕ) (b : Bool) (y : Seen T) → Meant (λ v. U .inside s v ≡ true) y → Taken (λ v. U .inside s v ≡ true) (seenAs p n b y)
   in₂ s p n b (means m w) h = h
@@ -71,7 +72,7 @@ module _ {M S N T : Type 0} {C : Codec M} (W : View M (C .kind .Good) N) (H : He
 
   in₁ : (s : List ℕ) (p : ℕ) (z : Answer S) → Taken (λ v. H .inside s v ≡ true) z → Taken (λ v. U .inside s v ≡ true) (lookAt (U .holds) p z)
   in₁ s p (took x n b) h = in₂ s p n b (U .holds x) (U .within s x h)
-  in₁ s p (refused r q) h = tt
+  in₁ s p (refused r) h = tt
 
   pub view-agrees : (s : List ℕ) (p : ℕ) → view C W .kind .read s p ≡ mapAnswer (U .mean s) (lookAt (U .holds) p (H .read s p))
   view-agrees s p = ap (look (C .kind) W p) (H .agrees s p) ∙ see₁ s p (H .read s p)
@@ -84,7 +85,7 @@ module _ {M S : Type 0} {C : Codec M} (H : Held C S) (s : List ℕ) (p : ℕ) wh
   pub taken-means : {x : S} {n : ℕ} {b : Bool} → H .read s p ≡ took x n b → C .kind .read s p ≡ took (H .mean s x) n b
   taken-means e = H .agrees s p ∙ ap (mapAnswer (H .mean s)) e
 
-  pub refused-means : {r q : ℕ} → H .read s p ≡ refused r q → C .kind .read s p ≡ refused r q
+  pub refused-means : {r : Refusal} → H .read s p ≡ refused r → C .kind .read s p ≡ refused r
   refused-means e = H .agrees s p ∙ ap (mapAnswer (H .mean s)) e
 
   -- and the other way: a message that is read is what the held reading means
@@ -95,8 +96,8 @@ module _ {M S : Type 0} {C : Codec M} (H : Held C S) (s : List ℕ) (p : ℕ) wh
       go (took x n′ b′) f =
           let g : _≡_ {A = Answer M} (took (H .mean s x) n′ b′) (took m n b) = sym (taken-means f) ∙ e in
           (x, cc (f, g), cc g)
-      go (refused r q) f =
-          let g : _≡_ {A = Answer M} (refused r q) (took m n b) = sym (refused-means f) ∙ e in
+      go (refused r) f =
+          let g : _≡_ {A = Answer M} (refused r) (took m n b) = sym (refused-means f) ∙ e in
           let z : _≡_ {A = ℕ} 0 1 = cc in absurd (omega arith)
 
   pub taken-inside : {x : S} {n : ℕ} {b : Bool} → H .read s p ≡ took x n b → H .inside s x ≡ true

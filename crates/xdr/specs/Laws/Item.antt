@@ -1,6 +1,6 @@
 -- A lawful kind as one item is lawful.
 -- Assumes nothing.
-use mathlib.Core.Path.{ap}
+use mathlib.Core.Path.{refl, ap, _∙_}
 use mathlib.Core.List.{List}
 use Prim.Native.Nat.{ℕ}
 use Rattle.xdr.specs.Meaning.Answer.{Answer, took, refused}
@@ -19,13 +19,15 @@ module _ {M : Type 0} (K : Kind M) (L : Lawful K) where
         form = f .form;
         plain = f .plain;
       }
-  whole-sound s p (refused r q) f = tt
+  whole-sound s p (refused r) f = (r, f, refl)
 
   pub item-lawful : Lawful (itemKind K)
   item-lawful =
       record {
         sound = λ s p h. whole-sound s p (K .read s p) (L .sound s p h);
         complete = λ m w e t s p f h. ap (whole p) (L .complete m w e t s p f h);
+        refuses = λ s p r f. rw (L .refuses s p (f .0) (f .1), f .2);
+        alike = L .alike;
         good = L .good;
         written = L .written;
         plain = L .plain;

@@ -10,13 +10,13 @@ use lib.IntN.{ℤ, pos, negsuc}
 use lib.ListN.{length, replicate, length-replicate}
 use borrow.Author.Tests.{eqb-true, lt-ltb, le-ltb, ltb-true, ltb-false}
 use Rattle.xdr.specs.Meaning.Bytes.{Bytes, value, digits, padding, zeros, signed, unsigned, InHalf}
-use Rattle.xdr.specs.Meaning.Answer.{Loose, dirty-pad}
+use Rattle.xdr.specs.Meaning.Answer.{Way, dirty-pad}
 use Rattle.xdr.specs.Meaning.Combinators.{Raw, means}
 use Rattle.xdr.specs.Laws.Marks.{and-left, and-right}
 use Rattle.xdr.specs.Laws.Digits.{value-lt, digits-bytes, value-digits, digits-value, length-digits}
 
 module _ (k : ℕ) where
-  pub number-faithful : (l : List ℕ) → Raw k l → (value l < 256 ^ k) × (_≡_ {A = List Loose} [] [] → digits k (value l) ≡ l)
+  pub number-faithful : (l : List ℕ) → Raw k l → (value l < 256 ^ k) × (_≡_ {A = List Way} [] [] → digits k (value l) ≡ l)
   number-faithful l g = (rw (← g .size) (value-lt l (g .bytes)), λ e. rw (← g .size) (digits-value l (g .bytes)))
 
   pub number-to-good : (n : ℕ) → n < 256 ^ k → Raw k (digits k n)
@@ -35,7 +35,7 @@ module _ (h : ℕ) where
   signed-by n g true e = (ltb-true n h e, refl)
   signed-by n g false e = let k : h ≤ n = ltb-false n h e in (omega arith, omega arith)
 
-  pub signed-faithful : (w : ℕ) → h + h ≡ w → (n : ℕ) → n < w → InHalf h (signed h n) × (_≡_ {A = List Loose} [] [] → unsigned h (signed h n) ≡ n)
+  pub signed-faithful : (w : ℕ) → h + h ≡ w → (n : ℕ) → n < w → InHalf h (signed h n) × (_≡_ {A = List Way} [] [] → unsigned h (signed h n) ≡ n)
   signed-faithful w e n g = let r = signed-by n (omega arith) (ltb n h) refl in (r .0, λ z. r .1)
 
   pub signed-to-good : (w : ℕ) → h + h ≡ w → (z : ℤ) → InHalf h z → unsigned h z < w
@@ -50,7 +50,7 @@ module _ (h : ℕ) where
       simp (le-ltb (h + h - suc n) h k, e)
 
 -- eight bytes and the number that they write
-pub eight-faithful : (n : ℕ) → n < 256 ^ 8 → Raw 8 (digits 8 n) × (_≡_ {A = List Loose} [] [] → value (digits 8 n) ≡ n)
+pub eight-faithful : (n : ℕ) → n < 256 ^ 8 → Raw 8 (digits 8 n) × (_≡_ {A = List Way} [] [] → value (digits 8 n) ≡ n)
 eight-faithful n g = (record { size = length-digits 8 n; bytes = digits-bytes 8 n g }, λ e. value-digits 8 n g)
 
 pub eight-to-good : (l : List ℕ) → Raw 8 l → value l < 256 ^ 8
@@ -89,7 +89,7 @@ module _ (k : ℕ) where
 
 -- opaque bytes
 pub opaque-faithful : (x : (n : ℕ) × (List ℕ × Unit {0})) → (x .0 < 256 ^ 4) × (Raw (x .0) (x .1 .0) × Unit {0})
-    → ((length (x .1 .0) < 256 ^ 4) × Bytes (x .1 .0)) × (_≡_ {A = List Loose} [] [] → (length (x .1 .0), (x .1 .0, tt)) ≡ x)
+    → ((length (x .1 .0) < 256 ^ 4) × Bytes (x .1 .0)) × (_≡_ {A = List Way} [] [] → (length (x .1 .0), (x .1 .0, tt)) ≡ x)
 opaque-faithful x g = ((rw (g .1 .0 .size) (g .0), g .1 .0 .bytes), λ e. ap (λ n. (n, x .1)) (g .1 .0 .size))
 
 pub opaque-to-good : (l : List ℕ) → (length l < 256 ^ 4) × Bytes l → (length l < 256 ^ 4) × (Raw (length l) l × Unit {0})

@@ -19,6 +19,7 @@ use Rattle.xdr.specs.Meaning.Pieces.{bytesIn, isInside, pieceAnswer, opa
 use Rattle.xdr.specs.Laws.Digits.{length-digits}
 use Rattle.xdr.specs.Laws.Pieces.{inside-le}
 use Rattle.xdr.specs.declared.piece.Piece.{Piece}
+use Rattle.xdr.specs.declared.refusal.Refusal.the-variants.{Ended}
 
 -- whether the low k bytes of a word are zero, for k up to 3
 abbrev pub lastZeros : ℕ → ℕ → Bool
@@ -92,7 +93,7 @@ module _ (s : List ℕ) (given : (i : ℕ) → getD s i 0 < 256) where
       let nx : p + 4 + m ≡ p + 4 + n + padding n = omega arith in
       rw (le-leb (4 + n + padding n) (length s - p) h, nx, eb, ew, c, z)
 
-  pub body-short : (p n : ℕ) → length s - p < 4 + n + padding n → refused 1 p ≡ pieceAnswer s p n
+  pub body-short : (p n : ℕ) → length s - p < 4 + n + padding n → refused (Ended p) ≡ pieceAnswer s p n
   body-short p n h = simp (lt-leb (4 + n + padding n) (length s - p) h)
 
 -- how long items are

@@ -17,16 +17,17 @@ use Rattle.xdr.specs.Meaning.Pieces.{bytesIn, isInside, partOf, pieceAt,
 use Rattle.xdr.specs.Laws.Lists.{bytes-take, bytes-drop}
 use Rattle.xdr.specs.Laws.Reading.{opaque-read}
 use Rattle.xdr.specs.declared.piece.Piece.{Piece}
+use Rattle.xdr.specs.declared.refusal.Refusal.the-variants.{Ended}
 
 module _ (s : List ℕ) (p : ℕ) where
   agree : (t u : Bool) (n : ℕ)
       → cond t
-      (cond u (took (take n (drop (p + 4) s)) (p + 4 + n + padding n) (zeros (take (padding n) (drop (p + 4 + n) s)))) (refused 1 p))
-      (refused 1 p)
+      (cond u (took (take n (drop (p + 4) s)) (p + 4 + n + padding n) (zeros (take (padding n) (drop (p + 4 + n) s)))) (refused (Ended p)))
+      (refused (Ended p))
       ≡ mapAnswer (bytesIn s)
       (cond t
-      (cond u (took (record { at = p + 4; count = n }) (p + 4 + n + padding n) (zeros (take (padding n) (drop (p + 4 + n) s)))) (refused 1 p))
-      (refused 1 p))
+      (cond u (took (record { at = p + 4; count = n }) (p + 4 + n + padding n) (zeros (take (padding n) (drop (p + 4 + n) s)))) (refused (Ended p)))
+      (refused (Ended p)))
   agree true true n = refl
   agree true false n = refl
   agree false u n = refl
@@ -34,8 +35,8 @@ module _ (s : List ℕ) (p : ℕ) where
   keeps : (n : ℕ) (t u : Bool) → leb (4 + n + padding n) (length s - p) ≡ u
       → Taken (λ x. isInside s x ≡ true)
       (cond t
-      (cond u (took (record { at = p + 4; count = n }) (p + 4 + n + padding n) (zeros (take (padding n) (drop (p + 4 + n) s)))) (refused 1 p))
-      (refused 1 p))
+      (cond u (took (record { at = p + 4; count = n }) (p + 4 + n + padding n) (zeros (take (padding n) (drop (p + 4 + n) s)))) (refused (Ended p)))
+      (refused (Ended p)))
   unfolding isInside
   keeps n false u e = tt
   keeps n true false e = tt

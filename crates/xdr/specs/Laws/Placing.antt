@@ -15,29 +15,31 @@ use Rattle.xdr.specs.Meaning.Order.{placing}
 use Rattle.xdr.specs.Meaning.Format.{Format}
 use Rattle.xdr.specs.Meaning.Public.{output, writing, Writes, laidOf}
 use Rattle.xdr.specs.Laws.Write.{Put, Ready, Done, was-done, writes-done, room-at, put-laid-of}
+use Rattle.xdr.specs.declared.refusal.Refusal.the-variants.{TooLong, Outside, NoRoom, PastEnd}
+use Rattle.xdr.specs.declared.refusal.Refusal.{Refusal}
 
 module _ (source : ℕ) (inside : Bool) (size room at : ℕ) where
-  pub placing-past : room < at → unwritten 9 ≡ placing source inside size room at
+  pub placing-past : room < at → unwritten PastEnd ≡ placing source inside size room at
   unfolding placing
   placing-past h = simp (lt-leb at room h)
 
   module _ (h : at ≤ room) where
-    pub placing-long : most < source → unwritten 3 ≡ placing source inside size room at
+    pub placing-long : most < source → unwritten TooLong ≡ placing source inside size room at
     unfolding placing
     placing-long g = simp (le-leb at room h, lt-leb source most g)
 
     module _ (g : source ≤ most) where
-      pub placing-outside : inside ≡ false → unwritten 4 ≡ placing source inside size room at
+      pub placing-outside : inside ≡ false → unwritten Outside ≡ placing source inside size room at
       unfolding placing
       placing-outside i = simp (le-leb at room h, le-leb source most g, i)
 
       module _ (i : inside ≡ true) where
-        pub placing-large : most < size → unwritten 3 ≡ placing source inside size room at
+        pub placing-large : most < size → unwritten TooLong ≡ placing source inside size room at
         unfolding placing
         placing-large l = simp (le-leb at room h, le-leb source most g, i, lt-leb size most l)
 
         module _ (l : size ≤ most) where
-          pub placing-short : room - at < size → unwritten 5 ≡ placing source inside size room at
+          pub placing-short : room - at < size → unwritten NoRoom ≡ placing source inside size room at
           unfolding placing
           placing-short r =
               let k : room < at + size = omega arith in
@@ -68,7 +70,7 @@ module _ {M S : Type 0} (F : Format M S) (s : List ℕ) (x : S) {n : ℕ} (l : R
   says = e ∙ same (leb (length s) most) (F .held .inside s x) refl refl
 
   -- it refused
-  pub refuses : {r : ℕ} → w ≡ unwritten r → Writes F s x at o w o
+  pub refuses : {r : Refusal} → w ≡ unwritten r → Writes F s x at o w o
   refuses {r} f = subst (λ z. Writes F s x at o z o) (sym f) (record { says = sym f ∙ says; leaves = refl; good = tt })
 
   -- it has place

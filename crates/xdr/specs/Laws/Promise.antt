@@ -36,7 +36,7 @@ module _ {M : Type 0} (K : Kind M) (L : Lawful K) where
 
   refuses : (s : List ℕ) (p : ℕ) → Bytes s → ¬ (Begins K s p) → (x : Answer M) → K .read s p ≡ x → Refused K s p
   refuses s p h none (took m n b) e = absurd (none (begins s p h (record { message = m; next = n; plain = b; reads = e })))
-  refuses s p h none (refused r q) e = record { number = r; place = q; reads = e }
+  refuses s p h none (refused r) e = record { refusal = r; reads = e }
 
   back : (m : M) (t s : List ℕ) (p : ℕ) → K .Good m → Stands (K .write m) t s p → K .read s p ≡ took m (p + length (K .write m)) true
   back m t s p g h = L .complete m [] (K .write m) t s p (L .written m g) h
@@ -94,6 +94,7 @@ module _ {M : Type 0} (K : Kind M) (L : Lawful K) where
   promise : Promise K
   promise =
       record {
+        fault-iff = λ s p r h. ((λ e. subst (Sound K s p) e (L .sound s p h)), L .refuses s p r);
         refused-iff = λ s p h. ((λ r g. apart s p r (accepts s p g)), (λ none. refuses s p h none (K .read s p) refl));
         accepted-iff = λ s p h. (begins s p h, accepts s p);
         in-range = in-range;
@@ -104,6 +105,7 @@ module _ {M : Type 0} (K : Kind M) (L : Lawful K) where
         rewrites = λ r. ap (mapAnswer (K .write)) (alone (r .message) (in-range r));
         plain-iff = λ r. (plain r, flagged r);
         clean-iff = clean-iff;
+        one-list = λ r w w′ f f′. L .alike (r .message) (r .message) w w′ (used K r) f f′;
         formed = formed;
       }
 

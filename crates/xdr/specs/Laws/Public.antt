@@ -1,5 +1,6 @@
 -- Demands 2 and 3 hold of the answers of every public reader, and what it answers by the tests that come first.
 -- Assumes nothing.
+use mathlib.Core.Logic.{_↔_}
 use mathlib.Core.Path.{_≡_, refl, sym, ap, _∙_}
 use mathlib.Core.Bool.{Bool, true, false}
 use mathlib.Core.List.{List}
@@ -17,17 +18,18 @@ use Rattle.xdr.specs.Meaning.Public.{Answers, Took, message, Kept}
 use Rattle.xdr.specs.Laws.Lists.{known-bytes}
 use Rattle.xdr.specs.Laws.Held.{taken-means, refused-means, taken-inside}
 use Rattle.xdr.specs.Laws.Promise.{keeps}
-use Rattle.xdr.specs.Meaning.Views.{refusal, viewOpening}
+use Rattle.xdr.specs.Meaning.Views.{viewOpening}
 use Rattle.xdr.specs.declared.refusal.Refusal.{Refusal}
 use Rattle.xdr.specs.declared.order.Opening.{Opening}
 use Rattle.xdr.specs.declared.order.Opening.the-variants as opening
+use Rattle.xdr.specs.declared.refusal.Refusal.the-variants.{TooLong, PastEnd}
 
 module _ {A : Type 0} (s : List ℕ) (p : ℕ) where
-  pub opened-long : (x : Answer A) → most < length s → opened s p x ≡ refused 3 0
+  pub opened-long : (x : Answer A) → most < length s → opened s p x ≡ refused TooLong
   unfolding opened
   opened-long x h = simp (lt-leb (length s) most h)
 
-  pub opened-past : (x : Answer A) → length s ≤ most → length s < p → opened s p x ≡ refused 9 0
+  pub opened-past : (x : Answer A) → length s ≤ most → length s < p → opened s p x ≡ refused PastEnd
   unfolding opened
   opened-past x h g = simp (le-leb (length s) most h, lt-leb p (length s) g)
 
@@ -44,33 +46,33 @@ module _ {A : Type 0} (s : List ℕ) (p : ℕ) where
       by-long : (t : Bool) → leb (length s) most ≡ t → (u : Bool) → leb p (length s) ≡ u → (x ≡ took a n b) × (length s ≤ most) × (p ≤ length s)
       by-long true h true g = (sym (simp (h, g) at e), leb-true (length s) most h, leb-true p (length s) g)
       by-long true h false g =
-          let f : _≡_ {A = Answer A} (took a n b) (refused 9 0) = simp (h, g) at e in
+          let f : _≡_ {A = Answer A} (took a n b) (refused PastEnd) = simp (h, g) at e in
           let z : _≡_ {A = ℕ} 0 1 = cc in absurd (omega arith)
       by-long false h u g =
-          let f : _≡_ {A = Answer A} (took a n b) (refused 3 0) = simp h at e in
+          let f : _≡_ {A = Answer A} (took a n b) (refused TooLong) = simp h at e in
           let z : _≡_ {A = ℕ} 0 1 = cc in absurd (omega arith)
 
 -- refused before it reads, whatever stands there
-opened-off : {A B : Type 0} (s : List ℕ) (p : ℕ) (a : A) (y : Answer B) {r q : ℕ} → refused r q ≡ opened s p (took a p true) → refused r q ≡ opened s p y
+opened-off : {A B : Type 0} (s : List ℕ) (p : ℕ) (a : A) (y : Answer B) {r : Refusal} → refused r ≡ opened s p (took a p true) → refused r ≡ opened s p y
 unfolding opened
-opened-off {A} s p a y {r} {q} e = by (leb (length s) most) refl (leb p (length s)) refl
+opened-off {A} s p a y {r} e = by (leb (length s) most) refl (leb p (length s)) refl
   where
-    by : (t : Bool) → leb (length s) most ≡ t → (u : Bool) → leb p (length s) ≡ u → refused r q ≡ opened s p y
+    by : (t : Bool) → leb (length s) most ≡ t → (u : Bool) → leb p (length s) ≡ u → refused r ≡ opened s p y
     by true h true g =
-        let f : _≡_ {A = Answer A} (refused r q) (took a p true) = simp (h, g) at e in
+        let f : _≡_ {A = Answer A} (refused r) (took a p true) = simp (h, g) at e in
         let z : _≡_ {A = ℕ} 0 1 = cc in absurd (omega arith)
     by true h false g =
-        let f : _≡_ {A = Answer A} (refused r q) (refused 9 0) = simp (h, g) at e in
-        let i : r ≡ 9 = cc in let j : q ≡ 0 = cc in rw (h, g, i, j)
+        let f : _≡_ {A = Answer A} (refused r) (refused PastEnd) = simp (h, g) at e in
+        let i : r ≡ PastEnd = cc in rw (h, g, i)
     by false h u g =
-        let f : _≡_ {A = Answer A} (refused r q) (refused 3 0) = simp h at e in
-        let i : r ≡ 3 = cc in let j : q ≡ 0 = cc in rw (h, i, j)
+        let f : _≡_ {A = Answer A} (refused r) (refused TooLong) = simp h at e in
+        let i : r ≡ TooLong = cc in rw (h, i)
 
 -- what a public reader answers; `given` is what a slice's rule gives
 module _ {M S : Type 0} (F : Format M S) (s : List ℕ) (p : ℕ) (given : (i : ℕ) → Fits w8 (getD s i 0)) {r : Opening}
     (e : viewOpening p r ≡ opened s p (took tt p true)) where
   -- it may not read
-  pub answers-off : {q : Refusal} → r ≡ opening.Refused q → Answers F s p (refusal q)
+  pub answers-off : {q : Refusal} → r ≡ opening.Refused q → Answers F s p (refused q)
   answers-off f =
       record { is = opened-off s p tt (F .held .read s p) (sym (ap (viewOpening p) f) ∙ e); bytes = known-bytes s given }
 
@@ -108,8 +110,8 @@ module _ {M S : Type 0} (F : Format M S) where
   held-took : (s : List ℕ) (p : ℕ) (z : Answer S) → F .held .read s p ≡ z → Accepted (F .codec .kind) s p
       → (x : S) × (n : ℕ) × (b : Bool) × (F .held .read s p ≡ took x n b)
   held-took s p (took x n b) e a = (x, n, b, e)
-  held-took s p (refused r q) e a =
-      let f : F .codec .kind .read s p ≡ refused r q = refused-means (F .held) s p e in
+  held-took s p (refused r) e a =
+      let f : F .codec .kind .read s p ≡ refused r = refused-means (F .held) s p e in
       let z : _≡_ {A = ℕ} 0 1 = cc (f, a .reads) in absurd (omega arith)
 
   begins-took : (s : List ℕ) (p : ℕ) {a : Answer S} → Answers F s p a → (length s ≤ most) × (p ≤ length s) × Begins (F .codec .kind) s p
@@ -117,6 +119,23 @@ module _ {M S : Type 0} (F : Format M S) where
   begins-took s p c g =
       let a = held-took s p (F .held .read s p) refl (keeps (F .codec) .accepted-iff s p (c .bytes) .1 (g .2)) in
       (a .0, a .1, a .2, c .is ∙ opened-in s p (F .held .read s p) (g .0) (g .1) ∙ a .3)
+
+  held-refused : (s : List ℕ) (p : ℕ) {r : Refusal} → F .codec .kind .read s p ≡ refused r → (z : Answer S) → F .held .read s p ≡ z → z ≡ refused r
+  held-refused s p {r} e (took x n b) f =
+      let g : _≡_ {A = Answer M} (took (F .held .mean s x) n b) (refused r) = sym (taken-means (F .held) s p f) ∙ e in
+      let z : _≡_ {A = ℕ} 0 1 = cc in absurd (omega arith)
+  held-refused s p {r} e (refused q) f =
+      let g : _≡_ {A = Answer M} (refused q) (refused r) = sym (refused-means (F .held) s p f) ∙ e in
+      let h : q ≡ r = cc in ap refused h
+
+  fault-of : (s : List ℕ) (p : ℕ) (r : Refusal) {a : Answer S} → Answers F s p a → length s ≤ most → p ≤ length s
+      → (a ≡ refused r) ↔ F .codec .kind .Fault s p r
+  fault-of s p r c h k =
+      let i = c .is ∙ opened-in s p (F .held .read s p) h k in
+      let f = keeps (F .codec) .fault-iff s p r (c .bytes) in (
+        (λ e. f .0 (refused-means (F .held) s p (sym i ∙ e))),
+        (λ e. i ∙ held-refused s p (f .1 e) (F .held .read s p) refl),
+      )
 
   pub kept : Kept F
   unfolding reading
@@ -129,7 +148,12 @@ module _ {M S : Type 0} (F : Format M S) where
         in-range = λ t. keeps (F .codec) .in-range (reading t);
         within = λ t. keeps (F .codec) .within (reading t);
         same-iff = λ t t′. keeps (F .codec) .same-iff (reading t) (reading t′);
+        fault-iff = λ s p r c h k. fault-of s p r c h k;
         again = λ t. keeps (F .codec) .again (reading t);
+        rewrites = λ t. keeps (F .codec) .rewrites (reading t);
         plain-iff = λ t. keeps (F .codec) .plain-iff (reading t);
+        formed = λ t. keeps (F .codec) .formed (reading t);
+        one-list = λ t. keeps (F .codec) .one-list (reading t);
+        clean-iff = λ t. keeps (F .codec) .clean-iff (reading t);
         one = λ s p c d. c .is ∙ sym (d .is);
       }

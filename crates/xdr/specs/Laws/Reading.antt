@@ -12,15 +12,16 @@ use Rattle.xdr.specs.Meaning.Bytes.{numberAt, padding, zeros}
 use Rattle.xdr.specs.Meaning.Answer.{Answer, took, refused, dirty-pad, clean}
 use Rattle.xdr.specs.Meaning.Items.{number, word, opaque}
 use Rattle.xdr.specs.Laws.Digits.{value-at}
+use Rattle.xdr.specs.declared.refusal.Refusal.the-variants.{Ended}
 
 abbrev pub numberAnswer : ℕ → List ℕ → ℕ → Answer ℕ
-numberAnswer k s p = cond (leb k (length s - p)) (took (numberAt k s p) (p + k) true) (refused 1 p)
+numberAnswer k s p = cond (leb k (length s - p)) (took (numberAt k s p) (p + k) true) (refused (Ended p))
 
 pub number-read : (k : ℕ) (s : List ℕ) (p : ℕ) → number k .kind .read s p ≡ numberAnswer k s p
 unfolding number
 number-read k s p = go (leb k (length s - p)) refl
   where
-    go : (t : Bool) → leb k (length s - p) ≡ t → number k .kind .read s p ≡ cond t (took (numberAt k s p) (p + k) true) (refused 1 p)
+    go : (t : Bool) → leb k (length s - p) ≡ t → number k .kind .read s p ≡ cond t (took (numberAt k s p) (p + k) true) (refused (Ended p))
     go true e = simp (e, value-at k s p (leb-true k (length s - p) e))
     go false e = simp e
 
@@ -34,13 +35,13 @@ abbrev pub opaqueAnswer : List ℕ → ℕ → ℕ → Answer (List ℕ)
 opaqueAnswer s p n =
     cond (leb (4 + n + padding n) (length s - p))
     (took (take n (drop (p + 4) s)) (p + 4 + n + padding n) (zeros (take (padding n) (drop (p + 4 + n) s))))
-    (refused 1 p)
+    (refused (Ended p))
 
 abbrev pub opaqueAt : List ℕ → ℕ → Answer (List ℕ)
-opaqueAt s p = cond (leb 4 (length s - p)) (opaqueAnswer s p (numberAt 4 s p)) (refused 1 p)
+opaqueAt s p = cond (leb 4 (length s - p)) (opaqueAnswer s p (numberAt 4 s p)) (refused (Ended p))
 
 module _ (s : List ℕ) (p : ℕ) where
-  word-cut : length s - p < 4 → word .kind .read s p ≡ refused 1 p
+  word-cut : length s - p < 4 → word .kind .read s p ≡ refused (Ended p)
   unfolding word number
   word-cut h = rw (number-read 4 s p, lt-leb 4 (length s - p) h)
 
@@ -66,7 +67,7 @@ module _ (s : List ℕ) (p : ℕ) where
         let l : length s - (p + 4) < n = leb-false n (length s - (p + 4)) e in
         rw (w, e, lt-leb (4 + n + padding n) (length s - p) (omega arith))
 
-  opaque-tested : (t : Bool) → leb 4 (length s - p) ≡ t → opaque .kind .read s p ≡ cond t (opaqueAnswer s p (numberAt 4 s p)) (refused 1 p)
+  opaque-tested : (t : Bool) → leb 4 (length s - p) ≡ t → opaque .kind .read s p ≡ cond t (opaqueAnswer s p (numberAt 4 s p)) (refused (Ended p))
   unfolding opaque
   opaque-tested true e =
       let n : ℕ = numberAt 4 s p in

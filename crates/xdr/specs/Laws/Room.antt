@@ -18,13 +18,14 @@ use Rattle.xdr.specs.Laws.Write.{Ready, writes-past, sized-short, sized-
 use Rattle.xdr.specs.declared.answer.Wrote.{Wrote}
 use Rattle.xdr.specs.declared.answer.Wrote.the-variants as wrote
 use Rattle.xdr.specs.declared.refusal.Refusal.{Refusal}
+use Rattle.xdr.specs.declared.refusal.Refusal.the-variants.{NoRoom, PastEnd}
 
 module _ (len at size : ℕ) where
-  pub room-past : len < at → unwritten 9 ≡ roomed len at size
+  pub room-past : len < at → unwritten PastEnd ≡ roomed len at size
   unfolding roomed
   room-past h = simp (lt-leb at len h)
 
-  pub room-short : at ≤ len → len - at < size → unwritten 5 ≡ roomed len at size
+  pub room-short : at ≤ len → len - at < size → unwritten NoRoom ≡ roomed len at size
   unfolding roomed
   room-short h k = simp (le-leb at len h, lt-leb (at + size) len (omega arith))
 
@@ -36,7 +37,7 @@ module _ (len at size : ℕ) where
     pub room : at + size ≤ len
     pub next : at + size ≡ n
 
-  fits-by : {n : ℕ} (a b : Bool) → leb at len ≡ a → leb (at + size) len ≡ b → done n ≡ cond a (cond b (done (at + size)) (unwritten 5)) (unwritten 9)
+  fits-by : {n : ℕ} (a b : Bool) → leb at len ≡ a → leb (at + size) len ≡ b → done n ≡ cond a (cond b (done (at + size)) (unwritten NoRoom)) (unwritten PastEnd)
       → Fits n
   fits-by true true e f g = record { room = leb-true (at + size) len f; next = cc }
   fits-by true false e f g = let z : _≡_ {A = ℕ} 0 1 = cc in absurd (omega arith)
@@ -51,8 +52,8 @@ module _ (len at size : ℕ) where
   room-in e f = fits (sym (ap viewWrote f) ∙ e)
 
 module _ {M S : Type 0} (F : Format M S) (s : List ℕ) (x : S) {n : ℕ} (l : length (output F s x) ≡ n) (r : Ready F s x) (k : n ≤ most) (at : ℕ) (o : List ℕ) where
-  off-by : {q : ℕ} (a b : Bool) → leb at (length o) ≡ a → leb (at + n) (length o) ≡ b
-      → unwritten q ≡ cond a (cond b (done (at + n)) (unwritten 5)) (unwritten 9) → Writes F s x at o (unwritten q) o
+  off-by : {q : Refusal} (a b : Bool) → leb at (length o) ≡ a → leb (at + n) (length o) ≡ b
+      → unwritten q ≡ cond a (cond b (done (at + n)) (unwritten NoRoom)) (unwritten PastEnd) → Writes F s x at o (unwritten q) o
   off-by true true e f g = let z : _≡_ {A = ℕ} 0 1 = cc in absurd (omega arith)
   off-by true false e f g =
       let h : at ≤ length o = leb-true at (length o) e in
@@ -61,7 +62,7 @@ module _ {M S : Type 0} (F : Format M S) (s : List ℕ) (x : S) {n : ℕ} (l : l
   off-by false b e f g =
       subst (λ w. Writes F s x at o w o) (sym g) (writes-past F s x at o (leb-false at (length o) e))
 
-  off-at : {q : ℕ} → unwritten q ≡ roomed (length o) at n → Writes F s x at o (unwritten q) o
+  off-at : {q : Refusal} → unwritten q ≡ roomed (length o) at n → Writes F s x at o (unwritten q) o
   unfolding roomed
   off-at e = off-by (leb at (length o)) (leb (at + n) (length o)) refl refl e
 

@@ -19,6 +19,8 @@ use Rattle.xdr.specs.Meaning.Public.{output, writing, leaving, Writes, B
 use Rattle.xdr.specs.Laws.Promise.{keeps}
 use Rattle.xdr.specs.Laws.Held.{means-taken}
 use Rattle.xdr.specs.Laws.Public.{opened-in}
+use Rattle.xdr.specs.declared.refusal.Refusal.the-variants.{NoRoom, PastEnd, TooLong, Outside}
+use Rattle.xdr.specs.declared.refusal.Refusal.{Refusal}
 
 -- ys is xs with bs at its front, n of them
 pub record Put (xs ys : List ℕ) (n : ℕ) (bs : List ℕ) : Type 0 where
@@ -67,7 +69,7 @@ module _ {M S : Type 0} (F : Format M S) (s : List ℕ) (x : S) where
     pub inside : F .held .inside s x ≡ true
 
   module _ (at : ℕ) (o : List ℕ) where
-    pub writes-past : length o < at → Writes F s x at o (unwritten 9) o
+    pub writes-past : length o < at → Writes F s x at o (unwritten PastEnd) o
     unfolding writing placing
     writes-past h = record { says = simp (lt-leb at (length o) h); leaves = refl; good = tt }
 
@@ -75,7 +77,7 @@ module _ {M S : Type 0} (F : Format M S) (s : List ℕ) (x : S) where
       module _ (g : length s ≤ most) where
         module _ (i : F .held .inside s x ≡ true) where
           module _ (l : length (output F s x) ≤ most) where
-            pub writes-short : length o < at + length (output F s x) → Writes F s x at o (unwritten 5) o
+            pub writes-short : length o < at + length (output F s x) → Writes F s x at o (unwritten NoRoom) o
             unfolding writing placing
             writes-short r =
                 record {
@@ -120,16 +122,16 @@ module _ {M S : Type 0} (F : Format M S) (s : List ℕ) (x : S) where
         go (leb at (length o)) refl (leb (length s) most) refl (F .held .inside s x) refl (leb (length (output F s x)) most) refl
         (leb (at + length (output F s x)) (length o)) refl
       where
-        no : {r : ℕ} → done n ≡ unwritten r → Done n
+        no : {r : Refusal} → done n ≡ unwritten r → Done n
         no f = let z : _≡_ {A = ℕ} 0 1 = cc in absurd (omega arith)
 
         go : (a : Bool) → leb at (length o) ≡ a → (b : Bool) → leb (length s) most ≡ b → (c : Bool) → F .held .inside s x ≡ c
             → (d : Bool) → leb (length (output F s x)) most ≡ d → (r : Bool) → leb (at + length (output F s x)) (length o) ≡ r → Done n
-        go false ha b hb c hc d hd r hr = no {r = 9} (simp ha at e)
-        go true ha false hb c hc d hd r hr = no {r = 3} (simp (ha, hb) at e)
-        go true ha true hb false hc d hd r hr = no {r = 4} (simp (ha, hb, hc) at e)
-        go true ha true hb true hc false hd r hr = no {r = 3} (simp (ha, hb, hc, hd) at e)
-        go true ha true hb true hc true hd false hr = no {r = 5} (simp (ha, hb, hc, hd, hr) at e)
+        go false ha b hb c hc d hd r hr = no {r = PastEnd} (simp ha at e)
+        go true ha false hb c hc d hd r hr = no {r = TooLong} (simp (ha, hb) at e)
+        go true ha true hb false hc d hd r hr = no {r = Outside} (simp (ha, hb, hc) at e)
+        go true ha true hb true hc false hd r hr = no {r = TooLong} (simp (ha, hb, hc, hd) at e)
+        go true ha true hb true hc true hd false hr = no {r = NoRoom} (simp (ha, hb, hc, hd, hr) at e)
         go true ha true hb true hc true hd true hr =
             let f : _≡_ {A = Written} (done n) (done (at + length (output F s x))) = simp (ha, hb, hc, hd, hr) at e in
             record {
@@ -265,7 +267,7 @@ module _ {M S : Type 0} (F : Format M S) (s : List ℕ) (x : S) (o : List ℕ) w
 module _ {M S : Type 0} (F : Format M S) (s : List ℕ) (x : S) {n : ℕ} (l : length (output F s x) ≡ n) (r : Ready F s x) (at : ℕ) (o : List ℕ)
     (h : at ≤ length o) where
   module _ (k : n ≤ most) where
-    pub sized-short : length o - at < n → Writes F s x at o (unwritten 5) o
+    pub sized-short : length o - at < n → Writes F s x at o (unwritten NoRoom) o
     sized-short g = writes-short F s x at o h (r .short) (r .inside) (omega arith) (omega arith)
 
     pub sized-put : F .codec .kind .Good (F .held .mean s x) → n ≤ length o - at → {zs : List ℕ}

@@ -2,34 +2,50 @@
 -- Assumes nothing.
 use mathlib.Core.Bool.{Bool, true, false, cond}
 use mathlib.Core.List.{List, [], _∷_}
-use Prim.Native.Nat.{ℕ}
+use Prim.Native.Nat.{ℕ, _+_}
 use lib.Dec.{leb}
 use lib.ListN.{length}
+use Rattle.xdr.specs.declared.refusal.Refusal.{Refusal}
+use Rattle.xdr.specs.declared.refusal.Refusal.the-variants.{TooLong, PastEnd}
 
--- what reading at a place finds: the message, the next place, and whether its bytes are in published form;
--- or a refusal, by document 01's number and its place
+-- what reading at a place finds: the message, the next place, and whether its bytes are in published form; or a refusal
 pub data Answer (M : Type 0) : Type 0 where
   took : M → ℕ → Bool → Answer M
-  refused : ℕ → ℕ → Answer M
+  refused : Refusal → Answer M
 
 abbrev pub mapAnswer : {A B : Type 0} → (A → B) → Answer A → Answer B
 mapAnswer f (took a n b) = took (f a) n b
-mapAnswer f (refused r q) = refused r q
+mapAnswer f (refused r) = refused r
 
 -- P holds of what was taken
 abbrev pub Taken : {A : Type 0} → (A → Type 0) → Answer A → Type 0
 Taken P (took a n b) = P a
-Taken P (refused r q) = Unit {0}
+Taken P (refused r) = Unit {0}
 
 -- the ways in which bytes that are read are not in published form: a flag above 1, padding that is not zero,
 -- and a tag that is not declared, where the crate reads it as a default
-pub data Loose : Type 0 where
-  odd-flag : Loose
-  dirty-pad : Loose
-  stray-tag : Loose
+pub data Way : Type 0 where
+  odd-flag : Way
+  dirty-pad : Way
+  stray-tag : Way
 
--- nothing loose
-abbrev pub clean : List Loose → Bool
+-- what is loose in a form: where, counted from the form's first byte, and in which way
+pub record Loose : Type 0 where
+  pub offset : ℕ
+  pub way : Way
+
+-- all at the first byte
+abbrev pub here : List Way → List Loose
+here [] = []
+here (x ∷ w) = record { offset = 0; way = x } ∷ here w
+
+-- all k bytes further on
+abbrev pub shifted : ℕ → List Loose → List Loose
+shifted k [] = []
+shifted k (x ∷ w) = record { offset = k + x .offset; way = x .way } ∷ shifted k w
+
+-- nothing in the list
+abbrev pub clean : {A : Type 0} → List A → Bool
 clean [] = true
 clean (x ∷ w) = false
 
@@ -39,9 +55,9 @@ most = 1048576
 
 -- before it reads, a public reader refuses a message that is too long, then a place past its end
 unfoldable pub opened : {A : Type 0} → List ℕ → ℕ → Answer A → Answer A
-opened s p x = cond (leb (length s) most) (cond (leb p (length s)) x (refused 9 0)) (refused 3 0)
+opened s p x = cond (leb (length s) most) (cond (leb p (length s)) x (refused PastEnd)) (refused TooLong)
 
--- what a writer says: the place after what it wrote, or a refusal's number
+-- what a writer says: the place after what it wrote, or a refusal
 pub data Written : Type 0 where
   done : ℕ → Written
-  unwritten : ℕ → Written
+  unwritten : Refusal → Written

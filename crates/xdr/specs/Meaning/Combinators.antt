@@ -1,14 +1,18 @@
 -- The four ways to make a kind: bytes as they stand, one kind after another, a kind seen as another, and a kind that is one item.
 -- Assumes nothing.
 use mathlib.Core.Path.{_≡_}
+use mathlib.Core.Logic.{_⊎_}
 use mathlib.Core.Bool.{Bool, true, cond, _&&_}
 use mathlib.Core.List.{List, [], _∷_, _++_}
-use Prim.Native.Nat.{ℕ, _+_, _-_}
+use Prim.Native.Nat.{ℕ, _+_, _-_, _<_}
 use lib.Dec.{leb, eqb}
 use lib.ListN.{length, take, drop}
-use Rattle.xdr.specs.Meaning.Bytes.{Bytes}
-use Rattle.xdr.specs.Meaning.Answer.{Answer, took, refused, Loose, clean}
+use Rattle.xdr.specs.Meaning.Bytes.{Bytes, Stands}
+use Rattle.xdr.specs.Meaning.Refusal.{movedTo}
+use Rattle.xdr.specs.Meaning.Answer.{Answer, took, refused, Way, Loose, here, shifted, clean}
 use Rattle.xdr.specs.Meaning.Kind.{Kind}
+use Rattle.xdr.specs.declared.refusal.Refusal.{Refusal}
+use Rattle.xdr.specs.declared.refusal.Refusal.the-variants.{Ended, Undeclared}
 
 -- n bytes
 pub record Raw (n : ℕ) (l : List ℕ) : Type 0 where
@@ -21,7 +25,8 @@ blockKind n =
     record {
       Good = Raw n;
       Form = λ l w e. (w ≡ []) × (e ≡ l) × Raw n l;
-      read = λ s p. cond (leb n (length s - p)) (took (take n (drop p s)) (p + n) true) (refused 1 p);
+      Fault = λ s p r. (r ≡ Ended p) × (length s - p < n);
+      read = λ s p. cond (leb n (length s - p)) (took (take n (drop p s)) (p + n) true) (refused (Ended p));
       write = λ l. l;
     }
 
@@ -31,6 +36,7 @@ voidKind =
     record {
       Good = λ u. Unit {0};
       Form = λ u w e. (w ≡ []) × (e ≡ []);
+      Fault = λ s p r. ⊥;
       read = λ s p. took tt p true;
       write = λ u. [];
     }
@@ -39,13 +45,13 @@ voidKind =
 module _ {M : Type 0} {N : M → Type 0} (A : Kind M) (B : (a : M) → Kind (N a)) where
   abbrev pub second : (a : M) → Bool → Answer (N a) → Answer ((a : M) × N a)
   second a b (took c n b′) = took (a, c) n (b && b′)
-  second a b (refused r q) = refused r q
+  second a b (refused r) = refused r
 
   abbrev pub first : List ℕ → Answer M → Answer ((a : M) × N a)
   first s (took a n b) = second a b (B a .read s n)
-  first s (refused r q) = refused r q
+  first s (refused r) = refused r
 
-  -- a form of the pair is a form of its first, and behind it one of its second
+  -- a form of the pair is a form of its first, and behind it one of its second; what is loose in the second stands behind the first
   pub record Chained (m : (a : M) × N a) (w : List Loose) (e : List ℕ) : Type 0 where
     pub e₁ : List ℕ
     pub e₂ : List ℕ
@@ -54,20 +60,31 @@ module _ {M : Type 0} {N : M → Type 0} (A : Kind M) (B : (a : M) → Kind (N a
     pub form₁ : A .Form (m .0) w₁ e₁
     pub form₂ : B (m .0) .Form (m .1) w₂ e₂
     pub bytes : e ≡ e₁ ++ e₂
-    pub loose : w ≡ w₁ ++ w₂
+    pub loose : w ≡ w₁ ++ shifted (length e₁) w₂
+
+  -- a fault of the pair is one of its first, or stands behind a form of its first, in its second
+  pub record Behind (s : List ℕ) (p : ℕ) (r : Refusal) : Type 0 where
+    pub message : M
+    pub loose : List Loose
+    pub used : List ℕ
+    pub left : List ℕ
+    pub form : A .Form message loose used
+    pub stands : Stands used left s p
+    pub fault : B message .Fault s (p + length used) r
 
   abbrev pub chainKind : Kind ((a : M) × N a)
   chainKind =
       record {
         Good = λ m. A .Good (m .0) × B (m .0) .Good (m .1);
         Form = Chained;
+        Fault = λ s p r. A .Fault s p r ⊎ Behind s p r;
         read = λ s p. first s (A .read s p);
         write = λ m. A .write (m .0) ++ B (m .0) .write (m .1);
       }
 
--- what a message is seen as: a message of another type, with what is loose in seeing it so; or nothing, which is refusal 2
+-- what a message is seen as: a message of another type, with the ways in which that is loose; or nothing, which is refusal 2
 pub data Seen (N : Type 0) : Type 0 where
-  means : N → List Loose → Seen N
+  means : N → List Way → Seen N
   undeclared : Seen N
 
 -- what is meant is in range; and where nothing is loose, it is written as what was seen
@@ -99,28 +116,53 @@ pub record View (M : Type 0) (From : M → Type 0) (N : Type 0) : Type 1 where
 module _ {M N : Type 0} (K : Kind M) (W : View M (K .Good) N) where
   abbrev pub meant : ℕ → ℕ → Bool → Seen N → Answer N
   meant p n b (means m w) = took m n (clean w && b)
-  meant p n b undeclared = refused 2 p
+  meant p n b undeclared = refused (Undeclared p)
 
   abbrev pub look : ℕ → Answer M → Answer N
   look p (took x n b) = meant p n b (W .see x)
-  look p (refused r q) = refused r q
+  look p (refused r) = refused r
 
   -- a form of m is a form of a message that is seen as m
   pub record Viewed (m : N) (w : List Loose) (e : List ℕ) : Type 0 where
     pub of : M
     pub w₁ : List Loose
-    pub w₂ : List Loose
+    pub w₂ : List Way
     pub form : K .Form of w₁ e
     pub sees : W .see of ≡ means m w₂
-    pub loose : w ≡ w₂ ++ w₁
+    pub loose : w ≡ here w₂ ++ w₁
+
+  -- a form stands there, and it is seen as nothing
+  pub record Unseen (s : List ℕ) (p : ℕ) (r : Refusal) : Type 0 where
+    pub of : M
+    pub loose : List Loose
+    pub used : List ℕ
+    pub left : List ℕ
+    pub form : K .Form of loose used
+    pub stands : Stands used left s p
+    pub sees : W .see of ≡ undeclared
+    pub is : r ≡ Undeclared p
 
   abbrev pub viewKind : Kind N
-  viewKind = record { Good = W .Good; Form = Viewed; read = λ s p. look p (K .read s p); write = λ m. K .write (W .to m) }
+  viewKind =
+      record {
+        Good = W .Good;
+        Form = Viewed;
+        Fault = λ s p r. K .Fault s p r ⊎ Unseen s p r;
+        read = λ s p. look p (K .read s p);
+        write = λ m. K .write (W .to m);
+      }
 
 -- one item: every refusal inside is that of the whole, at its first byte
 abbrev pub whole : {M : Type 0} → ℕ → Answer M → Answer M
 whole p (took m n b) = took m n b
-whole p (refused r q) = refused r p
+whole p (refused r) = refused (movedTo p r)
 
 abbrev pub itemKind : {M : Type 0} → Kind M → Kind M
-itemKind K = record { Good = K .Good; Form = K .Form; read = λ s p. whole p (K .read s p); write = K .write }
+itemKind K =
+    record {
+      Good = K .Good;
+      Form = K .Form;
+      Fault = λ s p r. (q : Refusal) × K .Fault s p q × (r ≡ movedTo p q);
+      read = λ s p. whole p (K .read s p);
+      write = K .write;
+    }

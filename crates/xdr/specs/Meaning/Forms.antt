@@ -3,11 +3,11 @@
 use mathlib.Core.Path.{_≡_}
 use mathlib.Core.Bool.{Bool, not, cond}
 use mathlib.Core.List.{List, [], _∷_, _++_}
-use Prim.Native.Nat.{ℕ, _^_, _<_}
+use Prim.Native.Nat.{ℕ, _+_, _^_, _<_}
 use lib.Dec.{eqb, leb}
 use lib.ListN.{length}
 use Rattle.xdr.specs.Meaning.Bytes.{Bytes, digits, padding, zeros}
-use Rattle.xdr.specs.Meaning.Answer.{Loose, odd-flag, dirty-pad}
+use Rattle.xdr.specs.Meaning.Answer.{Loose, odd-flag, dirty-pad, here}
 
 -- a number of k bytes has one form, and nothing in it is loose
 pub record NumberForm (k n : ℕ) (w : List Loose) (e : List ℕ) : Type 0 where
@@ -21,7 +21,7 @@ pub record FlagForm (b : Bool) (w : List Loose) (e : List ℕ) : Type 0 where
   pub range : number < 256 ^ 4
   pub bytes : e ≡ digits 4 number
   pub value : b ≡ not (eqb number 0)
-  pub loose : w ≡ cond (leb number 1) [] (odd-flag ∷ [])
+  pub loose : w ≡ cond (leb number 1) [] (here (odd-flag ∷ []))
 
 -- opaque bytes are their number, they themselves and padding to a multiple of four, which is loose if it is not all zero
 pub record OpaqueForm (l : List ℕ) (w : List Loose) (e : List ℕ) : Type 0 where
@@ -31,7 +31,7 @@ pub record OpaqueForm (l : List ℕ) (w : List Loose) (e : List ℕ) : Type 0 wh
   pub pad-size : length pad ≡ padding (length l)
   pub pad-bytes : Bytes pad
   pub bytes : e ≡ digits 4 (length l) ++ (l ++ pad)
-  pub loose : w ≡ cond (zeros pad) [] (dirty-pad ∷ [])
+  pub loose : w ≡ cond (zeros pad) [] (record { offset = 4 + length l; way = dirty-pad } ∷ [])
 
 -- a word list is the number of its words and they themselves, and nothing in it is loose
 abbrev pub allDigits : List ℕ → List ℕ

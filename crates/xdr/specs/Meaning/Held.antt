@@ -7,6 +7,7 @@ use Prim.Native.Nat.{ℕ}
 use Rattle.xdr.specs.Meaning.Answer.{Answer, took, refused, mapAnswer, Taken, clean}
 use Rattle.xdr.specs.Meaning.Kind.{Codec}
 use Rattle.xdr.specs.Meaning.Combinators.{Seen, means, undeclared}
+use Rattle.xdr.specs.declared.refusal.Refusal.the-variants.{Undeclared}
 
 -- `read`: the reading, with places. `mean s x`: the message that x is in the source s. `inside s x`: x's pieces lie inside s.
 -- To read and then to mean is the codec's reading; and what is read lies inside
@@ -22,11 +23,11 @@ module _ {M S : Type 0} {N : M → Type 0} {T : S → Type 0} {A : Codec M} (B :
     (G : (s : List ℕ) (x : S) → Held (B (H .mean s x)) (T x)) where
   abbrev pub thenSecond : (x : S) → Bool → Answer (T x) → Answer ((x : S) × T x)
   thenSecond x b (took y n b′) = took (x, y) n (b && b′)
-  thenSecond x b (refused r q) = refused r q
+  thenSecond x b (refused r) = refused r
 
   abbrev pub thenFirst : List ℕ → Answer S → Answer ((x : S) × T x)
   thenFirst s (took x n b) = thenSecond x b (G s x .read s n)
-  thenFirst s (refused r q) = refused r q
+  thenFirst s (refused r) = refused r
 
   abbrev pub thenMean : List ℕ → (x : S) × T x → (a : M) × N a
   thenMean s z = (H .mean s (z .0), G s (z .0) .mean s (z .1))
@@ -45,11 +46,11 @@ Meant P undeclared = Unit {0}
 
 abbrev pub seenAs : {T : Type 0} → ℕ → ℕ → Bool → Seen T → Answer T
 seenAs p n b (means m w) = took m n (clean w && b)
-seenAs p n b undeclared = refused 2 p
+seenAs p n b undeclared = refused (Undeclared p)
 
 abbrev pub lookAt : {S T : Type 0} → (S → Seen T) → ℕ → Answer S → Answer T
 lookAt holds p (took x n b) = seenAs p n b (holds x)
-lookAt holds p (refused r q) = refused r q
+lookAt holds p (refused r) = refused r
 
 -- what is held of another kind, made of what is held of one: it means what the message is seen as
 pub record Holds {M S N : Type 0} {C : Codec M} (H : Held C S) (see : M → Seen N) (T : Type 0) : Type 0 where

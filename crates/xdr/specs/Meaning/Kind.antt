@@ -7,12 +7,15 @@ use Prim.Native.Nat.{ℕ, _+_}
 use lib.ListN.{length}
 use Rattle.xdr.specs.Meaning.Bytes.{Bytes, Stands}
 use Rattle.xdr.specs.Meaning.Answer.{Answer, took, refused, Loose, clean}
+use Rattle.xdr.specs.declared.refusal.Refusal.{Refusal}
 
 -- `Good m`: m is in range. `Form m w e`: the bytes e are a form of m, and w lists what is loose in it, so the published form has w empty.
+-- `Fault s p r`: what stands at place p of s is whole up to the place of r, and r is what is wrong there.
 -- `read s p`: what stands at place p of s. `write m`: the bytes that m is written as
 pub record Kind (M : Type 0) : Type 1 where
   pub Good : M → Type 0
   pub Form : M → List Loose → List ℕ → Type 0
+  pub Fault : List ℕ → ℕ → Refusal → Type 0
   pub read : List ℕ → ℕ → Answer M
   pub write : M → List ℕ
 
@@ -27,16 +30,21 @@ module _ {M : Type 0} (K : Kind M) where
     pub form : K .Form m loose used
     pub plain : b ≡ clean loose
 
+  -- what an answer claims is so
   abbrev pub Sound : List ℕ → ℕ → Answer M → Type 0
   Sound s p (took m n b) = Found s p m n b
-  Sound s p (refused r q) = Unit {0}
+  Sound s p (refused r) = K .Fault s p r
 
   pub record Lawful : Type 0 where
-    -- what is taken is a form that stands there
+    -- what is taken is a form that stands there, and what is refused has that fault
     pub sound : (s : List ℕ) (p : ℕ) → Bytes s → Sound s p (K .read s p)
     -- a form that stands there is taken
     pub complete : (m : M) (w : List Loose) (e t s : List ℕ) (p : ℕ) → K .Form m w e → Stands e t s p
         → K .read s p ≡ took m (p + length e) (clean w)
+    -- a fault that is there is found
+    pub refuses : (s : List ℕ) (p : ℕ) (r : Refusal) → K .Fault s p r → K .read s p ≡ refused r
+    -- two forms of the same bytes have the same loose in them
+    pub alike : (m m′ : M) (w w′ : List Loose) (e : List ℕ) → K .Form m w e → K .Form m′ w′ e → w ≡ w′
     -- what has a form is in range
     pub good : (m : M) (w : List Loose) (e : List ℕ) → K .Form m w e → K .Good m
     -- what is in range is written in a form with nothing loose

@@ -9,6 +9,7 @@ use lib.ListN.{length}
 use Rattle.xdr.specs.Meaning.Bytes.{Bytes, Stands, part}
 use Rattle.xdr.specs.Meaning.Answer.{took, refused, mapAnswer, Loose}
 use Rattle.xdr.specs.Meaning.Kind.{Kind}
+use Rattle.xdr.specs.declared.refusal.Refusal.{Refusal}
 
 module _ {M : Type 0} (K : Kind M) where
   -- a message of this kind begins at place p of s
@@ -27,9 +28,8 @@ module _ {M : Type 0} (K : Kind M) where
     pub reads : K .read s p ≡ took message next plain
 
   pub record Refused (s : List ℕ) (p : ℕ) : Type 0 where
-    pub number : ℕ
-    pub place : ℕ
-    pub reads : K .read s p ≡ refused number place
+    pub refusal : Refusal
+    pub reads : K .read s p ≡ refused refusal
 
   -- an accepted reading of a string of bytes
   pub record Reading : Type 0 where
@@ -53,6 +53,8 @@ module _ {M : Type 0} (K : Kind M) where
     -- demand 2: bytes are refused exactly if no message of this kind begins there, and else accepted
     pub refused-iff : (s : List ℕ) (p : ℕ) → Bytes s → Refused s p ↔ ¬ (Begins s p)
     pub accepted-iff : (s : List ℕ) (p : ℕ) → Bytes s → Accepted s p ↔ Begins s p
+    -- with the first fault that is there: all before its place is whole, and what stands at its place is cut short or not declared
+    pub fault-iff : (s : List ℕ) (p : ℕ) (r : Refusal) → Bytes s → (K .read s p ≡ refused r) ↔ K .Fault s p r
     -- what is read is in range, and what was used lies inside
     pub in-range : (r : Reading) → K .Good (r .message)
     pub within : (r : Reading) → (r .place ≤ r .next) × (r .next ≤ length (r .input))
@@ -65,10 +67,11 @@ module _ {M : Type 0} (K : Kind M) where
     pub rewrites : (r : Reading) → mapAnswer (K .write) (K .read (rewriting r) 0) ≡ took (rewriting r) (length (rewriting r)) true
     -- a reading is plain exactly when the bytes used equal its rewriting
     pub plain-iff : (r : Reading) → (r .plain ≡ true) ↔ (used r ≡ rewriting r)
-    -- and exactly when all flags in them are 0 or 1, all padding is zero and all tags are declared: of any form that those bytes are,
-    -- and they are one
-    pub clean-iff : (r : Reading) (w : List Loose) → K .Form (r .message) w (used r) → (r .plain ≡ true) ↔ (w ≡ [])
+    -- and exactly when all flags in them are 0 or 1, all padding is zero and all tags are declared: the bytes used are a form, what is
+    -- loose in it is one list, and the reading is plain exactly if that is empty
     pub formed : (r : Reading) → (w : List Loose) × K .Form (r .message) w (used r)
+    pub one-list : (r : Reading) (w w′ : List Loose) → K .Form (r .message) w (used r) → K .Form (r .message) w′ (used r) → w ≡ w′
+    pub clean-iff : (r : Reading) (w : List Loose) → K .Form (r .message) w (used r) → (r .plain ≡ true) ↔ (w ≡ [])
 
   -- some kinds promise also that a rewriting is no longer than the larger of k bytes and the bytes read
   abbrev pub NoLonger : ℕ → Type 0

@@ -3,15 +3,16 @@
 use mathlib.Core.Path.{_≡_}
 use mathlib.Core.Logic.{_↔_}
 use mathlib.Core.Bool.{Bool, true, cond}
-use mathlib.Core.List.{List, _++_}
+use mathlib.Core.List.{List, [], _++_}
 use Prim.Native.Nat.{ℕ, _+_, _≤_}
 use lib.Dec.{leb}
 use lib.ListN.{length, take, drop}
 use Rattle.xdr.specs.Meaning.Bytes.{Bytes, part}
-use Rattle.xdr.specs.Meaning.Answer.{Answer, took, most, opened, Written, done, unwritten}
+use Rattle.xdr.specs.Meaning.Answer.{Answer, took, refused, mapAnswer, Loose, most, opened, Written, done, unwritten}
 use Rattle.xdr.specs.Meaning.Order.{placing}
 use Rattle.xdr.specs.Meaning.Promise.{Begins}
 use Rattle.xdr.specs.Meaning.Format.{Format}
+use Rattle.xdr.specs.declared.refusal.Refusal.{Refusal}
 
 module _ {M S : Type 0} (F : Format M S) where
   -- a public reader's answer at a place of a source: the format's reading, once refusals 3 and 9 are tested; and the source is bytes
@@ -82,6 +83,10 @@ module _ {M S : Type 0} (F : Format M S) where
   abbrev pub rewritten : Took → List ℕ
   rewritten t = F .codec .kind .write (message t)
 
+  -- the bytes that it used
+  abbrev pub usedBy : Took → List ℕ
+  usedBy t = part (t .source) (t .place) (t .next)
+
   pub record Kept : Type 0 where
     -- taken exactly if the source is short enough, the place is in it, and a message of this kind begins there
     pub accepted-iff : (s : List ℕ) (p : ℕ) {a : Answer S} → Answers F s p a
@@ -90,9 +95,17 @@ module _ {M S : Type 0} (F : Format M S) where
     pub inside : (t : Took) → F .held .inside (t .source) (t .value) ≡ true
     pub in-range : (t : Took) → F .codec .kind .Good (message t)
     pub within : (t : Took) → (t .place ≤ t .next) × (t .next ≤ length (t .source))
-    -- two messages are equal exactly if their rewritings are; a rewriting reads back; plain exactly if the bytes used are the rewriting
+    -- else refused with the first fault that is there
+    pub fault-iff : (s : List ℕ) (p : ℕ) (r : Refusal) {a : Answer S} → Answers F s p a → length s ≤ most → p ≤ length s
+        → (a ≡ refused r) ↔ F .codec .kind .Fault s p r
+    -- two messages are equal exactly if their rewritings are; a rewriting reads back, and is rewritten to itself
     pub same-iff : (t t′ : Took) → (message t ≡ message t′) ↔ (rewritten t ≡ rewritten t′)
     pub again : (t : Took) → F .codec .kind .read (rewritten t) 0 ≡ took (message t) (length (rewritten t)) true
-    pub plain-iff : (t : Took) → (t .plain ≡ true) ↔ (part (t .source) (t .place) (t .next) ≡ rewritten t)
+    pub rewrites : (t : Took) → mapAnswer (F .codec .kind .write) (F .codec .kind .read (rewritten t) 0) ≡ took (rewritten t) (length (rewritten t)) true
+    -- plain exactly if the bytes used are the rewriting, which is exactly if nothing is loose in them: they are a form, and its list is one
+    pub plain-iff : (t : Took) → (t .plain ≡ true) ↔ (usedBy t ≡ rewritten t)
+    pub formed : (t : Took) → (w : List Loose) × F .codec .kind .Form (message t) w (usedBy t)
+    pub one-list : (t : Took) (w w′ : List Loose) → F .codec .kind .Form (message t) w (usedBy t) → F .codec .kind .Form (message t) w′ (usedBy t) → w ≡ w′
+    pub clean-iff : (t : Took) (w : List Loose) → F .codec .kind .Form (message t) w (usedBy t) → (t .plain ≡ true) ↔ (w ≡ [])
     -- two answers that the contract permits are one
     pub one : (s : List ℕ) (p : ℕ) {a b : Answer S} → Answers F s p a → Answers F s p b → a ≡ b

@@ -1,4 +1,4 @@
--- What the code's own types say, in the terms of `Meaning`: each refusal by document 01's number and place, each answer as an `Answer`.
+-- What the code's own types say, in the terms of `Meaning`: each answer as an `Answer`.
 -- Assumes nothing.
 use mathlib.Core.Bool.{Bool, true}
 use mathlib.Core.Option.{Option, none, some}
@@ -6,7 +6,7 @@ use Prim.Native.Nat.{ℕ}
 use lib.IntN.{ℤ}
 use Rattle.xdr.specs.Meaning.Answer.{Answer, took, refused, Written, done, unwritten}
 use Rattle.xdr.specs.declared.refusal.Refusal.{Refusal}
-use Rattle.xdr.specs.declared.refusal.Refusal.the-variants.{Ended, Undeclared, TooLong, Outside, NoRoom, Unfit, Overrun, NotCall, PastEnd}
+use Rattle.xdr.specs.declared.refusal.Refusal.the-variants.{PastEnd}
 use Rattle.xdr.specs.declared.piece.Piece.{Piece}
 use Rattle.xdr.specs.declared.piece.WordFound.{WordFound}
 use Rattle.xdr.specs.declared.piece.WordFound.the-variants as word-found
@@ -31,34 +31,8 @@ use Rattle.xdr.specs.declared.answer.Wrote.the-variants as wrote
 use Rattle.xdr.specs.declared.order.Opening.{Opening}
 use Rattle.xdr.specs.declared.order.Opening.the-variants as opening
 
-abbrev pub numberOf : Refusal → ℕ
-numberOf (Ended p) = 1
-numberOf (Undeclared p) = 2
-numberOf TooLong = 3
-numberOf Outside = 4
-numberOf NoRoom = 5
-numberOf Unfit = 6
-numberOf Overrun = 7
-numberOf NotCall = 8
-numberOf PastEnd = 9
-
--- only 1 and 2 have a place
-abbrev pub placeOf : Refusal → ℕ
-placeOf (Ended p) = p
-placeOf (Undeclared p) = p
-placeOf TooLong = 0
-placeOf Outside = 0
-placeOf NoRoom = 0
-placeOf Unfit = 0
-placeOf Overrun = 0
-placeOf NotCall = 0
-placeOf PastEnd = 0
-
-abbrev pub refusal : {A : Type 0} → Refusal → Answer A
-refusal r = refused (numberOf r) (placeOf r)
-
 abbrev pub viewU32 : U32Read → Answer ℕ
-viewU32 (U32.Refused r) = refusal r
+viewU32 (U32.Refused r) = refused r
 viewU32 (U32.Took v n) = took v n true
 
 abbrev pub lostU32 : U32Read → Refusal
@@ -66,7 +40,7 @@ lostU32 (U32.Refused r) = r
 lostU32 (U32.Took v n) = PastEnd
 
 abbrev pub viewU64 : U64Read → Answer ℕ
-viewU64 (U64.Refused r) = refusal r
+viewU64 (U64.Refused r) = refused r
 viewU64 (U64.Took v n) = took v n true
 
 abbrev pub lostU64 : U64Read → Refusal
@@ -74,7 +48,7 @@ lostU64 (U64.Refused r) = r
 lostU64 (U64.Took v n) = PastEnd
 
 abbrev pub viewU32Pair : U32PairRead → Answer (ℕ × ℕ)
-viewU32Pair (U32Pair.Refused r) = refusal r
+viewU32Pair (U32Pair.Refused r) = refused r
 viewU32Pair (U32Pair.Took a b n) = took (a, b) n true
 
 abbrev pub lostU32Pair : U32PairRead → Refusal
@@ -82,7 +56,7 @@ lostU32Pair (U32Pair.Refused r) = r
 lostU32Pair (U32Pair.Took a b n) = PastEnd
 
 abbrev pub viewU64Pair : U64PairRead → Answer (ℕ × ℕ)
-viewU64Pair (U64Pair.Refused r) = refusal r
+viewU64Pair (U64Pair.Refused r) = refused r
 viewU64Pair (U64Pair.Took a b n) = took (a, b) n true
 
 abbrev pub lostU64Pair : U64PairRead → Refusal
@@ -90,7 +64,7 @@ lostU64Pair (U64Pair.Refused r) = r
 lostU64Pair (U64Pair.Took a b n) = PastEnd
 
 abbrev pub viewI32 : I32Read → Answer ℤ
-viewI32 (I32.Refused r) = refusal r
+viewI32 (I32.Refused r) = refused r
 viewI32 (I32.Took v n) = took v n true
 
 abbrev pub lostI32 : I32Read → Refusal
@@ -98,7 +72,7 @@ lostI32 (I32.Refused r) = r
 lostI32 (I32.Took v n) = PastEnd
 
 abbrev pub viewI64 : I64Read → Answer ℤ
-viewI64 (I64.Refused r) = refusal r
+viewI64 (I64.Refused r) = refused r
 viewI64 (I64.Took v n) = took v n true
 
 abbrev pub lostI64 : I64Read → Refusal
@@ -106,7 +80,7 @@ lostI64 (I64.Refused r) = r
 lostI64 (I64.Took v n) = PastEnd
 
 abbrev pub viewBool : BoolRead → Answer Bool
-viewBool (Bool.Refused r) = refusal r
+viewBool (Bool.Refused r) = refused r
 viewBool (Bool.Took v n p) = took v n p
 
 abbrev pub lostBool : BoolRead → Refusal
@@ -114,7 +88,7 @@ lostBool (Bool.Refused r) = r
 lostBool (Bool.Took v n p) = PastEnd
 
 abbrev pub viewPiece : PieceRead → Answer Piece
-viewPiece (Piece.Refused r) = refusal r
+viewPiece (Piece.Refused r) = refused r
 viewPiece (Piece.Took v n p) = took v n p
 
 abbrev pub lostPiece : PieceRead → Refusal
@@ -122,7 +96,7 @@ lostPiece (Piece.Refused r) = r
 lostPiece (Piece.Took v n p) = PastEnd
 
 abbrev pub viewWrote : Wrote → Written
-viewWrote (wrote.Refused r) = unwritten (numberOf r)
+viewWrote (wrote.Refused r) = unwritten r
 viewWrote (wrote.Done n) = done n
 
 abbrev pub lostWrote : Wrote → Refusal
@@ -135,5 +109,5 @@ viewWord (word-found.Word v) = some v
 
 -- a place that may be read from is an answer that took nothing yet
 abbrev pub viewOpening : ℕ → Opening → Answer (Unit {0})
-viewOpening p (opening.Refused r) = refusal r
+viewOpening p (opening.Refused r) = refused r
 viewOpening p opening.Open = took tt p true
