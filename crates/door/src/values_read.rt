@@ -6,7 +6,7 @@ ghost use mathlib.Core.List.{[], _∷_};
 ghost use Prim.Native.Nat.{_+_, _≤_};
 ghost use lib.ListN.{length, replicate};
 ghost use lib.Seq.{sets};
-ghost use Rattle.xdr.specs.Meaning.Views.{numberOf, placeOf};
+ghost use Rattle.xdr.specs.Meaning.Refusal.{numberOf, placeOf};
 ghost use Rattle.nfs.specs.Meaning.Set.{modeFrom, uidFrom, gidFrom, sizeFrom, atimeFrom, mtimeFrom};
 ghost use Rattle.rpc.specs.declared.message.rpc_body.the-variants.{CALL, REPLY};
 ghost use Rattle.rpc.specs.declared.reply.reply_body.the-variants.{«MSG_ACCEPTED», «MSG_DENIED»};

@@ -135,7 +135,7 @@ module _ (s : Assembler) (d : List ℕ) (b : ℕ) (h : fitsOf s (length d) ≡ t
   settled-state c p zero false v u e = (ap (λ (f : Said). stateSaid f .left) (sym e), ap (λ (f : Said). stateSaid f .«header_count») (sym e))
   settled-state c p (suc l) z v u e = (ap (λ (f : Said). stateSaid f .left) (sym e), ap (λ (f : Said). stateSaid f .«header_count») (sym e))
 
-  after-header : (t : Bool) (c p l : ℕ) (z : Bool) (v u : ℕ) → cond t (settled c p l z v) (stream.refused 7 (halted c p) v) ≡ more s u → s .«header_count» ≡ 0
+  after-header : (t : Bool) (c p l : ℕ) (z : Bool) (v u : ℕ) → cond t (settled c p l z v) (stream.refused Overrun (halted c p) v) ≡ more s u → s .«header_count» ≡ 0
   after-header true c p l z v u e = settled-state c p l z v u e .1
   after-header false c p l z v u e = let y : _≡_ {A = ℕ} 0 1 = cc e in absurd (omega arith)
 

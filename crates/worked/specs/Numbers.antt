@@ -31,7 +31,7 @@ use Rattle.xdr.specs.declared.refusal.Refusal.the-variants.{Ended, TooLong, Pas
 -- a refusal of a kind is 1 or 2
 abbrev pub Ends : {A : Type 0} → Answer A → Type 0
 Ends (took a n b) = Unit {0}
-Ends (refused r) = (r ≡ 1) ⊎ (r ≡ 2)
+Ends (refused r) = (numberOf r ≡ 1) ⊎ (numberOf r ≡ 2)
 
 pub record Numbered {M : Type 0} (C : Codec M) : Type 0 where
   pub ends : (s : List ℕ) (p : ℕ) → Ends (C .kind .read s p)
@@ -332,7 +332,7 @@ each-numbered =
 -- a public reading is taken, or refused with 1, 2, 3 or 9
 abbrev pub Refused : {A : Type 0} → Answer A → Type 0
 Refused (took a n b) = Unit {0}
-Refused (refused r) = (r ≡ 1) ⊎ (r ≡ 2) ⊎ (r ≡ 3) ⊎ (r ≡ 9)
+Refused (refused r) = (numberOf r ≡ 1) ⊎ (numberOf r ≡ 2) ⊎ (numberOf r ≡ 3) ⊎ (numberOf r ≡ 9)
 
 module _ {M S : Type 0} (F : Format M S) (h : Numbered (F .codec)) (s : List ℕ) (p : ℕ) where
   by-held : (z : Answer S) → Ends (mapAnswer (F .held .mean s) z) → Refused z

@@ -92,6 +92,6 @@ rows =
     -- an empty record
     ∷ feeding 3 (0x80 ∷ 0 ∷ 0 ∷ 0 ∷ []) (7 ∷ 7 ∷ 7 ∷ []) (stand (complete 0 (fresh 3) 4) (7 ∷ 7 ∷ 7 ∷ []))
     -- a fragment that would pass the end of a buffer of 3, and one that fits in 4
-    ∷ feeding 3 (0x80 ∷ 0 ∷ 0 ∷ 4 ∷ []) (7 ∷ 7 ∷ 7 ∷ []) (stand (stream.refused 7 (halted 3 0) 4) (7 ∷ 7 ∷ 7 ∷ []))
+    ∷ feeding 3 (0x80 ∷ 0 ∷ 0 ∷ 4 ∷ []) (7 ∷ 7 ∷ 7 ∷ []) (stand (stream.refused Overrun (halted 3 0) 4) (7 ∷ 7 ∷ 7 ∷ []))
     ∷ feeding 4 (0x80 ∷ 0 ∷ 0 ∷ 4 ∷ []) (7 ∷ 7 ∷ 7 ∷ 7 ∷ []) (stand (more (inFragment 4 0 4 true) 4) (7 ∷ 7 ∷ 7 ∷ 7 ∷ []))
     ∷ []

@@ -18,8 +18,8 @@ use Rattle.door.specs.Meaning.Kinds.{CopiesOf}
 
 module _ {M S R : Type 0} (F : Format M S) (view : R → Answer S) (s : List ℕ) (at start : ℕ) (o : List ℕ) {r t : R} (c : Answers F s at (view r)) (e : r ≡ t) where
   -- the reading was refused
-  pub not-read : {q p : ℕ} → view t ≡ refused q → Copies F s at start o (unread q p) o
-  not-read {q} {p} h =
+  pub not-read : {q : Refusal} → view t ≡ refused q → Copies F s at start o (unread q) o
+  not-read {q} h =
       let k : opened s at (F .held .read s at) ≡ refused q = sym (c .is) ∙ ap view e ∙ h in
       record { says = rw k; leaves = rw k }
 

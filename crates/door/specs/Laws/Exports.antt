@@ -5,7 +5,7 @@ use mathlib.Core.Bool.{Bool, cond}
 use mathlib.Core.List.{List, [], _∷_}
 use Prim.Native.Nat.{ℕ}
 use lib.Seq.{sets}
-use Rattle.xdr.specs.Meaning.Views.{numberOf, placeOf}
+use Rattle.xdr.specs.Meaning.Refusal.{numberOf, placeOf}
 use Rattle.xdr.specs.declared.refusal.Refusal.{Refusal}
 use Rattle.door.specs.Meaning.Copy.{viewCopied}
 use Rattle.xdr.specs.Meaning.Views.{viewWrote}

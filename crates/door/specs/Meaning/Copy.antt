@@ -8,21 +8,21 @@ use lib.ListN.{length}
 use Rattle.xdr.specs.Meaning.Answer.{Answer, took, refused, opened, Written, done, unwritten}
 use Rattle.xdr.specs.Meaning.Format.{Format}
 use Rattle.xdr.specs.Meaning.Public.{writing, leaving}
-use Rattle.xdr.specs.Meaning.Views.{numberOf, placeOf}
+use Rattle.xdr.specs.declared.refusal.Refusal.{Refusal}
 use Rattle.door.specs.declared.copy.Copied.{Copied}
 use Rattle.door.specs.declared.copy.Copied.the-variants.{Unknown, Unread, Unwritten, Done}
 
--- what is said: no such kind; the reading's refusal by number and place; the writing's refusal by number; or the three figures
+-- what is said: no such kind; the reading's refusal; the writing's refusal; or the three figures
 pub data Copy : Type 0 where
   unknown : Copy
-  unread : ℕ → ℕ → Copy
-  unmade : ℕ → Copy
+  unread : Refusal → Copy
+  unmade : Refusal → Copy
   made : ℕ → Bool → ℕ → Copy
 
 abbrev pub viewCopied : Copied → Copy
 viewCopied Unknown = unknown
-viewCopied (Unread r) = unread (numberOf r) (placeOf r)
-viewCopied (Unwritten r) = unmade (numberOf r)
+viewCopied (Unread r) = unread r
+viewCopied (Unwritten r) = unmade r
 viewCopied (Done n b e) = made n b e
 
 -- what is said of a reading that was taken, by what its writer says
@@ -34,7 +34,7 @@ module _ {M S : Type 0} (F : Format M S) (s : List ℕ) (start : ℕ) (o : List 
   -- what is said of a reading, and what the other buffer then holds
   abbrev pub copySaid : Answer S → Copy
   copySaid (took x n b) = saidOf n b (writing F s x start (length o))
-  copySaid (refused r) = unread r q
+  copySaid (refused r) = unread r
 
   abbrev pub copyLeft : Answer S → List ℕ
   copyLeft (took x n b) = leaving F s x (writing F s x start (length o)) start o

@@ -9,6 +9,7 @@ use lib.Seq.{sets}
 use mathlib.Core.Option.{Option, none, some}
 use mathlib.Core.Logic.{_⊎_}
 use lib.Dec.{eqb}
+use Rattle.xdr.specs.Meaning.Refusal.{numberOf, placeOf}
 use Rattle.xdr.specs.Meaning.Answer.{Written, done, unwritten}
 use Rattle.rpc.specs.declared.auth.auth_unix.{«auth_unix»}
 use Rattle.rpcwire.specs.Meaning.Fragment.{WritesFragment}
@@ -20,13 +21,13 @@ use Rattle.door.specs.Meaning.Kinds.{kinds, CopiesOf}
 
 abbrev pub codeOf : Copy → ℕ
 codeOf unknown = 255
-codeOf (unread r q) = r
-codeOf (unmade r) = r
+codeOf (unread r) = numberOf r
+codeOf (unmade r) = numberOf r
 codeOf (made n b e) = 0
 
 abbrev pub figures : Copy → List ℕ
 figures unknown = 0 ∷ 0 ∷ 0 ∷ []
-figures (unread r q) = q ∷ 0 ∷ 0 ∷ []
+figures (unread r) = placeOf r ∷ 0 ∷ 0 ∷ []
 figures (unmade r) = 0 ∷ 0 ∷ 0 ∷ []
 figures (made n b e) = n ∷ cond b 1 0 ∷ e ∷ []
 
@@ -45,7 +46,7 @@ pub record ReadCalled (kind : ℕ) (s : List ℕ) (at : ℕ) (o i : List ℕ) (r
 -- `yugerzat_fragment`: one figure, the place after the fragment
 abbrev pub wroteCode : Written → ℕ
 wroteCode (done n) = 0
-wroteCode (unwritten r) = r
+wroteCode (unwritten r) = numberOf r
 
 abbrev pub wroteFigure : Written → ℕ
 wroteFigure (done n) = n
@@ -63,7 +64,7 @@ pub record FragmentCalled (m : List ℕ) (start : ℕ) (o i : List ℕ) (r : ℕ
 
 -- `yugerzat_choose`: twelve figures
 abbrev pub chosenCode : Chosen → ℕ
-chosenCode (turned-away r q) = r
+chosenCode (turned-away r) = numberOf r
 chosenCode (replied n) = 101
 chosenCode silent = 102
 chosenCode (handed p v f a n) = 100
@@ -74,7 +75,7 @@ handedFigures p v f n (some a) =
     p ∷ v ∷ f ∷ n ∷ 1 ∷ a .stamp ∷ a .machinename .at ∷ a .machinename .count ∷ a .uid ∷ a .gid ∷ a .gids .at ∷ a .gids .count ∷ []
 
 abbrev pub chosenFigures : Chosen → List ℕ
-chosenFigures (turned-away r q) = q ∷ 0 ∷ 0 ∷ 0 ∷ 0 ∷ 0 ∷ 0 ∷ 0 ∷ 0 ∷ 0 ∷ 0 ∷ 0 ∷ []
+chosenFigures (turned-away r) = placeOf r ∷ 0 ∷ 0 ∷ 0 ∷ 0 ∷ 0 ∷ 0 ∷ 0 ∷ 0 ∷ 0 ∷ 0 ∷ 0 ∷ []
 chosenFigures (replied n) = n ∷ 0 ∷ 0 ∷ 0 ∷ 0 ∷ 0 ∷ 0 ∷ 0 ∷ 0 ∷ 0 ∷ 0 ∷ 0 ∷ []
 chosenFigures silent = 0 ∷ 0 ∷ 0 ∷ 0 ∷ 0 ∷ 0 ∷ 0 ∷ 0 ∷ 0 ∷ 0 ∷ 0 ∷ 0 ∷ []
 chosenFigures (handed p v f a n) = handedFigures p v f n a
@@ -109,17 +110,17 @@ stateList s =
 abbrev pub fedCode : Said → ℕ
 fedCode (more s u) = 100
 fedCode (complete n s u) = 101
-fedCode (refused r u) = r
+fedCode (refused r s u) = numberOf r
 
 abbrev pub fedState : Said → Assembler
 fedState (more s u) = s
 fedState (complete n s u) = s
-fedState (refused r u) = s
+fedState (refused r s u) = s
 
 abbrev pub fedFigures : Said → List ℕ
 fedFigures (more s u) = u ∷ 0 ∷ []
 fedFigures (complete n s u) = u ∷ n ∷ []
-fedFigures (refused r u) = u ∷ 0 ∷ []
+fedFigures (refused r s u) = u ∷ 0 ∷ []
 
 pub record FeedTold (l run d i : List ℕ) (r : ℕ) (l′ d′ i′ : List ℕ) : Type 0 where
   pub said : Said

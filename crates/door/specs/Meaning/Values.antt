@@ -37,11 +37,11 @@ use Rattle.rpc.specs.declared.reply.rejected_reply.the-variants.{«RPC_MISMATCH
 -- else 0, and its figures; or the refusal's number with its place and zeros
 abbrev pub readCode : {S : Type 0} → Answer S → ℕ
 readCode (took x n b) = 0
-readCode (refused r) = r
+readCode (refused r) = numberOf r
 
 abbrev pub readFigures : {S : Type 0} → (S → List ℕ) → ℕ → Answer S → List ℕ
 readFigures f k (took x n b) = n ∷ cond b 1 0 ∷ f x
-readFigures f k (refused r) = q ∷ 0 ∷ replicate k 0
+readFigures f k (refused r) = placeOf r ∷ 0 ∷ replicate k 0
 
 module _ {S : Type 0} (Answered : Answer S → Type 0) (f : S → List ℕ) (k : ℕ) (i : List ℕ) (r : ℕ) (i′ : List ℕ) where
   pub record ValueTold : Type 0 where

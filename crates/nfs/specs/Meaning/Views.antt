@@ -4,7 +4,6 @@ use mathlib.Core.Bool.{true}
 use mathlib.Core.List.{[]}
 use Rattle.xdr.specs.Meaning.Answer.{Answer, took}
 use Rattle.xdr.specs.Meaning.Combinators.{Seen, means, undeclared}
-use Rattle.xdr.specs.Meaning.Views.{refusal}
 use Rattle.xdr.specs.declared.refusal.Refusal.{Refusal}
 use Rattle.xdr.specs.declared.refusal.Refusal.the-variants.{PastEnd}
 use Rattle.nfs.specs.declared.set._time_how.{«_time_how»}

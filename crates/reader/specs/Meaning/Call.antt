@@ -2,7 +2,6 @@
 -- Assumes nothing.
 use Rattle.xdr.specs.Meaning.Answer.{Answer, took}
 use Rattle.xdr.specs.Meaning.Format.{Format, exactly, _⨟_}
-use Rattle.xdr.specs.Meaning.Views.{refusal}
 use Rattle.rpc.specs.Meaning.Messages.{RpcMsg}
 use Rattle.rpc.specs.Meaning.Message.{rpc-msg}
 use Rattle.rpc.specs.declared.message.rpc_msg.{«rpc_msg»}

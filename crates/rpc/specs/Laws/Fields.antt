@@ -108,7 +108,7 @@ module _ (s : List ℕ) (p : ℕ) where
 -- the same by its pairs
 module _ (s : List ℕ) (p : ℕ) where
   pub call-pairs-1 : {r : Refusal} → word-pair .kind .read s p ≡ refused r → refused r ≡ call-body .held .read s p
-  call-pairs-1 g = pair-refused s g (λ f. call-refused-1 s p f) (λ v n f h. call-refused-2 s p f h)
+  call-pairs-1 g = pair-refused s p g (λ f. call-refused-1 s p f) (λ v n f h. call-refused-2 s p f h)
 
   module _ {v1 v2 n2 : ℕ} (f : word-pair .kind .read s p ≡ took (v1, v2) n2 true) where
     pub call-pairs-2 : {r : Refusal} → word-pair .kind .read s n2 ≡ refused r → refused r ≡ call-body .held .read s p

@@ -8,7 +8,7 @@ use native.Mathlib.Omega.{arith}
 use lib.ListN.{length, drop, length-append, length-drop}
 use lib.Seq.{length-take-le}
 use Rattle.xdr.specs.Meaning.Bytes.{padding}
-use Rattle.xdr.specs.Meaning.Answer.{Loose}
+use Rattle.xdr.specs.Meaning.Answer.{Way, Loose}
 use Rattle.xdr.specs.Meaning.Kind.{Codec}
 use Rattle.xdr.specs.Meaning.Promise.{used, NoLonger}
 use Rattle.xdr.specs.Meaning.Combinators.{Seen, means}
@@ -118,8 +118,8 @@ module _ {N : ℕ → Type 0} (D : (tag : ℕ) → Codec (N tag)) where
 -- seen as another: what is seen with nothing loose is written as what was seen, so only the defaults matter
 module _ {M N : Type 0} (C : Codec M) (see : M → Seen N) (to : N → M) (exact : (x : M) → Exact (C .kind .Good) to x (see x))
     (see-to : (m : N) → see (to m) ≡ means m []) (k : ℕ) where
-  by-loose : (x : M) (m : N) (v : List Loose) (e : List ℕ) → see x ≡ means m v → length (C .kind .write x) ≤ max k (length e)
-      → ((l : Loose) (u : List Loose) → v ≡ l ∷ u → length (C .kind .write (to m)) ≤ max k (length e))
+  by-loose : (x : M) (m : N) (v : List Way) (e : List ℕ) → see x ≡ means m v → length (C .kind .write x) ≤ max k (length e)
+      → ((l : Way) (u : List Way) → v ≡ l ∷ u → length (C .kind .write (to m)) ≤ max k (length e))
       → length (C .kind .write (to m)) ≤ max k (length e)
   by-loose x m [] e s h d =
       let q : to m ≡ x = subst (Exact (C .kind .Good) to x) s (exact x) in
@@ -127,19 +127,19 @@ module _ {M N : Type 0} (C : Codec M) (see : M → Seen N) (to : N → M) (exact
   by-loose x m (l ∷ u) e s h d = d l u refl
 
   seen-within : Within k C
-      → ((x : M) (m : N) (l : Loose) (u w : List Loose) (e : List ℕ) → see x ≡ means m (l ∷ u) → C .kind .Form x w e
+      → ((x : M) (m : N) (l : Way) (u : List Way) (w : List Loose) (e : List ℕ) → see x ≡ means m (l ∷ u) → C .kind .Form x w e
       → length (C .kind .write (to m)) ≤ max k (length e))
       → Within k (seen C see to exact see-to)
   seen-within h d m w e f =
       by-loose (f .of) m (f .w₂) e (f .sees) (h (f .of) (f .w₁) e (f .form))
       (λ l u q. d (f .of) m l u (f .w₁) e (f .sees ∙ ap (means m) q) (f .form))
 
-no-default : {N : Type 0} {P : Type 0} {a b : N} {l : Loose} {u : List Loose} → means a [] ≡ means b (l ∷ u) → P
+no-default : {N : Type 0} {P : Type 0} {a b : N} {l : Way} {u : List Way} → means a [] ≡ means b (l ∷ u) → P
 no-default e = let z : _≡_ {A = ℕ} 0 1 = cc in absurd (omega arith)
 
 -- a record under its own names
 module _ {M N : Type 0} (C : Codec M) (k : ℕ) (to : M → N) (from : N → M) (from-to : (x : M) → from (to x) ≡ x) (h : Within k C) where
-  renamed : {m : N} {v : List Loose} (x : M) (w : List Loose) (e : List ℕ) → C .kind .Form x w e → means (to x) [] ≡ means m v
+  renamed : {m : N} {v : List Way} (x : M) (w : List Loose) (e : List ℕ) → C .kind .Form x w e → means (to x) [] ≡ means m v
       → length (C .kind .write (from m)) ≤ max k (length e)
   renamed {m} x w e f s =
       let q : to x ≡ m = cc s in
@@ -186,7 +186,7 @@ accept-arm (suc zero) = void-within
 accept-arm (suc (suc zero)) = info-within
 accept-arm (suc (suc (suc n))) = void-within
 
-accept-default : (tag : ℕ) (x : acceptArms tag .Msg) (m : «accept_body») (l : Loose) (u : List Loose) → seeAccept tag x ≡ means m (l ∷ u)
+accept-default : (tag : ℕ) (x : acceptArms tag .Msg) (m : «accept_body») (l : Way) (u : List Way) → seeAccept tag x ≡ means m (l ∷ u)
     → length (taggedArm acceptArms .kind .write (fromAccept m)) ≤ 4
 unfolding word number
 accept-default zero x m l u s = no-default s
@@ -217,7 +217,7 @@ reject-arm zero = weaken mismatch-info (omega arith) info-within
 reject-arm (suc zero) = weaken auth-stat (omega arith) stat-within
 reject-arm (suc (suc n)) = weaken void (omega arith) void-within
 
-reject-default : (tag : ℕ) (x : rejectArms tag .Msg) (m : «rejected_reply») (l : Loose) (u : List Loose) → seeReject tag x ≡ means m (l ∷ u)
+reject-default : (tag : ℕ) (x : rejectArms tag .Msg) (m : «rejected_reply») (l : Way) (u : List Way) → seeReject tag x ≡ means m (l ∷ u)
     → length (taggedArm rejectArms .kind .write (fromReject m)) ≤ 12
 unfolding word number mismatch-info
 reject-default zero x m l u s = no-default s
@@ -239,7 +239,7 @@ reply-arm zero = weaken (accepted-reply .codec) (omega arith) accepted-within
 reply-arm (suc zero) = reject-within
 reply-arm (suc (suc n)) = weaken void (omega arith) void-within
 
-reply-default : (tag : ℕ) (x : replyBranches tag .Msg) (m : ReplyBody) (l : Loose) (u : List Loose) → seeReply tag x ≡ means m (l ∷ u)
+reply-default : (tag : ℕ) (x : replyBranches tag .Msg) (m : ReplyBody) (l : Way) (u : List Way) → seeReply tag x ≡ means m (l ∷ u)
     → length (tagged replyBranches .codec .kind .write (fromReply m)) ≤ 16
 unfolding word number opaque auth-flavor opaque-auth accept-body accepted-reply
 reply-default zero x m l u s = no-default s
@@ -261,7 +261,7 @@ body-arm zero = weaken (call-body .codec) (omega arith) call-within
 body-arm (suc zero) = weaken (reply-body .codec) (omega arith) reply-within
 body-arm (suc (suc n)) = weaken void (omega arith) void-within
 
-body-default : (tag : ℕ) (x : bodyBranches tag .Msg) (m : RpcBody) (l : Loose) (u : List Loose) → seeBody tag x ≡ means m (l ∷ u)
+body-default : (tag : ℕ) (x : bodyBranches tag .Msg) (m : RpcBody) (l : Way) (u : List Way) → seeBody tag x ≡ means m (l ∷ u)
     → length (tagged bodyBranches .codec .kind .write (fromBody m)) ≤ 36
 unfolding word number opaque auth-flavor opaque-auth call-body
 body-default zero x m l u s = no-default s

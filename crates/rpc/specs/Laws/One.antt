@@ -6,7 +6,7 @@ use Prim.Native.Nat.{ℕ}
 use Rattle.xdr.specs.Meaning.Answer.{Answer, took, refused}
 use Rattle.xdr.specs.Meaning.Format.{exactly}
 use Rattle.xdr.specs.Meaning.Public.{Answers}
-use Rattle.xdr.specs.Laws.One.{refusalOf, refusal-of, Told, one-read}
+use Rattle.xdr.specs.Laws.One.{Told, one-read}
 use Rattle.rpc.specs.Meaning.Closed.{msg-type, reply-stat, accept-stat, reject-stat, auth-flavor, auth-stat}
 use Rattle.rpc.specs.Meaning.Auth.{opaque-auth, auth-unix}
 use Rattle.rpc.specs.Meaning.UnixIn.{AnswersIn}
@@ -65,229 +65,149 @@ use Rattle.rpc.specs.declared.answer.RpcMsgRead.{RpcMsgRead}
 use Rattle.rpc.specs.declared.answer.RpcMsgRead.the-variants as RpcMsg
 
 msg-type-told : Told views.viewMsgType
-msg-type-told = record { back = from; back-view = is }
-  where
-    from : Answer «msg_type» → MsgTypeRead
-    from (took v n b) = MsgType.Took v n
-    from (refused r) = MsgType.Refused (refusalOf r q)
-
-    is : (r : MsgTypeRead) → from (views.viewMsgType r) ≡ r
-    is (MsgType.Took v n) = refl
-    is (MsgType.Refused q) = ap MsgType.Refused (refusal-of q)
+msg-type-told (MsgType.Took v n) (MsgType.Took v′ n′) e = cc
+msg-type-told (MsgType.Took v n) (MsgType.Refused r) e = cc
+msg-type-told (MsgType.Refused r) (MsgType.Took v n) e = cc
+msg-type-told (MsgType.Refused r) (MsgType.Refused r′) e = cc
 
 pub read-msg-type-one : (s : List ℕ) (p : ℕ) (r r′ : MsgTypeRead) → Answers (exactly msg-type) s p (views.viewMsgType r) → Answers (exactly msg-type) s p (views.viewMsgType r′) → r ≡ r′
 read-msg-type-one = one-read msg-type-told (exactly msg-type)
 
 reply-stat-told : Told views.viewReplyStat
-reply-stat-told = record { back = from; back-view = is }
-  where
-    from : Answer «reply_stat» → ReplyStatRead
-    from (took v n b) = ReplyStat.Took v n
-    from (refused r) = ReplyStat.Refused (refusalOf r q)
-
-    is : (r : ReplyStatRead) → from (views.viewReplyStat r) ≡ r
-    is (ReplyStat.Took v n) = refl
-    is (ReplyStat.Refused q) = ap ReplyStat.Refused (refusal-of q)
+reply-stat-told (ReplyStat.Took v n) (ReplyStat.Took v′ n′) e = cc
+reply-stat-told (ReplyStat.Took v n) (ReplyStat.Refused r) e = cc
+reply-stat-told (ReplyStat.Refused r) (ReplyStat.Took v n) e = cc
+reply-stat-told (ReplyStat.Refused r) (ReplyStat.Refused r′) e = cc
 
 pub read-reply-stat-one : (s : List ℕ) (p : ℕ) (r r′ : ReplyStatRead) → Answers (exactly reply-stat) s p (views.viewReplyStat r) → Answers (exactly reply-stat) s p (views.viewReplyStat r′) → r ≡ r′
 read-reply-stat-one = one-read reply-stat-told (exactly reply-stat)
 
 accept-stat-told : Told views.viewAcceptStat
-accept-stat-told = record { back = from; back-view = is }
-  where
-    from : Answer «accept_stat» → AcceptStatRead
-    from (took v n b) = AcceptStat.Took v n
-    from (refused r) = AcceptStat.Refused (refusalOf r q)
-
-    is : (r : AcceptStatRead) → from (views.viewAcceptStat r) ≡ r
-    is (AcceptStat.Took v n) = refl
-    is (AcceptStat.Refused q) = ap AcceptStat.Refused (refusal-of q)
+accept-stat-told (AcceptStat.Took v n) (AcceptStat.Took v′ n′) e = cc
+accept-stat-told (AcceptStat.Took v n) (AcceptStat.Refused r) e = cc
+accept-stat-told (AcceptStat.Refused r) (AcceptStat.Took v n) e = cc
+accept-stat-told (AcceptStat.Refused r) (AcceptStat.Refused r′) e = cc
 
 pub read-accept-stat-one : (s : List ℕ) (p : ℕ) (r r′ : AcceptStatRead) → Answers (exactly accept-stat) s p (views.viewAcceptStat r) → Answers (exactly accept-stat) s p (views.viewAcceptStat r′) → r ≡ r′
 read-accept-stat-one = one-read accept-stat-told (exactly accept-stat)
 
 reject-stat-told : Told views.viewRejectStat
-reject-stat-told = record { back = from; back-view = is }
-  where
-    from : Answer «reject_stat» → RejectStatRead
-    from (took v n b) = RejectStat.Took v n
-    from (refused r) = RejectStat.Refused (refusalOf r q)
-
-    is : (r : RejectStatRead) → from (views.viewRejectStat r) ≡ r
-    is (RejectStat.Took v n) = refl
-    is (RejectStat.Refused q) = ap RejectStat.Refused (refusal-of q)
+reject-stat-told (RejectStat.Took v n) (RejectStat.Took v′ n′) e = cc
+reject-stat-told (RejectStat.Took v n) (RejectStat.Refused r) e = cc
+reject-stat-told (RejectStat.Refused r) (RejectStat.Took v n) e = cc
+reject-stat-told (RejectStat.Refused r) (RejectStat.Refused r′) e = cc
 
 pub read-reject-stat-one : (s : List ℕ) (p : ℕ) (r r′ : RejectStatRead) → Answers (exactly reject-stat) s p (views.viewRejectStat r) → Answers (exactly reject-stat) s p (views.viewRejectStat r′) → r ≡ r′
 read-reject-stat-one = one-read reject-stat-told (exactly reject-stat)
 
 auth-flavor-told : Told views.viewAuthFlavor
-auth-flavor-told = record { back = from; back-view = is }
-  where
-    from : Answer «auth_flavor» → AuthFlavorRead
-    from (took v n b) = AuthFlavor.Took v n
-    from (refused r) = AuthFlavor.Refused (refusalOf r q)
-
-    is : (r : AuthFlavorRead) → from (views.viewAuthFlavor r) ≡ r
-    is (AuthFlavor.Took v n) = refl
-    is (AuthFlavor.Refused q) = ap AuthFlavor.Refused (refusal-of q)
+auth-flavor-told (AuthFlavor.Took v n) (AuthFlavor.Took v′ n′) e = cc
+auth-flavor-told (AuthFlavor.Took v n) (AuthFlavor.Refused r) e = cc
+auth-flavor-told (AuthFlavor.Refused r) (AuthFlavor.Took v n) e = cc
+auth-flavor-told (AuthFlavor.Refused r) (AuthFlavor.Refused r′) e = cc
 
 pub read-auth-flavor-one : (s : List ℕ) (p : ℕ) (r r′ : AuthFlavorRead) → Answers (exactly auth-flavor) s p (views.viewAuthFlavor r) → Answers (exactly auth-flavor) s p (views.viewAuthFlavor r′) → r ≡ r′
 read-auth-flavor-one = one-read auth-flavor-told (exactly auth-flavor)
 
 auth-stat-told : Told views.viewAuthStat
-auth-stat-told = record { back = from; back-view = is }
-  where
-    from : Answer «auth_stat» → AuthStatRead
-    from (took v n b) = AuthStat.Took v n
-    from (refused r) = AuthStat.Refused (refusalOf r q)
-
-    is : (r : AuthStatRead) → from (views.viewAuthStat r) ≡ r
-    is (AuthStat.Took v n) = refl
-    is (AuthStat.Refused q) = ap AuthStat.Refused (refusal-of q)
+auth-stat-told (AuthStat.Took v n) (AuthStat.Took v′ n′) e = cc
+auth-stat-told (AuthStat.Took v n) (AuthStat.Refused r) e = cc
+auth-stat-told (AuthStat.Refused r) (AuthStat.Took v n) e = cc
+auth-stat-told (AuthStat.Refused r) (AuthStat.Refused r′) e = cc
 
 pub read-auth-stat-one : (s : List ℕ) (p : ℕ) (r r′ : AuthStatRead) → Answers (exactly auth-stat) s p (views.viewAuthStat r) → Answers (exactly auth-stat) s p (views.viewAuthStat r′) → r ≡ r′
 read-auth-stat-one = one-read auth-stat-told (exactly auth-stat)
 
 opaque-auth-told : Told views.viewOpaqueAuth
-opaque-auth-told = record { back = from; back-view = is }
-  where
-    from : Answer «opaque_auth» → OpaqueAuthRead
-    from (took v n b) = OpaqueAuth.Took v n b
-    from (refused r) = OpaqueAuth.Refused (refusalOf r q)
-
-    is : (r : OpaqueAuthRead) → from (views.viewOpaqueAuth r) ≡ r
-    is (OpaqueAuth.Took v n b) = refl
-    is (OpaqueAuth.Refused q) = ap OpaqueAuth.Refused (refusal-of q)
+opaque-auth-told (OpaqueAuth.Took v n b) (OpaqueAuth.Took v′ n′ b′) e = cc
+opaque-auth-told (OpaqueAuth.Took v n b) (OpaqueAuth.Refused r) e = cc
+opaque-auth-told (OpaqueAuth.Refused r) (OpaqueAuth.Took v n b) e = cc
+opaque-auth-told (OpaqueAuth.Refused r) (OpaqueAuth.Refused r′) e = cc
 
 pub read-opaque-auth-one : (s : List ℕ) (p : ℕ) (r r′ : OpaqueAuthRead) → Answers opaque-auth s p (views.viewOpaqueAuth r) → Answers opaque-auth s p (views.viewOpaqueAuth r′) → r ≡ r′
 read-opaque-auth-one = one-read opaque-auth-told opaque-auth
 
 auth-unix-told : Told views.viewAuthUnix
-auth-unix-told = record { back = from; back-view = is }
-  where
-    from : Answer «auth_unix» → AuthUnixRead
-    from (took v n b) = AuthUnix.Took v n b
-    from (refused r) = AuthUnix.Refused (refusalOf r q)
-
-    is : (r : AuthUnixRead) → from (views.viewAuthUnix r) ≡ r
-    is (AuthUnix.Took v n b) = refl
-    is (AuthUnix.Refused q) = ap AuthUnix.Refused (refusal-of q)
+auth-unix-told (AuthUnix.Took v n b) (AuthUnix.Took v′ n′ b′) e = cc
+auth-unix-told (AuthUnix.Took v n b) (AuthUnix.Refused r) e = cc
+auth-unix-told (AuthUnix.Refused r) (AuthUnix.Took v n b) e = cc
+auth-unix-told (AuthUnix.Refused r) (AuthUnix.Refused r′) e = cc
 
 pub read-auth-unix-one : (s : List ℕ) (p : ℕ) (r r′ : AuthUnixRead) → Answers auth-unix s p (views.viewAuthUnix r) → Answers auth-unix s p (views.viewAuthUnix r′) → r ≡ r′
 read-auth-unix-one = one-read auth-unix-told auth-unix
 
 mismatch-info-told : Told views.viewMismatchInfo
-mismatch-info-told = record { back = from; back-view = is }
-  where
-    from : Answer «mismatch_info» → MismatchInfoRead
-    from (took v n b) = MismatchInfo.Took v n
-    from (refused r) = MismatchInfo.Refused (refusalOf r q)
-
-    is : (r : MismatchInfoRead) → from (views.viewMismatchInfo r) ≡ r
-    is (MismatchInfo.Took v n) = refl
-    is (MismatchInfo.Refused q) = ap MismatchInfo.Refused (refusal-of q)
+mismatch-info-told (MismatchInfo.Took v n) (MismatchInfo.Took v′ n′) e = cc
+mismatch-info-told (MismatchInfo.Took v n) (MismatchInfo.Refused r) e = cc
+mismatch-info-told (MismatchInfo.Refused r) (MismatchInfo.Took v n) e = cc
+mismatch-info-told (MismatchInfo.Refused r) (MismatchInfo.Refused r′) e = cc
 
 pub read-mismatch-info-one : (s : List ℕ) (p : ℕ) (r r′ : MismatchInfoRead) → Answers (exactly mismatch-info) s p (views.viewMismatchInfo r) → Answers (exactly mismatch-info) s p (views.viewMismatchInfo r′) → r ≡ r′
 read-mismatch-info-one = one-read mismatch-info-told (exactly mismatch-info)
 
 call-body-told : Told views.viewCallBody
-call-body-told = record { back = from; back-view = is }
-  where
-    from : Answer «call_body» → CallBodyRead
-    from (took v n b) = CallBody.Took v n b
-    from (refused r) = CallBody.Refused (refusalOf r q)
-
-    is : (r : CallBodyRead) → from (views.viewCallBody r) ≡ r
-    is (CallBody.Took v n b) = refl
-    is (CallBody.Refused q) = ap CallBody.Refused (refusal-of q)
+call-body-told (CallBody.Took v n b) (CallBody.Took v′ n′ b′) e = cc
+call-body-told (CallBody.Took v n b) (CallBody.Refused r) e = cc
+call-body-told (CallBody.Refused r) (CallBody.Took v n b) e = cc
+call-body-told (CallBody.Refused r) (CallBody.Refused r′) e = cc
 
 pub read-call-body-one : (s : List ℕ) (p : ℕ) (r r′ : CallBodyRead) → Answers call-body s p (views.viewCallBody r) → Answers call-body s p (views.viewCallBody r′) → r ≡ r′
 read-call-body-one = one-read call-body-told call-body
 
 accept-body-told : Told views.viewAcceptBody
-accept-body-told = record { back = from; back-view = is }
-  where
-    from : Answer «accept_body» → AcceptBodyRead
-    from (took v n b) = AcceptBody.Took v n b
-    from (refused r) = AcceptBody.Refused (refusalOf r q)
-
-    is : (r : AcceptBodyRead) → from (views.viewAcceptBody r) ≡ r
-    is (AcceptBody.Took v n b) = refl
-    is (AcceptBody.Refused q) = ap AcceptBody.Refused (refusal-of q)
+accept-body-told (AcceptBody.Took v n b) (AcceptBody.Took v′ n′ b′) e = cc
+accept-body-told (AcceptBody.Took v n b) (AcceptBody.Refused r) e = cc
+accept-body-told (AcceptBody.Refused r) (AcceptBody.Took v n b) e = cc
+accept-body-told (AcceptBody.Refused r) (AcceptBody.Refused r′) e = cc
 
 pub read-accept-body-one : (s : List ℕ) (p : ℕ) (r r′ : AcceptBodyRead) → Answers (exactly accept-body) s p (views.viewAcceptBody r) → Answers (exactly accept-body) s p (views.viewAcceptBody r′) → r ≡ r′
 read-accept-body-one = one-read accept-body-told (exactly accept-body)
 
 accepted-reply-told : Told views.viewAcceptedReply
-accepted-reply-told = record { back = from; back-view = is }
-  where
-    from : Answer «accepted_reply» → AcceptedReplyRead
-    from (took v n b) = AcceptedReply.Took v n b
-    from (refused r) = AcceptedReply.Refused (refusalOf r q)
-
-    is : (r : AcceptedReplyRead) → from (views.viewAcceptedReply r) ≡ r
-    is (AcceptedReply.Took v n b) = refl
-    is (AcceptedReply.Refused q) = ap AcceptedReply.Refused (refusal-of q)
+accepted-reply-told (AcceptedReply.Took v n b) (AcceptedReply.Took v′ n′ b′) e = cc
+accepted-reply-told (AcceptedReply.Took v n b) (AcceptedReply.Refused r) e = cc
+accepted-reply-told (AcceptedReply.Refused r) (AcceptedReply.Took v n b) e = cc
+accepted-reply-told (AcceptedReply.Refused r) (AcceptedReply.Refused r′) e = cc
 
 pub read-accepted-reply-one : (s : List ℕ) (p : ℕ) (r r′ : AcceptedReplyRead) → Answers accepted-reply s p (views.viewAcceptedReply r) → Answers accepted-reply s p (views.viewAcceptedReply r′) → r ≡ r′
 read-accepted-reply-one = one-read accepted-reply-told accepted-reply
 
 rejected-reply-told : Told views.viewRejectedReply
-rejected-reply-told = record { back = from; back-view = is }
-  where
-    from : Answer «rejected_reply» → RejectedReplyRead
-    from (took v n b) = RejectedReply.Took v n b
-    from (refused r) = RejectedReply.Refused (refusalOf r q)
-
-    is : (r : RejectedReplyRead) → from (views.viewRejectedReply r) ≡ r
-    is (RejectedReply.Took v n b) = refl
-    is (RejectedReply.Refused q) = ap RejectedReply.Refused (refusal-of q)
+rejected-reply-told (RejectedReply.Took v n b) (RejectedReply.Took v′ n′ b′) e = cc
+rejected-reply-told (RejectedReply.Took v n b) (RejectedReply.Refused r) e = cc
+rejected-reply-told (RejectedReply.Refused r) (RejectedReply.Took v n b) e = cc
+rejected-reply-told (RejectedReply.Refused r) (RejectedReply.Refused r′) e = cc
 
 pub read-rejected-reply-one : (s : List ℕ) (p : ℕ) (r r′ : RejectedReplyRead) → Answers (exactly rejected-reply) s p (views.viewRejectedReply r) → Answers (exactly rejected-reply) s p (views.viewRejectedReply r′) → r ≡ r′
 read-rejected-reply-one = one-read rejected-reply-told (exactly rejected-reply)
 
 reply-body-told : Told views.viewReplyBody
-reply-body-told = record { back = from; back-view = is }
-  where
-    from : Answer «reply_body» → ReplyBodyRead
-    from (took v n b) = ReplyBody.Took v n b
-    from (refused r) = ReplyBody.Refused (refusalOf r q)
-
-    is : (r : ReplyBodyRead) → from (views.viewReplyBody r) ≡ r
-    is (ReplyBody.Took v n b) = refl
-    is (ReplyBody.Refused q) = ap ReplyBody.Refused (refusal-of q)
+reply-body-told (ReplyBody.Took v n b) (ReplyBody.Took v′ n′ b′) e = cc
+reply-body-told (ReplyBody.Took v n b) (ReplyBody.Refused r) e = cc
+reply-body-told (ReplyBody.Refused r) (ReplyBody.Took v n b) e = cc
+reply-body-told (ReplyBody.Refused r) (ReplyBody.Refused r′) e = cc
 
 pub read-reply-body-one : (s : List ℕ) (p : ℕ) (r r′ : ReplyBodyRead) → Answers reply-body s p (views.viewReplyBody r) → Answers reply-body s p (views.viewReplyBody r′) → r ≡ r′
 read-reply-body-one = one-read reply-body-told reply-body
 
 rpc-body-told : Told views.viewRpcBody
-rpc-body-told = record { back = from; back-view = is }
-  where
-    from : Answer «rpc_body» → RpcBodyRead
-    from (took v n b) = RpcBody.Took v n b
-    from (refused r) = RpcBody.Refused (refusalOf r q)
-
-    is : (r : RpcBodyRead) → from (views.viewRpcBody r) ≡ r
-    is (RpcBody.Took v n b) = refl
-    is (RpcBody.Refused q) = ap RpcBody.Refused (refusal-of q)
+rpc-body-told (RpcBody.Took v n b) (RpcBody.Took v′ n′ b′) e = cc
+rpc-body-told (RpcBody.Took v n b) (RpcBody.Refused r) e = cc
+rpc-body-told (RpcBody.Refused r) (RpcBody.Took v n b) e = cc
+rpc-body-told (RpcBody.Refused r) (RpcBody.Refused r′) e = cc
 
 pub read-rpc-body-one : (s : List ℕ) (p : ℕ) (r r′ : RpcBodyRead) → Answers rpc-body s p (views.viewRpcBody r) → Answers rpc-body s p (views.viewRpcBody r′) → r ≡ r′
 read-rpc-body-one = one-read rpc-body-told rpc-body
 
 rpc-msg-told : Told views.viewRpcMsg
-rpc-msg-told = record { back = from; back-view = is }
-  where
-    from : Answer «rpc_msg» → RpcMsgRead
-    from (took v n b) = RpcMsg.Took v n b
-    from (refused r) = RpcMsg.Refused (refusalOf r q)
-
-    is : (r : RpcMsgRead) → from (views.viewRpcMsg r) ≡ r
-    is (RpcMsg.Took v n b) = refl
-    is (RpcMsg.Refused q) = ap RpcMsg.Refused (refusal-of q)
+rpc-msg-told (RpcMsg.Took v n b) (RpcMsg.Took v′ n′ b′) e = cc
+rpc-msg-told (RpcMsg.Took v n b) (RpcMsg.Refused r) e = cc
+rpc-msg-told (RpcMsg.Refused r) (RpcMsg.Took v n b) e = cc
+rpc-msg-told (RpcMsg.Refused r) (RpcMsg.Refused r′) e = cc
 
 pub read-rpc-msg-one : (s : List ℕ) (p : ℕ) (r r′ : RpcMsgRead) → Answers rpc-msg s p (views.viewRpcMsg r) → Answers rpc-msg s p (views.viewRpcMsg r′) → r ≡ r′
 read-rpc-msg-one = one-read rpc-msg-told rpc-msg
 
 pub read-auth-unix-in-one : (s : List ℕ) (x : Piece) (r r′ : AuthUnixRead) → AnswersIn s x (views.viewAuthUnix r)
     → AnswersIn s x (views.viewAuthUnix r′) → r ≡ r′
-read-auth-unix-in-one s x r r′ c d = sym (auth-unix-told .back-view r) ∙ ap (auth-unix-told .back) (in-one s x c d) ∙ auth-unix-told .back-view r′
+read-auth-unix-in-one s x r r′ c d = auth-unix-told r r′ (in-one s x c d)

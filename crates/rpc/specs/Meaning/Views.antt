@@ -1,8 +1,7 @@
 -- What each answer of the crate says, as an `Answer`.
 -- Assumes nothing.
 use mathlib.Core.Bool.{true}
-use Rattle.xdr.specs.Meaning.Answer.{Answer, took}
-use Rattle.xdr.specs.Meaning.Views.{refusal}
+use Rattle.xdr.specs.Meaning.Answer.{Answer, took, refused}
 use Rattle.xdr.specs.declared.refusal.Refusal.{Refusal}
 use Rattle.xdr.specs.declared.refusal.Refusal.the-variants.{PastEnd}
 use Rattle.rpc.specs.declared.message.msg_type.{«msg_type»}

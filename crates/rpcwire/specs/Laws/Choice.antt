@@ -66,12 +66,12 @@ module _ (m : «rpc_msg») (h : Short m) (o : List ℕ) where
   reply-done c e = done-by (leb 24 (length o)) refl (sym e ∙ c .says ∙ says-short) (c .leaves ∙ ap (λ v. leaving rpc-msg [] m v 0 o) e)
 
   none-by : (t : Bool) → leb 24 (length o) ≡ t → {r : Refusal} {o′ : List ℕ} → unwritten r ≡ cond t (done 24) (unwritten NoRoom) → o′ ≡ o
-      → outcome (turned-away 5 0) o′ ≡ replying m o
+      → outcome (turned-away NoRoom) o′ ≡ replying m o
   unfolding replying
   none-by true e f g = let z : _≡_ {A = ℕ} 0 1 = cc in absurd (omega arith)
-  none-by false e f g = ap (λ l. outcome (turned-away 5 0) l) g ∙ sym (rw e)
+  none-by false e f g = ap (λ l. outcome (turned-away NoRoom) l) g ∙ sym (rw e)
 
-  pub reply-none : {w : Written} {r : Refusal} {o′ : List ℕ} → Writes rpc-msg [] m 0 o w o′ → w ≡ unwritten r → outcome (turned-away 5 0) o′ ≡ replying m o
+  pub reply-none : {w : Written} {r : Refusal} {o′ : List ℕ} → Writes rpc-msg [] m 0 o w o′ → w ≡ unwritten r → outcome (turned-away NoRoom) o′ ≡ replying m o
   reply-none c e = none-by (leb 24 (length o)) refl (sym e ∙ c .says ∙ says-short) (c .leaves ∙ ap (λ v. leaving rpc-msg [] m v 0 o) e)
 
 -- a call whose credential is read
@@ -102,12 +102,12 @@ not-served p h = simp (ne-eqb p 100003 (λ e. h (inr (inl e))), ne-eqb p 100000 
 
 -- what the choice is, as far as the message is read
 module _ (s : List ℕ) (seen : Bool) (o : List ℕ) where
-  pub not-taken : {r : Refusal} → opened s 0 (rpc-msg .held .read s 0) ≡ refused r → outcome (turned-away r q) o ≡ carriedOut (decided s seen) o
+  pub not-taken : {r : Refusal} → opened s 0 (rpc-msg .held .read s 0) ≡ refused r → outcome (turned-away r) o ≡ carriedOut (decided s seen) o
   unfolding decided
   not-taken e = sym (ap (λ x. carriedOut (byMessage s seen x) o) e)
 
   module _ {m : «rpc_msg»} {n : ℕ} {b : Bool} (e : opened s 0 (rpc-msg .held .read s 0) ≡ took m n b) where
-    pub took-reply : {q : «reply_body»} → m .body ≡ REPLY q → outcome (turned-away 8 0) o ≡ carriedOut (decided s seen) o
+    pub took-reply : {q : «reply_body»} → m .body ≡ REPLY q → outcome (turned-away NotCall) o ≡ carriedOut (decided s seen) o
     unfolding decided
     took-reply f = sym (ap (λ x. carriedOut (byMessage s seen x) o) e ∙ ap (λ y. carriedOut (byBody s seen (m .xid) n y) o) f)
 
@@ -133,7 +133,7 @@ module _ (s : List ℕ) (seen : Bool) (o : List ℕ) where
       by-unix e = ap (byFlavor s seen x c n) h ∙ ap (byUnix s seen x c n) e
 
       pub unix-refused : {r : Refusal} → unixIn s (c .cred .body) ≡ refused r
-          → outcome (turned-away r q) o ≡ carriedOut (byFlavor s seen x c n (c .cred .flavor)) o
+          → outcome (turned-away r) o ≡ carriedOut (byFlavor s seen x c n (c .cred .flavor)) o
       unix-refused e = sym (ap (λ d. carriedOut d o) (by-unix e))
 
       pub unix-took : {a : «auth_unix»} {k : ℕ} {b : Bool} → unixIn s (c .cred .body) ≡ took a k b → {r : Outcome} → r ≡ carriedOut (byVersion seen x c (some a) n) o
@@ -144,7 +144,7 @@ module _ (s : List ℕ) (seen : Bool) (o : List ℕ) where
 
 -- each reply that is decided on is short
 abbrev Brief : Decision → Type 0
-Brief (refuse r q) = Unit {0}
+Brief (refuse r) = Unit {0}
 Brief (reply m) = Short m
 Brief silence = Unit {0}
 Brief (hand-over p v f a n) = Unit {0}
@@ -186,7 +186,7 @@ reply-room : (m : «rpc_msg») (o : List ℕ) → 24 ≤ length o → replying m
 unfolding replying
 reply-room m o h = rw (le-leb 24 (length o) h)
 
-reply-short : (m : «rpc_msg») (o : List ℕ) → length o < 24 → replying m o ≡ outcome (turned-away 5 0) o
+reply-short : (m : «rpc_msg») (o : List ℕ) → length o < 24 → replying m o ≡ outcome (turned-away NoRoom) o
 unfolding replying
 reply-short m o h = rw (lt-leb 24 (length o) h)
 
@@ -205,7 +205,7 @@ leaves-reply m h o true e =
 leaves-reply m h o false e = subst (LeavesOf o) (sym (reply-short m o (leb-false 24 (length o) e))) refl
 
 leaves-decision : (d : Decision) (o : List ℕ) → Brief d → LeavesOf o (carriedOut d o)
-leaves-decision (refuse r q) o h = refl
+leaves-decision (refuse r) o h = refl
 leaves-decision (reply m) o h = leaves-reply m h o (leb 24 (length o)) refl
 leaves-decision silence o h = refl
 leaves-decision (hand-over p v f a n) o h = refl
@@ -214,7 +214,7 @@ pub said-held : {r t : Outcome} → r ≡ t → (r .said ≡ t .said) × (r .hel
 said-held e = (ap (λ (r : Outcome). r .said) e, ap (λ (r : Outcome). r .held) e)
 
 -- a reply of 24 bytes is no refusal
-not-five : (m : «rpc_msg») (o : List ℕ) (t : Bool) → leb 24 (length o) ≡ t → replying m o .said ≡ turned-away 5 0 → length o < 24
+not-five : (m : «rpc_msg») (o : List ℕ) (t : Bool) → leb 24 (length o) ≡ t → replying m o .said ≡ turned-away NoRoom → length o < 24
 not-five m o true e f =
     let k = said-held (reply-room m o (leb-true 24 (length o) e)) .0 in
     let z : _≡_ {A = ℕ} 0 1 = cc in absurd (omega arith)

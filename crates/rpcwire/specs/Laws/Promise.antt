@@ -39,13 +39,13 @@ sound-number (complete n s u) d h e = omega arith
 sound-number (refused r s u) d h e = omega (arith, h .2)
 
 -- refusals before the first byte
-pub feed-misfit : (s : Assembler) (run d : List ℕ) → fitsOf s (length d) ≡ false → feedOf s run d ≡ stand (refused 6 s 0) d
+pub feed-misfit : (s : Assembler) (run d : List ℕ) → fitsOf s (length d) ≡ false → feedOf s run d ≡ stand (refused Unfit s 0) d
 unfolding feedOf
-feed-misfit s run d h = rw (begin-misfit s (length d) h) (walk-ended (refused 6 s 0) d run tt)
+feed-misfit s run d h = rw (begin-misfit s (length d) h) (walk-ended (refused Unfit s 0) d run tt)
 
-pub feed-stopped : (s : Assembler) (run d : List ℕ) → fitsOf s (length d) ≡ true → s .stopped ≡ true → feedOf s run d ≡ stand (refused 7 s 0) d
+pub feed-stopped : (s : Assembler) (run d : List ℕ) → fitsOf s (length d) ≡ true → s .stopped ≡ true → feedOf s run d ≡ stand (refused Overrun s 0) d
 unfolding feedOf
-feed-stopped s run d h k = rw (begin-stopped s (length d) h k) (walk-ended (refused 7 s 0) d run tt)
+feed-stopped s run d h k = rw (begin-stopped s (length d) h k) (walk-ended (refused Overrun s 0) d run tt)
 
 six-only : (s : Assembler) (run d : List ℕ) (t : Bool) → Bytes run → fitsOf s (length d) ≡ t → numberSaid (feedOf s run d .said) ≡ 6 → t ≡ false
 six-only s run d true hb h e = absurd (sound-number (feedOf s run d .said) (feedOf s run d .held) (sound s run d hb h) e)

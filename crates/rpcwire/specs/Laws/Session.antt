@@ -207,8 +207,8 @@ listen-at : (h g : Heard) (s : Assembler) (d e : List ℕ) (b : ℕ) (t : Bool) 
     → Equal (note h (feedOf s (b ∷ []) d)) (note g (feedOf s (b ∷ []) e))
 listen-at h g s d e b true r t f z q m =
     let f′ = subst (λ (n : ℕ). fitsOf s n ≡ true) m f in
-    let a : Alike (refused 7 s 0) d e = record { seen = q; next = q; long = m } in
-    subst₂ (λ (x y : Now). Equal (note h x) (note g y)) (sym (feed-stopped s (b ∷ []) d f z)) (sym (feed-stopped s (b ∷ []) e f′ z)) (note-equal h g (refused 7 s 0) d e r t a)
+    let a : Alike (refused Overrun s 0) d e = record { seen = q; next = q; long = m } in
+    subst₂ (λ (x y : Now). Equal (note h x) (note g y)) (sym (feed-stopped s (b ∷ []) d f z)) (sym (feed-stopped s (b ∷ []) e f′ z)) (note-equal h g (refused Overrun s 0) d e r t a)
 listen-at h g s d e b false r t f z q m =
     let f′ = subst (λ (n : ℕ). fitsOf s n ≡ true) m f in
     let k = fit s (length d) f in

@@ -22,11 +22,11 @@ pub begin-more : (s : Assembler) (n : ℕ) → fitsOf s n ≡ true → s .stoppe
 unfolding begin
 begin-more s n h k = simp (h, k)
 
-pub begin-stopped : (s : Assembler) (n : ℕ) → fitsOf s n ≡ true → s .stopped ≡ true → begin s n ≡ refused 7 s 0
+pub begin-stopped : (s : Assembler) (n : ℕ) → fitsOf s n ≡ true → s .stopped ≡ true → begin s n ≡ refused Overrun s 0
 unfolding begin
 begin-stopped s n h k = simp (h, k)
 
-pub begin-misfit : (s : Assembler) (n : ℕ) → fitsOf s n ≡ false → begin s n ≡ refused 6 s 0
+pub begin-misfit : (s : Assembler) (n : ℕ) → fitsOf s n ≡ false → begin s n ≡ refused Unfit s 0
 unfolding begin
 begin-misfit s n h = simp h
 
@@ -106,7 +106,7 @@ shift-walk k n (b ∷ bs) = shift-walk k (advance n b) bs ∙ ap (λ (m : Now). 
 abbrev pub Sound : Said → List ℕ → Type 0
 Sound (more s u) d = (fitsOf s (length d) ≡ true) × (s .stopped ≡ false)
 Sound (complete n s u) d = (fitsOf s (length d) ≡ true) × (s .stopped ≡ false) × (n ≤ length d)
-Sound (refused r s u) d = (fitsOf s (length d) ≡ true) × (s .stopped ≡ true) × (r ≡ 7)
+Sound (refused r s u) d = (fitsOf s (length d) ≡ true) × (s .stopped ≡ true) × (r ≡ Overrun)
 
 abbrev pub SoundNow : Now → Type 0
 SoundNow n = Sound (n .said) (n .held)

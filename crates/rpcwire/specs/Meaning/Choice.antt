@@ -22,10 +22,10 @@ use Rattle.rpc.specs.declared.message.rpc_body.{«rpc_body»}
 use Rattle.rpc.specs.declared.message.rpc_body.the-variants.{CALL, REPLY}
 use Rattle.rpc.specs.declared.message.rpc_msg.{«rpc_msg»}
 
--- What a message calls for, whatever the output is: a refusal by document 01's number and place; a reply; silence; or the hand-over, with
+-- What a message calls for, whatever the output is: a refusal; a reply; silence; or the hand-over, with
 -- program, version, procedure, the auth_unix or none, and the place where the arguments begin.
 pub data Decision : Type 0 where
-  refuse : ℕ → ℕ → Decision
+  refuse : Refusal → Decision
   reply : «rpc_msg» → Decision
   silence : Decision
   hand-over : (prog vers proc : ℕ) → Option «auth_unix» → (args : ℕ) → Decision
@@ -47,7 +47,7 @@ module _ (s : List ℕ) (seen : Bool) where
   -- the auth_unix of an AUTH_UNIX credential, with the body's end as the end
   abbrev pub byUnix : (xid : ℕ) → «call_body» → (args : ℕ) → Answer «auth_unix» → Decision
   byUnix xid c args (took a n b) = byVersion seen xid c (some a) args
-  byUnix xid c args (refused r) = refuse r q
+  byUnix xid c args (refused r) = refuse r
 
   abbrev pub byFlavor : (xid : ℕ) → «call_body» → (args : ℕ) → «auth_flavor» → Decision
   byFlavor xid c args «AUTH_UNIX» = byUnix xid c args (unixIn s (c .cred .body))
@@ -57,12 +57,12 @@ module _ (s : List ℕ) (seen : Bool) where
 
   abbrev pub byBody : (xid args : ℕ) → «rpc_body» → Decision
   byBody xid args (CALL c) = byFlavor xid c args (c .cred .flavor)
-  byBody xid args (REPLY r) = refuse 8 0
+  byBody xid args (REPLY r) = refuse NotCall
 
   -- the rpc_msg at the message's start, with refusals 3, 1 and 2; the arguments begin behind it
   abbrev pub byMessage : Answer «rpc_msg» → Decision
   byMessage (took m n b) = byBody (m .xid) n (m .body)
-  byMessage (refused r) = refuse r q
+  byMessage (refused r) = refuse r
 
   unfoldable pub decided : Decision
   unfolding byVersion
@@ -70,7 +70,7 @@ module _ (s : List ℕ) (seen : Bool) where
 
 -- What is answered: a refusal, a reply of so many bytes at the front of the output, silence, or the hand-over.
 pub data Chosen : Type 0 where
-  turned-away : ℕ → ℕ → Chosen
+  turned-away : Refusal → Chosen
   replied : ℕ → Chosen
   silent : Chosen
   handed : (prog vers proc : ℕ) → Option «auth_unix» → (args : ℕ) → Chosen
@@ -84,11 +84,11 @@ outcome c o = record { said = c; held = o }
 
 -- a reply is 24 bytes, written from place 0; refusal 5 where the output is shorter. (The two replies have no pieces, so no source.)
 unfoldable pub replying : «rpc_msg» → List ℕ → Outcome
-replying m o = cond (leb 24 (length o)) (outcome (replied 24) (output rpc-msg [] m ++ drop 24 o)) (outcome (turned-away 5 0) o)
+replying m o = cond (leb 24 (length o)) (outcome (replied 24) (output rpc-msg [] m ++ drop 24 o)) (outcome (turned-away NoRoom) o)
 
 -- a decision carried out on the output o
 abbrev pub carriedOut : Decision → List ℕ → Outcome
-carriedOut (refuse r q) o = outcome (turned-away r q) o
+carriedOut (refuse r) o = outcome (turned-away r) o
 carriedOut (reply m) o = replying m o
 carriedOut silence o = outcome silent o
 carriedOut (hand-over p v f a n) o = outcome (handed p v f a n) o
@@ -100,7 +100,7 @@ pub record Chooses (s : List ℕ) (seen : Bool) (o : List ℕ) (c : Chosen) (o�
 
 -- what is left of the output: a reply changes the first 24 bytes, and nothing else changes any
 abbrev pub Leaves : Chosen → List ℕ → List ℕ → Type 0
-Leaves (turned-away r q) o o′ = o′ ≡ o
+Leaves (turned-away r) o o′ = o′ ≡ o
 Leaves (replied n) o o′ = (n ≡ 24) × (24 ≤ length o) × (drop 24 o′ ≡ drop 24 o) × (length o′ ≡ length o)
 Leaves silent o o′ = o′ ≡ o
 Leaves (handed p v f a n) o o′ = o′ ≡ o
@@ -112,5 +112,5 @@ pub record ChoicePromised (s : List ℕ) (seen : Bool) (o : List ℕ) (c : Chose
   -- all but a reply's bytes stay
   pub leaves : Leaves c o o′
   -- where a reply is due, 5 is given exactly if the output is shorter, and else the reply
-  pub five-iff : {m : «rpc_msg»} → decided s seen ≡ reply m → (c ≡ turned-away 5 0) ↔ (length o < 24)
+  pub five-iff : {m : «rpc_msg»} → decided s seen ≡ reply m → (c ≡ turned-away NoRoom) ↔ (length o < 24)
   pub replies : {m : «rpc_msg»} → decided s seen ≡ reply m → 24 ≤ length o → (c ≡ replied 24) × (o′ ≡ output rpc-msg [] m ++ drop 24 o)

@@ -14,7 +14,7 @@ use Rattle.rpcwire.specs.declared.assembler.Assembler.{Assembler}
 abbrev pub numberSaid : Said → ℕ
 numberSaid (more s u) = 0
 numberSaid (complete n s u) = 0
-numberSaid (refused r s u) = r
+numberSaid (refused r s u) = numberOf r
 
 abbrev pub stateSaid : Said → Assembler
 stateSaid (more s u) = s
@@ -61,9 +61,9 @@ pub record Promised (s : Assembler) (run d : List ℕ) (f : Said) (d′ : List �
   pub one : {g : Said} {e : List ℕ} → Feeds s run d g e → (f ≡ g) × (d′ ≡ e)
   -- refusal 6 exactly for states that do not fit; the state is as given, and no byte is used
   pub six-iff : (numberSaid f ≡ 6) ↔ (fitsOf s (length d) ≡ false)
-  pub six : fitsOf s (length d) ≡ false → (f ≡ refused 6 s 0) × (d′ ≡ d)
+  pub six : fitsOf s (length d) ≡ false → (f ≡ refused Unfit s 0) × (d′ ≡ d)
   -- a stopped state takes nothing more
-  pub stays : fitsOf s (length d) ≡ true → s .stopped ≡ true → (f ≡ refused 7 s 0) × (d′ ≡ d)
+  pub stays : fitsOf s (length d) ≡ true → s .stopped ≡ true → (f ≡ refused Overrun s 0) × (d′ ≡ d)
   -- of a state that fits comes one that fits, so it can be fed again
   pub again : fitsOf s (length d) ≡ true → fitsOf (stateSaid f) (length d′) ≡ true
   -- feeding this run and then another is feeding both at once; so no byte past a record's end is used

@@ -9,6 +9,7 @@ use lib.ListN.{length, set}
 use Rattle.xdr.specs.Meaning.Bytes.{Bytes}
 use Rattle.xdr.specs.Meaning.Answer.{most}
 use Rattle.rpcwire.specs.declared.assembler.Assembler.{Assembler}
+use Rattle.xdr.specs.declared.refusal.Refusal.{Refusal}
 
 -- The states that feeding makes.
 
@@ -48,11 +49,11 @@ fitsOf s n =
     && flagsFit (s .left) (s .«header_count») (s .last) (s .stopped)
 
 -- What a feed answers: "more" with the state and the bytes used; "complete" with the record's length, the state and the bytes used; or a
--- refusal by document 01's number, with the state and the bytes used.
+-- refusal, with the state and the bytes used.
 pub data Said : Type 0 where
   more : Assembler → ℕ → Said
   complete : ℕ → Assembler → ℕ → Said
-  refused : ℕ → Assembler → ℕ → Said
+  refused : Refusal → Assembler → ℕ → Said
 
 -- p bytes are placed, l are left of the fragment and u are used: a last fragment with none left completes the record
 unfoldable pub settled : (c p l : ℕ) (z : Bool) (u : ℕ) → Said
@@ -62,7 +63,7 @@ settled c p (suc l) z u = more (inFragment c p (suc l) z) u
 
 -- the fourth header byte has made the word w: its low 31 bits are the length, and bit 31 says last. The sum check stands here
 unfoldable pub headed : (c p w u : ℕ) → Said
-headed c p w u = cond (leb (w % 2147483648) (c - p)) (settled c p (w % 2147483648) (leb 2147483648 w) u) (refused 7 (halted c p) u)
+headed c p w u = cond (leb (w % 2147483648) (c - p)) (settled c p (w % 2147483648) (leb 2147483648 w) u) (refused Overrun (halted c p) u)
 
 -- a header byte makes the value w of it and the n bytes before it
 unfoldable pub headerByte : (c p n w u : ℕ) → Said
@@ -92,7 +93,7 @@ advance n b = after (n .said) (n .held) b
 
 -- before the first byte: refusal 6 with the state as given, then 7 of a stopped state
 unfoldable pub begin : Assembler → ℕ → Said
-begin s n = cond (fitsOf s n) (cond (s .stopped) (refused 7 s 0) (more s 0)) (refused 6 s 0)
+begin s n = cond (fitsOf s n) (cond (s .stopped) (refused Overrun s 0) (more s 0)) (refused Unfit s 0)
 
 -- feeding a run, byte by byte
 unfoldable pub feedOf : Assembler → List ℕ → List ℕ → Now
@@ -103,10 +104,10 @@ pub record Feeds (s : Assembler) (run d : List ℕ) (f : Said) (d′ : List ℕ)
   pub is : stand f d′ ≡ feedOf s run d
   pub bytes : Bytes run
 
--- what asking for a capacity answers: a state, or a refusal's number
+-- what asking for a capacity answers: a state, or a refusal
 pub data Made : Type 0 where
   made : Assembler → Made
-  unmade : ℕ → Made
+  unmade : Refusal → Made
 
 abbrev pub freshOf : ℕ → Made
-freshOf c = cond (leb c most) (made (fresh c)) (unmade 3)
+freshOf c = cond (leb c most) (made (fresh c)) (unmade TooLong)

@@ -1,7 +1,6 @@
--- What the code's own types say, in the terms of `Meaning`: each refusal by document 01's number.
+-- What the code's own types say, in the terms of `Meaning`.
 -- Assumes nothing.
 use mathlib.Core.Option.{Option, none, some}
-use Rattle.xdr.specs.Meaning.Views.{numberOf, placeOf}
 use Rattle.rpcwire.specs.Meaning.Stream.{Said, more, complete, refused, Made, made, unmade}
 use Rattle.rpcwire.specs.Meaning.Choice.{Chosen, turned-away, replied, silent, handed}
 use Rattle.rpc.specs.declared.auth.auth_unix.{«auth_unix»}
@@ -15,11 +14,11 @@ use Rattle.rpcwire.specs.declared.choice.Choice.{Choice}
 use Rattle.rpcwire.specs.declared.choice.Choice.the-variants as Choice
 
 abbrev pub viewMade : AssemblerMade → Made
-viewMade (Asked.Refused r) = unmade (numberOf r)
+viewMade (Asked.Refused r) = unmade r
 viewMade (Asked.Ready s) = made s
 
 abbrev pub viewFed : Fed → Said
-viewFed (Fed.Refused r s u) = refused (numberOf r) s u
+viewFed (Fed.Refused r s u) = refused r s u
 viewFed (Fed.More s u) = more s u
 viewFed (Fed.Complete n s u) = complete n s u
 
@@ -28,7 +27,7 @@ viewCaller Caller.Unnamed = none
 viewCaller (Caller.Unix a) = some a
 
 abbrev pub viewChoice : Choice → Chosen
-viewChoice (Choice.Refused r) = turned-away (numberOf r) (placeOf r)
+viewChoice (Choice.Refused r) = turned-away r
 viewChoice (Choice.Replied n) = replied n
 viewChoice Choice.Silent = silent
 viewChoice (Choice.HandOver p v f c n) = handed p v f (viewCaller c) n

@@ -12,7 +12,7 @@ returns c = let a = c .before .before .args in ap (λ s. more s (a .used)) (c .i
 
 returns-2 : tie.Need-returns-2
 unfolding headerByte headed
-returns-2 c = let a = c .before .before .before .args in ap (λ s. refused 7 s (a .used)) (c .halted .ensures) ∙ sym (simp (le-ltb (a .count) 3 (c .before .before .if1 .left), lt-leb (a .word % 2147483648) (a .capacity - a .placed) (c .before .if2 .taken)))
+returns-2 c = let a = c .before .before .before .args in ap (λ s. refused Overrun s (a .used)) (c .halted .ensures) ∙ sym (simp (le-ltb (a .count) 3 (c .before .before .if1 .left), lt-leb (a .word % 2147483648) (a .capacity - a .placed) (c .before .if2 .taken)))
 
 returns-3 : tie.Need-returns-3
 unfolding headerByte headed
