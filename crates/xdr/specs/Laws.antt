@@ -33,3 +33,6 @@ pub mod Fixed
 pub mod One
 pub mod Kept
 pub mod Owed
+pub mod Plans
+pub mod Tags
+pub mod Writers
