@@ -36,3 +36,5 @@ pub mod Owed
 pub mod Plans
 pub mod Tags
 pub mod Writers
+pub mod Lengths
+pub mod Faults

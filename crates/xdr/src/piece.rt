@@ -1,6 +1,7 @@
 // Pieces: what is held of the bytes inside a message.
+ghost use denote.Ref.{ptr};
 ghost use mathlib.Core.Path.{_≡_};
-ghost use Rattle.xdr.specs.Meaning.Pieces.{partOf, isInside, wordsPartOf, areInside, wordOf};
+ghost use Rattle.xdr.specs.Meaning.Pieces.{Part, partOf, partPlace, isInside, wordsPartOf, wordsPlace, areInside, wordOf};
 ghost use Rattle.xdr.specs.Meaning.Views.{viewWord};
 use crate::number::word_here;
 
@@ -33,7 +34,7 @@ pub fn inside(src: &[u8], x: Piece) -> bool
 
 // The part of a message that a piece is: the empty part at the start where it does not lie inside.
 pub fn part(src: &[u8], x: Piece) -> &[u8]
-    ensures { λ r. ⌜ now r ≡ partOf (now (src .entry)) x ⌝ }
+    ensures { λ r. ⌜ Part (ptr (src .entry)) (partOf (now (src .entry)) x) (partPlace (now (src .entry)) x) (ptr r) (now r) ⌝ }
 {
     let at = x.at;
     let n = x.count;
@@ -64,7 +65,7 @@ pub fn words_inside(src: &[u8], x: Piece) -> bool
 
 // The bytes of a word list's piece.
 pub fn words_part(src: &[u8], x: Piece) -> &[u8]
-    ensures { λ r. ⌜ now r ≡ wordsPartOf (now (src .entry)) x ⌝ }
+    ensures { λ r. ⌜ Part (ptr (src .entry)) (wordsPartOf (now (src .entry)) x) (wordsPlace (now (src .entry)) x) (ptr r) (now r) ⌝ }
 {
     let at = x.at;
     let n = x.count;

@@ -13,7 +13,7 @@ use borrow.Author.Tests.{le-leb, lt-leb, leb-true}
 use Rattle.xdr.specs.Meaning.Bytes.{Bytes, numberAt, padding, zeros}
 use Rattle.xdr.specs.Meaning.Answer.{took, refused, mapAnswer, Taken, most}
 use Rattle.xdr.specs.Meaning.Items.{number, word, opaque}
-use Rattle.xdr.specs.Meaning.Pieces.{bytesIn, isInside, partOf, pieceAt, nothing}
+use Rattle.xdr.specs.Meaning.Pieces.{bytesIn, isInside, partOf, partPlace, Part, pieceAt, nothing}
 use Rattle.xdr.specs.Laws.Lists.{bytes-take, bytes-drop}
 use Rattle.xdr.specs.Laws.Reading.{opaque-read}
 use Rattle.xdr.specs.declared.piece.Piece.{Piece}
@@ -71,13 +71,29 @@ module _ (s : List ℕ) (x : Piece) where
   pub piece-part : take (x .at + x .count - x .at) (drop (x .at) s) ≡ bytesIn s x
   piece-part = let e : x .at + x .count - x .at ≡ x .count = omega arith in ap (λ k. take k (drop (x .at) s)) e
 
-  pub part-yes : x .at + x .count ≤ length s → take (x .at + x .count - x .at) (drop (x .at) s) ≡ partOf s x
+  part-yes : x .at + x .count ≤ length s → take (x .at + x .count - x .at) (drop (x .at) s) ≡ partOf s x
   unfolding partOf
   part-yes h = piece-part ∙ sym (simp (inside-yes h))
 
-  pub part-no : length s < x .at + x .count → [] ≡ partOf s x
+  part-no : length s < x .at + x .count → [] ≡ partOf s x
   unfolding partOf
   part-no h = sym (simp (inside-no h))
+
+  -- what is handed back is that part of the message
+  place-yes : x .at + x .count ≤ length s → x .at ≡ partPlace s x
+  unfolding partPlace
+  place-yes h = sym (simp (inside-yes h))
+
+  place-no : length s < x .at + x .count → 0 ≡ partPlace s x
+  unfolding partPlace
+  place-no h = sym (simp (inside-no h))
+
+  pub handed-yes : (q : ℕ × ℕ) → x .at + x .count ≤ length s
+      → Part q (partOf s x) (partPlace s x) (q .0, x .at + q .1) (take (x .at + x .count - x .at) (drop (x .at) s))
+  handed-yes q h = record { is = part-yes h; begins = ap (λ (k : ℕ). (q .0, k)) (omega (arith, place-yes h)) }
+
+  pub handed-no : (q : ℕ × ℕ) → length s < x .at + x .count → Part q (partOf s x) (partPlace s x) q []
+  handed-no q h = record { is = part-no h; begins = ap (λ (k : ℕ). (q .0, k)) (omega (arith, place-no h)) }
 
 -- a piece inside the front of a source is the same piece of the whole
 pub bytes-grow : (s t : List ℕ) (x : Piece) → isInside s x ≡ true → bytesIn (s ++ t) x ≡ bytesIn s x

@@ -83,7 +83,7 @@ module _ {M S : Type 0} (F : Format M S) (s : List ℕ) (p : ℕ) (given : (i : 
       record { is = g ∙ sym (opened-in s p (F .held .read s p) (o .1) (o .2)); bytes = known-bytes s given }
 
 module _ {M S : Type 0} (F : Format M S) where
-  reading : Took F → Reading (F .codec .kind)
+  pub reading : Took F → Reading (F .codec .kind)
   reading t =
       let o = opened-took (t .source) (t .place) (F .held .read (t .source) (t .place)) (t .answers .is) in
       record {
@@ -96,6 +96,11 @@ module _ {M S : Type 0} (F : Format M S) where
         inside = o .2;
         reads = taken-means (F .held) (t .source) (t .place) (o .0);
       }
+
+  -- it is of the same message, by the same bytes
+  pub reading-is : (t : Took F) → (reading t .message ≡ message F t) × (reading t .next ≡ t .next) × (reading t .place ≡ t .place)
+  unfolding reading
+  reading-is t = (refl, refl, refl)
 
   took-begins : (s : List ℕ) (p : ℕ) {a : Answer S} → Answers F s p a → (x : S) × (n : ℕ) × (b : Bool) × (a ≡ took x n b)
       → (length s ≤ most) × (p ≤ length s) × Begins (F .codec .kind) s p

@@ -16,7 +16,7 @@ use Rattle.xdr.specs.Meaning.Answer.{took, refused, mapAnswer, Taken, mo
 use Rattle.xdr.specs.Meaning.Shapes.{Tuple}
 use Rattle.xdr.specs.Meaning.Codecs.{times}
 use Rattle.xdr.specs.Meaning.Items.{number, word, words}
-use Rattle.xdr.specs.Meaning.Pieces.{wordsAt, wordsIn, areInside, wordsPartOf, wordOf, wordsAnswer, wordPieceAt}
+use Rattle.xdr.specs.Meaning.Pieces.{wordsAt, wordsIn, areInside, wordsPartOf, wordsPlace, Part, wordOf, wordsAnswer, wordPieceAt}
 use Rattle.xdr.specs.Laws.Lists.{bytes-take, bytes-drop}
 use Rattle.xdr.specs.Laws.Digits.{value-lt, value-at, digits-value}
 use Rattle.xdr.specs.Meaning.Shapes.{toList, fromList}
@@ -111,13 +111,29 @@ module _ (s : List ℕ) (x : Piece) where
   pub words-part : take (x .at + x .count * 4 - x .at) (drop (x .at) s) ≡ take (x .count * 4) (drop (x .at) s)
   words-part = let e : x .at + x .count * 4 - x .at ≡ x .count * 4 = omega arith in ap (λ k. take k (drop (x .at) s)) e
 
-  pub words-part-yes : x .at + x .count * 4 ≤ length s → take (x .at + x .count * 4 - x .at) (drop (x .at) s) ≡ wordsPartOf s x
+  words-part-yes : x .at + x .count * 4 ≤ length s → take (x .at + x .count * 4 - x .at) (drop (x .at) s) ≡ wordsPartOf s x
   unfolding wordsPartOf
   words-part-yes h = words-part ∙ sym (simp (words-yes h))
 
-  pub words-part-no : length s < x .at + x .count * 4 → [] ≡ wordsPartOf s x
+  words-part-no : length s < x .at + x .count * 4 → [] ≡ wordsPartOf s x
   unfolding wordsPartOf
   words-part-no h = sym (simp (words-no h))
+
+  -- what is handed back is that part of the message
+  words-place-yes : x .at + x .count * 4 ≤ length s → x .at ≡ wordsPlace s x
+  unfolding wordsPlace
+  words-place-yes h = sym (simp (words-yes h))
+
+  words-place-no : length s < x .at + x .count * 4 → 0 ≡ wordsPlace s x
+  unfolding wordsPlace
+  words-place-no h = sym (simp (words-no h))
+
+  pub words-handed-yes : (q : ℕ × ℕ) → x .at + x .count * 4 ≤ length s
+      → Part q (wordsPartOf s x) (wordsPlace s x) (q .0, x .at + q .1) (take (x .at + x .count * 4 - x .at) (drop (x .at) s))
+  words-handed-yes q h = record { is = words-part-yes h; begins = ap (λ (k : ℕ). (q .0, k)) (omega (arith, words-place-yes h)) }
+
+  pub words-handed-no : (q : ℕ × ℕ) → length s < x .at + x .count * 4 → Part q (wordsPartOf s x) (wordsPlace s x) q []
+  words-handed-no q h = record { is = words-part-no h; begins = ap (λ (k : ℕ). (q .0, k)) (omega (arith, words-place-no h)) }
 
   pub word-none : (i : ℕ) → length s < x .at + x .count * 4 → none ≡ wordOf s x i
   unfolding wordOf

@@ -1,13 +1,16 @@
--- The forms of the items, drawn as in RFC 4506 with document 01's tolerances. Laws.Forms shows that the kinds of `Items` have these forms.
+-- The forms of the items, drawn as in RFC 4506 with document 01's tolerances. Laws.Forms and Laws.Faults show that the kinds of `Items` have these forms, and are cut short so.
 -- Assumes nothing.
 use mathlib.Core.Path.{_≡_}
+use mathlib.Core.Logic.{_⊎_}
 use mathlib.Core.Bool.{Bool, not, cond}
 use mathlib.Core.List.{List, [], _∷_, _++_}
-use Prim.Native.Nat.{ℕ, _+_, _^_, _<_}
+use Prim.Native.Nat.{ℕ, _+_, _-_, _^_, _≤_, _<_}
 use lib.Dec.{eqb, leb}
 use lib.ListN.{length}
-use Rattle.xdr.specs.Meaning.Bytes.{Bytes, digits, padding, zeros}
+use Rattle.xdr.specs.Meaning.Bytes.{Bytes, digits, numberAt, padding, zeros}
 use Rattle.xdr.specs.Meaning.Answer.{Loose, odd-flag, dirty-pad, here}
+use Rattle.xdr.specs.declared.refusal.Refusal.{Refusal}
+use Rattle.xdr.specs.declared.refusal.Refusal.the-variants.{Ended}
 
 -- a number of k bytes has one form, and nothing in it is loose
 pub record NumberForm (k n : ℕ) (w : List Loose) (e : List ℕ) : Type 0 where
@@ -47,3 +50,15 @@ pub record WordsForm (l : List ℕ) (w : List Loose) (e : List ℕ) : Type 0 whe
   pub range : length l < 256 ^ 4
   pub all : AllWords l
   pub bytes : e ≡ digits 4 (length l) ++ allDigits l
+
+-- Where the items are cut short: the whole item is not there, and the refusal has the place of its first byte.
+
+-- k bytes that stand together: a number, or fixed bytes
+pub record Cut (k : ℕ) (s : List ℕ) (p : ℕ) (r : Refusal) : Type 0 where
+  pub is : r ≡ Ended p
+  pub short : length s - p < k
+
+-- a length word, and as many bytes as `body` says of it
+pub record CountedCut (body : ℕ → ℕ) (s : List ℕ) (p : ℕ) (r : Refusal) : Type 0 where
+  pub is : r ≡ Ended p
+  pub short : (length s - p < 4) ⊎ ((4 ≤ length s - p) × (length s - p < 4 + body (numberAt 4 s p)))

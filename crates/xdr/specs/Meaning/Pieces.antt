@@ -1,5 +1,6 @@
 -- Pieces: the bytes that a place and a count are in a source, and the words.
 -- Assumes nothing.
+use mathlib.Core.Path.{_≡_}
 use mathlib.Core.Bool.{Bool, true, cond}
 use mathlib.Core.Option.{Option, none, some}
 use mathlib.Core.List.{List, [], _∷_}
@@ -23,6 +24,17 @@ unfoldable pub partOf : List ℕ → Piece → List ℕ
 unfolding isInside
 partOf s x = cond (isInside s x) (bytesIn s x) []
 
+-- where that part begins in the message: at the piece's place, or at the start
+unfoldable pub partPlace : List ℕ → Piece → ℕ
+unfolding isInside
+partPlace s x = cond (isInside s x) (x .at) 0
+
+-- what is handed back of a message: those bytes, and they are the message's own, so many behind its first. `from` is where the message
+-- stands in memory, and `to` where the part does
+pub record Part (from : ℕ × ℕ) (bytes : List ℕ) (place : ℕ) (to : ℕ × ℕ) (r : List ℕ) : Type 0 where
+  pub is : r ≡ bytes
+  pub begins : to ≡ (from .0, from .1 + place)
+
 -- the same of a word list, whose count is in words
 abbrev pub wordsAt : ℕ → List ℕ → ℕ → List ℕ
 wordsAt zero s q = []
@@ -37,6 +49,10 @@ areInside s x = leb (x .at + x .count * 4) (length s)
 unfoldable pub wordsPartOf : List ℕ → Piece → List ℕ
 unfolding areInside
 wordsPartOf s x = cond (areInside s x) (take (x .count * 4) (drop (x .at) s)) []
+
+unfoldable pub wordsPlace : List ℕ → Piece → ℕ
+unfolding areInside
+wordsPlace s x = cond (areInside s x) (x .at) 0
 
 -- the i-th word of a word list that lies inside, where it has one
 unfoldable pub wordOf : List ℕ → Piece → ℕ → Option ℕ

@@ -1,17 +1,17 @@
 use borrow.Author.Needs.{needs}
 use native.Mathlib.Omega.{arith}
-use Rattle.xdr.specs.Laws.Pieces.{part-yes, part-no}
+use Rattle.xdr.specs.Laws.Pieces.{handed-yes, handed-no}
 use Rattle.xdr.proofs.piece.part.Statement.{statement}
 use Rattle.xdr.proofs.piece.part.Tie as tie
 
 returns : tie.Need-returns
-returns c = part-no _ _ (omega arith)
+returns c = handed-no _ _ _ (omega arith)
 
 returns-2 : tie.Need-returns-2
-returns-2 c = part-no _ _ (omega arith)
+returns-2 c = handed-no _ _ _ (omega arith)
 
 returns-3 : tie.Need-returns-3
-returns-3 c = part-yes _ _ (omega arith)
+returns-3 c = handed-yes _ _ _ (omega arith)
 
 pub part-spec : {M : Type 1} → statement M
 part-spec =
