@@ -1,6 +1,6 @@
 -- Bytes as they stand are lawful.
 -- Assumes nothing.
-use mathlib.Core.Path.{_≡_, refl, sym, ap, _∙_}
+use mathlib.Core.Path.{_≡_, refl, sym, ap, subst, _∙_}
 use mathlib.Core.Bool.{Bool, true, false, cond}
 use mathlib.Core.List.{List, []}
 use Prim.Native.Nat.{ℕ, _+_, _-_}
@@ -11,6 +11,7 @@ use borrow.Author.Tests.{le-leb, lt-leb, leb-true, leb-false}
 use lib.ListN.{length, take, drop, length-drop, take-append-drop}
 use lib.Seq.{take-at, length-take-le}
 use Rattle.xdr.specs.Meaning.Bytes.{Bytes, Stands}
+use Rattle.xdr.specs.Meaning.Refusal.{OfReading}
 use Rattle.xdr.specs.Meaning.Answer.{took, refused, Loose, clean}
 use Rattle.xdr.specs.Meaning.Kind.{Sound, Lawful}
 use Rattle.xdr.specs.Meaning.Combinators.{blockKind, voidKind}
@@ -50,6 +51,7 @@ module _ (n : ℕ) where
         sound = λ s p h. block-sound s p h (leb n (length s - p)) refl;
         complete = block-complete;
         refuses = block-refuses;
+        numbered = λ s p r f. subst OfReading (sym (f .0)) tt;
         alike = λ l l′ w w′ e f f′. f .0 ∙ sym (f′ .0);
         good = λ l w e f. f .2;
         written = λ l g. (refl, refl, g);
@@ -67,6 +69,7 @@ void-lawful =
           record { loose = []; used = []; left = drop p s; stands = refl; next = sym (add-zero p); form = (refl, refl); plain = refl };
       complete = void-complete;
       refuses = λ s p r f. absurd f;
+      numbered = λ s p r f. absurd f;
       alike = λ u u′ w w′ e f f′. f .0 ∙ sym (f′ .0);
       good = λ u w e f. tt;
       written = λ u g. (refl, refl);

@@ -9,6 +9,7 @@ use native.Mathlib.Nat.{add-assoc}
 use native.Mathlib.Omega.{arith}
 use lib.ListN.{length, length-append}
 use Rattle.xdr.specs.Meaning.Bytes.{Bytes, Stands}
+use Rattle.xdr.specs.Meaning.Refusal.{OfReading}
 use Rattle.xdr.specs.Meaning.Answer.{Answer, took, refused, Loose, shifted, clean}
 use Rattle.xdr.specs.Meaning.Kind.{Kind, Found, Sound, Lawful}
 use Rattle.xdr.specs.Meaning.Combinators.{first, second, Chained, Behind, chainKind}
@@ -68,6 +69,10 @@ module _ {M : Type 0} {N : M → Type 0} (A : Kind M) (B : (a : M) → Kind (N a
         LB (f .message) .refuses s (p + length (f .used)) r (f .fault),
       )
 
+  chain-numbered : (s : List ℕ) (p : ℕ) (r : Refusal) → A .Fault s p r ⊎ Behind A B s p r → OfReading r
+  chain-numbered s p r (inl f) = LA .numbered s p r f
+  chain-numbered s p r (inr f) = LB (f .message) .numbered s (p + length (f .used)) r (f .fault)
+
   chain-alike : (m m′ : (a : M) × N a) (w w′ : List Loose) (e : List ℕ) → Chained A B m w e → Chained A B m′ w′ e → w ≡ w′
   chain-alike m m′ w w′ e f f′ =
       let h : f .e₁ ++ f .e₂ ≡ f′ .e₁ ++ f′ .e₂ = sym (f .bytes) ∙ f′ .bytes in
@@ -86,6 +91,7 @@ module _ {M : Type 0} {N : M → Type 0} (A : Kind M) (B : (a : M) → Kind (N a
         sound = λ s p h. sound₁ s p h (A .read s p) (LA .sound s p h);
         complete = chain-complete;
         refuses = chain-refuses;
+        numbered = chain-numbered;
         alike = chain-alike;
         good = λ m w e f. (LA .good (m .0) (f .w₁) (f .e₁) (f .form₁), LB (m .0) .good (m .1) (f .w₂) (f .e₂) (f .form₂));
         written = λ m g.

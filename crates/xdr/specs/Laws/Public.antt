@@ -1,6 +1,6 @@
 -- Demands 2 and 3 hold of the answers of every public reader, and what it answers by the tests that come first.
 -- Assumes nothing.
-use mathlib.Core.Logic.{_↔_}
+use mathlib.Core.Logic.{_↔_, _⊎_, inl, inr}
 use mathlib.Core.Path.{_≡_, refl, sym, ap, _∙_}
 use mathlib.Core.Bool.{Bool, true, false}
 use mathlib.Core.List.{List}
@@ -23,6 +23,7 @@ use Rattle.xdr.specs.declared.refusal.Refusal.{Refusal}
 use Rattle.xdr.specs.declared.order.Opening.{Opening}
 use Rattle.xdr.specs.declared.order.Opening.the-variants as opening
 use Rattle.xdr.specs.declared.refusal.Refusal.the-variants.{TooLong, PastEnd}
+use Rattle.xdr.specs.Meaning.Refusal.{OfReading}
 
 module _ {A : Type 0} (s : List ℕ) (p : ℕ) where
   pub opened-long : (x : Answer A) → most < length s → opened s p x ≡ refused TooLong
@@ -142,6 +143,20 @@ module _ {M S : Type 0} (F : Format M S) where
         (λ e. i ∙ held-refused s p (f .1 e) (F .held .read s p) refl),
       )
 
+  numbered : (s : List ℕ) (p : ℕ) {r : Refusal} → Answers F s p (refused r) → (r ≡ TooLong) ⊎ ((r ≡ PastEnd) ⊎ OfReading r)
+  unfolding opened
+  numbered s p {r} c = by (leb (length s) most) refl (leb p (length s)) refl
+    where
+      by : (t : Bool) → leb (length s) most ≡ t → (u : Bool) → leb p (length s) ≡ u → (r ≡ TooLong) ⊎ ((r ≡ PastEnd) ⊎ OfReading r)
+      by false h u k =
+          let f : _≡_ {A = Answer S} (refused r) (refused TooLong) = simp h at (c .is) in
+          inl (cc)
+      by true h false k =
+          let f : _≡_ {A = Answer S} (refused r) (refused PastEnd) = simp (h, k) at (c .is) in
+          inr (inl (cc))
+      by true h true k =
+          inr (inr (F .codec .laws .numbered s p r (fault-of s p r c (leb-true (length s) most h) (leb-true p (length s) k) .0 refl)))
+
   pub kept : Kept F
   unfolding reading
   kept =
@@ -154,6 +169,7 @@ module _ {M S : Type 0} (F : Format M S) where
         within = λ t. keeps (F .codec) .within (reading t);
         same-iff = λ t t′. keeps (F .codec) .same-iff (reading t) (reading t′);
         fault-iff = λ s p r c h k. fault-of s p r c h k;
+        numbered = λ s p c. numbered s p c;
         again = λ t. keeps (F .codec) .again (reading t);
         rewrites = λ t. keeps (F .codec) .rewrites (reading t);
         plain-iff = λ t. keeps (F .codec) .plain-iff (reading t);

@@ -7,6 +7,7 @@ use mathlib.Core.List.{List, [], _++_}
 use Prim.Native.Nat.{ℕ, _+_}
 use lib.ListN.{length}
 use Rattle.xdr.specs.Meaning.Bytes.{Stands}
+use Rattle.xdr.specs.Meaning.Refusal.{OfReading}
 use Rattle.xdr.specs.Meaning.Answer.{Answer, took, refused, Loose, here, clean}
 use Rattle.xdr.specs.Meaning.Kind.{Kind, Found, Sound, Lawful}
 use Rattle.xdr.specs.Meaning.Combinators.{Seen, means, undeclared, Faithful, View, meant, look, Viewed, Unseen, viewKind}
@@ -51,6 +52,10 @@ module _ {M N : Type 0} (K : Kind M) (W : View M (K .Good) N) (L : Lawful K) whe
   view-refuses s p r (inl f) = rw (L .refuses s p r f)
   view-refuses s p r (inr f) = simp (L .complete (f .of) (f .loose) (f .used) (f .left) s p (f .form) (f .stands), f .sees, f .is)
 
+  view-numbered : (s : List ℕ) (p : ℕ) (r : Refusal) → K .Fault s p r ⊎ Unseen K W s p r → OfReading r
+  view-numbered s p r (inl f) = L .numbered s p r f
+  view-numbered s p r (inr f) = subst OfReading (sym (f .is)) tt
+
   view-alike : (m m′ : N) (w w′ : List Loose) (e : List ℕ) → Viewed K W m w e → Viewed K W m′ w′ e → w ≡ w′
   view-alike m m′ w w′ e f f′ =
       let z : f .of ≡ f′ .of = same-message K (L .complete) (f .form) (f′ .form) in
@@ -66,6 +71,7 @@ module _ {M N : Type 0} (K : Kind M) (W : View M (K .Good) N) (L : Lawful K) whe
         sound = λ s p h. sound₁ s p (K .read s p) (L .sound s p h);
         complete = view-complete;
         refuses = view-refuses;
+        numbered = view-numbered;
         alike = view-alike;
         good = λ m w e f. view-faithful m w e f .0;
         written = λ m g.

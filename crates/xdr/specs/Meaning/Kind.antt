@@ -6,6 +6,7 @@ use mathlib.Core.List.{List, []}
 use Prim.Native.Nat.{ℕ, _+_}
 use lib.ListN.{length}
 use Rattle.xdr.specs.Meaning.Bytes.{Bytes, Stands}
+use Rattle.xdr.specs.Meaning.Refusal.{OfReading}
 use Rattle.xdr.specs.Meaning.Answer.{Answer, took, refused, Loose, clean}
 use Rattle.xdr.specs.declared.refusal.Refusal.{Refusal}
 
@@ -43,6 +44,8 @@ module _ {M : Type 0} (K : Kind M) where
         → K .read s p ≡ took m (p + length e) (clean w)
     -- a fault that is there is found
     pub refuses : (s : List ℕ) (p : ℕ) (r : Refusal) → K .Fault s p r → K .read s p ≡ refused r
+    -- and it is one that a reader can give
+    pub numbered : (s : List ℕ) (p : ℕ) (r : Refusal) → K .Fault s p r → OfReading r
     -- two forms of the same bytes have the same loose in them
     pub alike : (m m′ : M) (w w′ : List Loose) (e : List ℕ) → K .Form m w e → K .Form m′ w′ e → w ≡ w′
     -- what has a form is in range

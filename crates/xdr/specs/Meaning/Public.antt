@@ -1,7 +1,7 @@
 -- The contracts of public readers and writers.
 -- Assumes nothing.
 use mathlib.Core.Path.{_≡_}
-use mathlib.Core.Logic.{_↔_}
+use mathlib.Core.Logic.{_↔_, _⊎_}
 use mathlib.Core.Bool.{Bool, true, cond}
 use mathlib.Core.List.{List, [], _++_}
 use Prim.Native.Nat.{ℕ, _+_, _≤_}
@@ -12,7 +12,9 @@ use Rattle.xdr.specs.Meaning.Answer.{Answer, took, refused, mapAnswer, L
 use Rattle.xdr.specs.Meaning.Order.{placing}
 use Rattle.xdr.specs.Meaning.Promise.{Begins}
 use Rattle.xdr.specs.Meaning.Format.{Format}
+use Rattle.xdr.specs.Meaning.Refusal.{OfReading}
 use Rattle.xdr.specs.declared.refusal.Refusal.{Refusal}
+use Rattle.xdr.specs.declared.refusal.Refusal.the-variants.{TooLong, PastEnd}
 
 module _ {M S : Type 0} (F : Format M S) where
   -- a public reader's answer at a place of a source: the format's reading, once refusals 3 and 9 are tested; and the source is bytes
@@ -91,6 +93,8 @@ module _ {M S : Type 0} (F : Format M S) where
     -- taken exactly if the source is short enough, the place is in it, and a message of this kind begins there
     pub accepted-iff : (s : List ℕ) (p : ℕ) {a : Answer S} → Answers F s p a
         → ((x : S) × (n : ℕ) × (b : Bool) × (a ≡ took x n b)) ↔ ((length s ≤ most) × (p ≤ length s) × Begins (F .codec .kind) s p)
+    -- by 3, 9, or what reading a kind can give
+    pub numbered : (s : List ℕ) (p : ℕ) {r : Refusal} → Answers F s p (refused r) → (r ≡ TooLong) ⊎ ((r ≡ PastEnd) ⊎ OfReading r)
     -- its pieces lie inside, it is in range, and so does what was used
     pub inside : (t : Took) → F .held .inside (t .source) (t .value) ≡ true
     pub in-range : (t : Took) → F .codec .kind .Good (message t)

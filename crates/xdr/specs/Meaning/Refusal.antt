@@ -38,3 +38,15 @@ movedTo p Unfit = Unfit
 movedTo p Overrun = Overrun
 movedTo p NotCall = NotCall
 movedTo p PastEnd = PastEnd
+
+-- the refusals that reading a kind can give; 3 and 9 come before it is read, and the others are not a reader's
+abbrev pub OfReading : Refusal → Type 0
+OfReading (Ended p) = Unit {0}
+OfReading (Undeclared p) = Unit {0}
+OfReading TooLong = ⊥
+OfReading Outside = ⊥
+OfReading NoRoom = ⊥
+OfReading Unfit = ⊥
+OfReading Overrun = ⊥
+OfReading NotCall = ⊥
+OfReading PastEnd = ⊥
