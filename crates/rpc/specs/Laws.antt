@@ -9,3 +9,4 @@ pub mod Tags
 pub mod Fields
 pub mod Puts
 pub mod ClosedWrites
+pub mod UnixKept

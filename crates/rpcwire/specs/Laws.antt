@@ -6,3 +6,4 @@ pub mod Turns
 pub mod Session
 pub mod Fragment
 pub mod Choice
+pub mod One

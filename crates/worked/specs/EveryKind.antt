@@ -10,7 +10,7 @@ use lib.Dec.{leb, ltb, eqb}
 use lib.ListN.{length}
 use borrow.Author.Tests.{leb-true, ltb-true, eq-eqb}
 use Rattle.xdr.specs.Meaning.Bytes.{Bytes}
-use Rattle.xdr.specs.Meaning.Answer.{Answer, took, refused, Taken, most, opened}
+use Rattle.xdr.specs.Meaning.Answer.{Answer, took, refused, Taken, most, opened, Written}
 use Rattle.xdr.specs.Meaning.Items.{number, word, word-pair, hyper-pair, hyper, flag, int, long, eight, opaque, words}
 use Rattle.xdr.specs.Meaning.Format.{Format, Branch}
 use Rattle.xdr.specs.Meaning.Formats.{eightHeld, pieceHeld, wordsHeld}
@@ -26,7 +26,7 @@ use Rattle.nfsattr.specs.Meaning.Attr.{ftype, specdata, nfstime, ids, sizes, ti
 use Rattle.nfs.specs.Meaning.Set.{time-how, set-mode, set-uid, set-gid, set-size, set-time, set-atime, set-mtime, sattr}
 use Rattle.nfs.specs.Meaning.Dir.{nfs-fh, post-op-fh, diropargs, symlinkdata}
 use Rattle.door.specs.Meaning.Kinds.{kinds}
-use Rattle.worked.specs.Idle.{Sample, Reads, Refuses, refuses-all, one-for-all}
+use Rattle.worked.specs.Idle.{Sample, Reads, Refuses, refuses-all, one-for-all, Puts, idles}
 
 -- a word below 256, n times
 abbrev again : ℕ → ℕ → List ℕ
@@ -113,15 +113,22 @@ unfolding opened number word word-pair hyper-pair hyper flag int long eight opaq
 every-kind =
     (by-zero _ refl refl refl, (by-two _ refl refl refl, (by-two _ refl refl refl, (by-two _ refl refl refl, (by-two _ refl refl refl, (by-two _ refl refl refl, (by-two _ refl refl refl, (by-two _ refl refl refl, (by-two _ refl refl refl, (by-zero _ refl refl refl, (by-zero _ refl refl refl, (by-two _ refl refl refl, (by-zero _ refl refl refl, (by-two _ refl refl refl, (by-two _ refl refl refl, (by-two _ refl refl refl, (by-two _ refl refl refl, (by-two _ refl refl refl, (by-two _ refl refl refl, (by-two _ refl refl refl, (by-two _ refl refl refl, (by-two _ refl refl refl, (by-two _ refl refl refl, (by-two _ refl refl refl, (by-two _ refl refl refl, (by-two _ refl refl refl, (by-two _ refl refl refl, (by-two _ refl refl refl, (by-two _ refl refl refl, (by-two _ refl refl refl, (by-two _ refl refl refl, (by-two _ refl refl refl, (by-two _ refl refl refl, (by-two _ refl refl refl, (by-two _ refl refl refl, (by-two _ refl refl refl, (by-two _ refl refl refl, (by-two _ refl refl refl, (by-two _ refl refl refl, (by-two _ refl refl refl, (by-two _ refl refl refl, (by-two _ refl refl refl, (by-two _ refl refl refl, (by-two _ refl refl refl, (by-two _ refl refl refl, (by-two _ refl refl refl, (by-two _ refl refl refl, tt)))))))))))))))))))))))))))))))))))))))))))))))
 
--- So no function that keeps the contract of a reader of one of them refuses all, or gives one message for all.
-abbrev pub Useful : {M S : Type 0} → Format M S → Type 0
-Useful {M} {S} F =
-    (f : List ℕ → ℕ → Answer S) → Reads F f
-    → (((s : List ℕ) (p : ℕ) → Bytes s → Refuses F (f s p)) → ⊥)
-    × ((c : M) → ((s : List ℕ) (p : ℕ) → Bytes s → Taken (λ x. F .held .mean s x ≡ c) (f s p)) → ⊥)
+-- So no function that keeps the contract of a reader of one of them refuses all, or gives one message for all; and none that keeps the
+-- contract of a writer writes nothing.
+pub record Useful {M S : Type 0} (F : Format M S) : Type 0 where
+  pub some : (f : List ℕ → ℕ → Answer S) → Reads F f → ((s : List ℕ) (p : ℕ) → Bytes s → Refuses F (f s p)) → ⊥
+  pub many : (f : List ℕ → ℕ → Answer S) → Reads F f → (c : M)
+      → ((s : List ℕ) (p : ℕ) → Bytes s → Taken (λ x. F .held .mean s x ≡ c) (f s p)) → ⊥
+  pub writes : (says : List ℕ → S → ℕ → List ℕ → Written) (leaves : List ℕ → S → ℕ → List ℕ → List ℕ) → Puts F says leaves
+      → ((s : List ℕ) (x : S) (at : ℕ) (o : List ℕ) → leaves s x at o ≡ o) → ⊥
 
 useful : {M S : Type 0} (F : Format M S) → Different F → Useful F
-useful F d f k = (refuses-all F f k (d .0), one-for-all F f k (d .0) (d .1) (d .2))
+useful F d =
+    record {
+      some = λ f k. refuses-all F f k (d .0);
+      many = λ f k. one-for-all F f k (d .0) (d .1) (d .2);
+      writes = λ says leaves k idle. idles F says leaves k idle (d .0) (d .1) (d .2);
+    }
 
 abbrev pub EachUseful : List Branch → Type 0
 EachUseful [] = Unit {0}
@@ -131,5 +138,5 @@ each : (l : List Branch) → Each l → EachUseful l
 each [] h = tt
 each (b ∷ l) h = (useful (b .format) (h .0), each l (h .1))
 
-pub every-reader : EachUseful kinds
-every-reader = each kinds every-kind
+pub every-one : EachUseful kinds
+every-one = each kinds every-kind

@@ -1,14 +1,14 @@
 -- The six idle versions that document 01 names. Each is shut out by the contract that it would have to keep: of every kind, every place
 -- and every buffer, and not of chosen bytes alone.
 -- Assumes nothing.
-use mathlib.Core.Path.{_≡_, refl, sym, ap, subst, _∙_}
+use mathlib.Core.Path.{_≡_, refl, sym, ap, subst, subst₂, _∙_}
 use mathlib.Core.Bool.{Bool, true, false, cond}
 use mathlib.Core.List.{List, [], _∷_, append-nil}
 use Prim.Native.Nat.{ℕ, zero, suc, _+_, _-_, _*_, _%_, _≤_}
 use native.Mathlib.Nat.{zero-add}
 use native.Mathlib.Omega.{arith}
 use lib.Dec.{leb, ltb}
-use lib.ListN.{length, set}
+use lib.ListN.{length, set, replicate, length-replicate}
 use borrow.Author.Tests.{le-leb, ltb-false}
 use Rattle.xdr.specs.Meaning.Bytes.{Bytes, part}
 use Rattle.xdr.specs.Meaning.Answer.{Answer, took, refused, Taken, most, opened, Written, done, unwritten}
@@ -17,7 +17,7 @@ use Rattle.xdr.specs.Meaning.Items.{number, word, flag}
 use Rattle.xdr.specs.Meaning.Format.{Format, exactly}
 use Rattle.xdr.specs.Meaning.Order.{placing}
 use Rattle.xdr.specs.Meaning.Public.{Answers, Took, Writes, output, writing, leaving}
-use Rattle.xdr.specs.Laws.Held.{taken-means, means-taken}
+use Rattle.xdr.specs.Laws.Held.{taken-means, means-taken, taken-inside}
 use Rattle.xdr.specs.Laws.Promise.{keeps}
 use Rattle.xdr.specs.Laws.Public.{kept, opened-in}
 use Rattle.xdr.specs.Laws.Write.{wrote-back}
@@ -79,13 +79,53 @@ module _ {M S : Type 0} (F : Format M S) where
   writes-nothing s s′ x x′ at o c d = cc (wrote-back F s x at o c .reads, wrote-back F s′ x′ at o d .reads)
 
   -- and it cannot refuse what there is room for.
-  pub refuses-room : (s : List ℕ) (x : S) (at : ℕ) (o o′ : List ℕ) {r : ℕ} → at ≤ length o → length s ≤ most → F .held .inside s x ≡ true
+  pub refuses-room : (s : List ℕ) (x : S) (at : ℕ) (o o′ : List ℕ) {r : Refusal} → at ≤ length o → length s ≤ most → F .held .inside s x ≡ true
       → length (output F s x) ≤ most → at + length (output F s x) ≤ length o → Writes F s x at o (unwritten r) o′ → ⊥
   unfolding writing placing
   refuses-room s x at o o′ {r} h g i l k c =
       let e : _≡_ {A = Written} (unwritten r) (done (at + length (output F s x))) =
       c .says ∙ simp (le-leb at (length o) h, le-leb (length s) most g, i, le-leb (length (output F s x)) most l, le-leb (at + length (output F s x)) (length o) k) in
       let z : _≡_ {A = ℕ} 0 1 = cc e in omega arith
+
+  -- a function that keeps the contract of a public writer, of values in range: what it says, and what it leaves
+  abbrev pub Puts : (List ℕ → S → ℕ → List ℕ → Written) → (List ℕ → S → ℕ → List ℕ → List ℕ) → Type 0
+  Puts says leaves =
+      (s : List ℕ) (x : S) (at : ℕ) (o : List ℕ) → Bytes s → F .codec .kind .Good (F .held .mean s x) → Writes F s x at o (says s x at o) (leaves s x at o)
+
+  -- so no such function leaves every buffer as it was, where there are two messages
+  module _ (says : List ℕ → S → ℕ → List ℕ → Written) (leaves : List ℕ → S → ℕ → List ℕ → List ℕ) (k : Puts says leaves)
+      (idle : (s : List ℕ) (x : S) (at : ℕ) (o : List ℕ) → leaves s x at o ≡ o) where
+    -- a message, as the code holds it of its own bytes
+    held-of : (m : Sample) → (x : S) × (F .held .inside (bytesOf m) x ≡ true) × (F .held .mean (bytesOf m) x ≡ m .message)
+    held-of m =
+        let e = bytesOf m in
+        let r : F .codec .kind .read e 0 ≡ took (m .message) (0 + length e) true = keeps (F .codec) .back (m .message) [] e 0 (m .good) (sym (append-nil e)) in
+        let h = means-taken (F .held) e 0 r in
+        (h .0, taken-inside (F .held) e 0 (h .1), h .2)
+
+    says-done : (m : Sample) (o : List ℕ) → length (bytesOf m) ≤ length o → (w : Written) → says (bytesOf m) (held-of m .0) 0 o ≡ w
+        → (n : ℕ) × Writes F (bytesOf m) (held-of m .0) 0 o (done n) o
+    says-done m o h w e =
+        let x = held-of m in
+        let c = k (bytesOf m) (x .0) 0 o (m .bytes) (subst (F .codec .kind .Good) (sym (x .2)) (m .good)) in
+        let d : Writes F (bytesOf m) (x .0) 0 o w o = subst₂ (Writes F (bytesOf m) (x .0) 0 o) e (idle (bytesOf m) (x .0) 0 o) c in
+        by w d
+      where
+        l : length (output F (bytesOf m) (held-of m .0)) ≡ length (bytesOf m)
+        l = ap (λ z. length (F .codec .kind .write z)) (held-of m .2)
+
+        by : (w : Written) → Writes F (bytesOf m) (held-of m .0) 0 o w o → (n : ℕ) × Writes F (bytesOf m) (held-of m .0) 0 o (done n) o
+        by (done n) d = (n, d)
+        by (unwritten r) d =
+            absurd (refuses-room (bytesOf m) (held-of m .0) 0 o o (omega arith) (m .short) (held-of m .1) (omega (arith, l, m .short)) (omega (arith, l)) d)
+
+    pub idles : (m m′ : Sample) → (m .message ≡ m′ .message → ⊥) → ⊥
+    idles m m′ n =
+        let o : List ℕ = replicate (length (bytesOf m) + length (bytesOf m′)) 0 in
+        let z : length o ≡ length (bytesOf m) + length (bytesOf m′) = length-replicate (length (bytesOf m) + length (bytesOf m′)) 0 in
+        let c = says-done m o (omega arith) (says (bytesOf m) (held-of m .0) 0 o) refl in
+        let d = says-done m′ o (omega arith) (says (bytesOf m′) (held-of m′ .0) 0 o) refl in
+        n (sym (held-of m .2) ∙ writes-nothing (bytesOf m) (bytesOf m′) (held-of m .0) (held-of m′ .0) 0 o (c .1) (d .1) ∙ held-of m′ .2)
 
   -- 4. A rewriter that copies its input: of a reading that is not plain, what is written is never the bytes that were read.
   module _ (s : List ℕ) (at start : ℕ) (o o′ : List ℕ) (hb : Bytes s) {n e : ℕ} (same : part o′ start e ≡ part s at n) where

@@ -1,6 +1,5 @@
 pub mod EveryKind
 pub mod Idle
-pub mod Numbers
 pub mod Row
 pub mod Table
 pub mod Worked

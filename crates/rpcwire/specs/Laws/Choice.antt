@@ -32,8 +32,11 @@ use Rattle.rpc.specs.declared.message.rpc_body.the-variants.{CALL, REPLY}
 use Rattle.rpc.specs.declared.reply.reply_body.{«reply_body»}
 use Rattle.rpc.specs.declared.message.rpc_msg.{«rpc_msg»}
 use Rattle.rpcwire.specs.Meaning.Choice.{Decision, refuse, reply, silence, hand-over, served, byProgram, byVersion, byUnix, byFlavor, byBody, byMessage, decided, Chosen, turned-away, replied, silent, handed, Outcome, outcome, replying, carriedOut, Chooses, Leaves, ChoicePromised}
+use Rattle.xdr.specs.Meaning.Refusal.{OfReading}
+use Rattle.xdr.specs.Laws.Public.{kept}
+use Rattle.rpc.specs.Laws.UnixKept.{unix-numbered}
 use Rattle.xdr.specs.declared.refusal.Refusal.{Refusal}
-use Rattle.xdr.specs.declared.refusal.Refusal.the-variants.{NoRoom}
+use Rattle.xdr.specs.declared.refusal.Refusal.the-variants.{TooLong, NoRoom, NotCall, PastEnd}
 
 -- a message of 24 bytes that has no pieces
 pub record Short (m : «rpc_msg») : Type 0 where
@@ -142,9 +145,9 @@ module _ (s : List ℕ) (seen : Bool) (o : List ℕ) where
 
 -- ---- the promise
 
--- each reply that is decided on is short
+-- each reply that is decided on is short, and no refusal that is decided on is 5
 abbrev Brief : Decision → Type 0
-Brief (refuse r) = Unit {0}
+Brief (refuse r) = r ≡ NoRoom → ⊥
 Brief (reply m) = Short m
 Brief silence = Unit {0}
 Brief (hand-over p v f a n) = Unit {0}
@@ -153,33 +156,51 @@ brief-cond : (t : Bool) (d e : Decision) → Brief d → Brief e → Brief (cond
 brief-cond true d e f g = f
 brief-cond false d e f g = g
 
-module _ (s : List ℕ) (seen : Bool) where
+-- a refusal of a reading is not 5
+not-of-reading : {r : Refusal} → OfReading r → r ≡ NoRoom → ⊥
+not-of-reading h e = subst OfReading e h
+
+not-too-long : {r : Refusal} → r ≡ TooLong → r ≡ NoRoom → ⊥
+not-too-long e f = let z : _≡_ {A = ℕ} 0 1 = cc in omega arith
+
+not-past-end : {r : Refusal} → r ≡ PastEnd → r ≡ NoRoom → ⊥
+not-past-end e f = let z : _≡_ {A = ℕ} 0 1 = cc in omega arith
+
+not-call : NotCall ≡ NoRoom → ⊥
+not-call e = let z : _≡_ {A = ℕ} 0 1 = cc in omega arith
+
+module _ (s : List ℕ) (seen : Bool) (h : Bytes s) where
   brief-version : (x : ℕ) (c : «call_body») (a : Option «auth_unix») (n : ℕ) → Brief (byVersion seen x c a n)
   unfolding byVersion byProgram
   brief-version x c a n =
       brief-cond (eqb (c .rpcvers) 2) _ _ (brief-cond seen _ _ tt (brief-cond (served (c .prog)) _ _ tt (unavail-short x))) (mismatch-short x)
 
-  brief-unix : (x : ℕ) (c : «call_body») (n : ℕ) (r : Answer «auth_unix») → Brief (byUnix s seen x c n r)
-  brief-unix x c n (took a k b) = brief-version x c (some a) n
-  brief-unix x c n (refused r) = tt
+  brief-unix : (x : ℕ) (c : «call_body») (n : ℕ) (r : Answer «auth_unix») → unixIn s (c .cred .body) ≡ r → Brief (byUnix s seen x c n r)
+  brief-unix x c n (took a k b) e = brief-version x c (some a) n
+  brief-unix x c n (refused r) e = not-of-reading (unix-numbered s (c .cred .body) h e)
 
   brief-flavor : (x : ℕ) (c : «call_body») (n : ℕ) (f : «auth_flavor») → Brief (byFlavor s seen x c n f)
   brief-flavor x c n «AUTH_NULL» = brief-version x c none n
-  brief-flavor x c n «AUTH_UNIX» = brief-unix x c n (unixIn s (c .cred .body))
+  brief-flavor x c n «AUTH_UNIX» = brief-unix x c n (unixIn s (c .cred .body)) refl
   brief-flavor x c n «AUTH_SHORT» = brief-version x c none n
   brief-flavor x c n «AUTH_DES» = brief-version x c none n
 
   brief-body : (x n : ℕ) (y : «rpc_body») → Brief (byBody s seen x n y)
   brief-body x n (CALL c) = brief-flavor x c n (c .cred .flavor)
-  brief-body x n (REPLY r) = tt
+  brief-body x n (REPLY r) = not-call
 
-  brief-message : (r : Answer «rpc_msg») → Brief (byMessage s seen r)
-  brief-message (took m n b) = brief-body (m .xid) n (m .body)
-  brief-message (refused r) = tt
+  brief-refused : {r : Refusal} → (r ≡ TooLong) ⊎ ((r ≡ PastEnd) ⊎ OfReading r) → r ≡ NoRoom → ⊥
+  brief-refused (inl e) = not-too-long e
+  brief-refused (inr (inl e)) = not-past-end e
+  brief-refused (inr (inr o)) = not-of-reading o
+
+  brief-message : (r : Answer «rpc_msg») → opened s 0 (rpc-msg .held .read s 0) ≡ r → Brief (byMessage s seen r)
+  brief-message (took m n b) e = brief-body (m .xid) n (m .body)
+  brief-message (refused r) e = brief-refused (kept rpc-msg .numbered s 0 (record { is = sym e; bytes = h }))
 
   brief-decided : Brief (decided s seen)
   unfolding decided
-  brief-decided = brief-message (opened s 0 (rpc-msg .held .read s 0))
+  brief-decided = brief-message (opened s 0 (rpc-msg .held .read s 0)) refl
 
 -- a reply, by the room for it
 reply-room : (m : «rpc_msg») (o : List ℕ) → 24 ≤ length o → replying m o ≡ outcome (replied 24) (output rpc-msg [] m ++ drop 24 o)
@@ -220,6 +241,13 @@ not-five m o true e f =
     let z : _≡_ {A = ℕ} 0 1 = cc in absurd (omega arith)
 not-five m o false e f = leb-false 24 (length o) e
 
+-- so where 5 is said, a reply was due
+five-due : (d : Decision) (o : List ℕ) → Brief d → carriedOut d o .said ≡ turned-away NoRoom → (m : «rpc_msg») × (d ≡ reply m) × (length o < 24)
+five-due (refuse r) o h f = let g : r ≡ NoRoom = cc in absurd (h g)
+five-due (reply m) o h f = (m, refl, not-five m o (leb 24 (length o)) refl f)
+five-due silence o h f = let z : _≡_ {A = ℕ} 0 1 = cc in absurd (omega arith)
+five-due (hand-over p v g a n) o h f = let z : _≡_ {A = ℕ} 0 1 = cc in absurd (omega arith)
+
 module _ (s : List ℕ) (seen : Bool) (o : List ℕ) {c : Chosen} {o′ : List ℕ} (h : Chooses s seen o c o′) where
   due : {m : «rpc_msg»} → decided s seen ≡ reply m → outcome c o′ ≡ replying m o
   due e = h .is ∙ ap (λ d. carriedOut d o) e
@@ -228,10 +256,10 @@ module _ (s : List ℕ) (seen : Bool) (o : List ℕ) {c : Chosen} {o′ : List �
   choice-promised =
       record {
         one = λ g. said-held (h .is ∙ sym (g .is));
-        leaves = subst (LeavesOf o) (sym (h .is)) (leaves-decision (decided s seen) o (brief-decided s seen));
-        five-iff = λ {m} e. (
-          λ f. not-five m o (leb 24 (length o)) refl (sym (said-held (due e) .0) ∙ f),
-          λ f. said-held (due e ∙ reply-short m o f) .0,
+        leaves = subst (LeavesOf o) (sym (h .is)) (leaves-decision (decided s seen) o (brief-decided s seen (h .bytes)));
+        five-iff = (
+          λ f. five-due (decided s seen) o (brief-decided s seen (h .bytes)) (sym (said-held (h .is) .0) ∙ f),
+          λ g. said-held (due (g .1) ∙ reply-short (g .0) o (g .2)) .0,
         );
         replies = λ {m} e f. said-held (due e ∙ reply-room m o f);
       }

@@ -111,6 +111,6 @@ pub record ChoicePromised (s : List ℕ) (seen : Bool) (o : List ℕ) (c : Chose
   pub one : {d : Chosen} {e : List ℕ} → Chooses s seen o d e → (c ≡ d) × (o′ ≡ e)
   -- all but a reply's bytes stay
   pub leaves : Leaves c o o′
-  -- where a reply is due, 5 is given exactly if the output is shorter, and else the reply
-  pub five-iff : {m : «rpc_msg»} → decided s seen ≡ reply m → (c ≡ turned-away NoRoom) ↔ (length o < 24)
+  -- 5 is given exactly if a reply is due and the output is shorter; else a reply that is due is given
+  pub five-iff : (c ≡ turned-away NoRoom) ↔ ((m : «rpc_msg») × (decided s seen ≡ reply m) × (length o < 24))
   pub replies : {m : «rpc_msg»} → decided s seen ≡ reply m → 24 ≤ length o → (c ≡ replied 24) × (o′ ≡ output rpc-msg [] m ++ drop 24 o)
