@@ -127,62 +127,12 @@ static int out_is(size_t place, struct bytes due)
 
 /* ---- messages */
 
-/* A message of every kind, in published form and of the largest number of parts. */
+/* A message of every kind, in published form: those of kinds.txt, which c/test writes down in the kinds' order. */
 static const struct {
     const char *name;
     const char *message;
-} samples[YUGERZAT_KINDS] = {
-    {"bool", "00000001"},
-    {"i32", "80000000"},
-    {"i64", "8000000000000000"},
-    {"u32", "FFFFFFFF"},
-    {"u64", "FFFFFFFFFFFFFFFF"},
-    {"eight", "0102030405060708"},
-    {"opaque", "00000005 68656C6C 6F000000"},
-    {"nfsstring", "00000003 61626300"},
-    {"words", "00000002 00000007 FFFFFFFF"},
-    {"msg_type", "00000001"},
-    {"reply_stat", "00000001"},
-    {"accept_stat", "00000004"},
-    {"reject_stat", "00000001"},
-    {"auth_stat", "00000005"},
-    {"auth_flavor", "00000003"},
-    {"time_how", "00000002"},
-    {"nfsstat3", "00002718"},
-    {"ftype3", "00000007"},
-    {"auth_unix", "00000001 00000003 61626300 00000002 00000003 00000002 00000004 00000005"},
-    {"opaque_auth", "00000001 00000002 AABB0000"},
-    {"rpc_msg", "0000002A 00000000 00000002 000186A3 00000003 00000001 00000001 00000004 01020304 00000000 00000000"},
-    {"rpc_body", "00000000 00000002 000186A3 00000003 00000001 00000000 00000000 00000000 00000000"},
-    {"call_body", "00000002 000186A3 00000003 00000001 00000000 00000000 00000000 00000000"},
-    {"reply_body", "00000000 00000000 00000000 00000002 00000003 00000004"},
-    {"accepted_reply", "00000000 00000000 00000002 00000003 00000004"},
-    {"accept_body", "00000002 00000003 00000004"},
-    {"rejected_reply", "00000000 00000002 00000002"},
-    {"mismatch_info", "00000002 00000003"},
-    {"specdata3", "00000008 00000001"},
-    {"nfs_fh3", "00000002 55660000"},
-    {"nfstime3", "00000007 00000008"},
-    {"fattr3", "00000002 000001ED 00000003 00000004 00000005 0000000000000006 0000000000000007 00000008 00000009"
-               "000000000000000A 000000000000000B 0000000C 0000000D 0000000E 0000000F 00000010 00000011"},
-    {"fsinfo3", "00000000 00000001 00000002 00000003 00000004 00000005 00000006 00000007 0000000000000008 00000009 0000000A"
-                "0000000B"},
-    {"wcc_attr", "0000000000000001 00000002 00000003 00000004 00000005"},
-    {"pre_op_attr", "00000001 0000000000000001 00000002 00000003 00000004 00000005"},
-    {"post_op_attr", "00000001 00000001 000001ED 00000003 00000004 00000005 0000000000000006 0000000000000007 00000008"
-                     "00000009 000000000000000A 000000000000000B 0000000C 0000000D 0000000E 0000000F 00000010 00000011"},
-    {"wcc_data", "00000001 0000000000000001 00000002 00000003 00000004 00000005 00000000"},
-    {"post_op_fh3", "00000001 00000001 99000000"},
-    {"set_mode3", "00000001 000001A4"},
-    {"set_uid3", "00000001 000003E8"},
-    {"set_gid3", "00000001 000003E8"},
-    {"set_size3", "00000001 0000000000001000"},
-    {"set_atime", "00000002 00000007 00000008"},
-    {"set_mtime", "00000002 00000007 00000008"},
-    {"sattr3", "00000001 000001A4 00000001 000003E8 00000001 000003E9 00000001 0000000000001000 00000002 00000007 00000008"
-               "00000002 00000009 0000000A"},
-    {"diropargs3", "00000004 0A0B0C0D 00000005 68656C6C 6F000000"},
-    {"symlinkdata3", "00000000 00000000 00000000 00000000 00000000 00000000 00000003 61626300"},
+} samples[] = {
+#include "samples.h"
 };
 
 /* ---- yugerzat_read */
@@ -287,7 +237,8 @@ static void test_read(void)
     static const uint32_t unknown[] = {YUGERZAT_KINDS, 100, 0x7FFFFFFF, 0xFFFFFFFF};
     struct bytes b = hex("00000001");
     size_t i;
-    for (kind = 0; kind < YUGERZAT_KINDS; kind++)
+    CHECK(sizeof samples / sizeof *samples == YUGERZAT_KINDS);
+    for (kind = 0; kind < sizeof samples / sizeof *samples; kind++)
         every_kind(kind);
     for (i = 0; i < sizeof unknown / sizeof *unknown; i++) {
         CHECK(read_kind(unknown[i], b, 0, BUFFER) == YUGERZAT_UNKNOWN_KIND);

@@ -72,7 +72,10 @@ enum yugerzat_answer {
 /* A message, a source, an assembler's capacity and an encoding have at most so many bytes. */
 #define YUGERZAT_LIMIT ((size_t)1048576)
 
-/* The kinds of message, for yugerzat_read. The names are those of the RFCs and of nfsserve. */
+/*
+ * The kinds of message, for yugerzat_read. The names are those of the RFCs and of nfsserve. The numbers are those of
+ * kinds.txt, and never change.
+ */
 enum yugerzat_kind {
     YUGERZAT_BOOL = 0,
     YUGERZAT_I32 = 1,

@@ -16,7 +16,7 @@ macro_rules! kinds {
 
         impl Kind {
             /// Every kind, in the order of their numbers.
-            pub const ALL: [Kind; 47] = [$(Kind::$kind),*];
+            pub const ALL: [Kind; [$($name),*].len()] = [$(Kind::$kind),*];
 
             /// The name that the RFC and the crate nfsserve have for it.
             #[must_use]
@@ -29,6 +29,7 @@ macro_rules! kinds {
     };
 }
 
+// In the order of kinds.txt, which numbers them; tools/kinds holds this list to it.
 kinds! {
     Bool "bool",
     I32 "i32",

@@ -1,7 +1,7 @@
 use std::error::Error;
 use std::fmt;
 
-/// Why nothing was handed over. The numbers are those of the project's scope paper, 1 to 9.
+/// Why nothing was handed over. The numbers, 1 to 9, are those of docs/SCOPE.md.
 ///
 /// ```
 /// use yugerzat::{rewrite, Kind, Refusal};

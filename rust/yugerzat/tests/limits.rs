@@ -16,56 +16,16 @@ fn refused<T: std::fmt::Debug>(answer: Result<T, Refusal>, number: u32, place: O
     assert_eq!(answer.expect_err("a refusal is due"), Refusal { number, place });
 }
 
-/// A message of every kind in published form.
-const SAMPLES: [&str; 47] = [
-    "00000001",
-    "80000000",
-    "8000000000000000",
-    "FFFFFFFF",
-    "FFFFFFFFFFFFFFFF",
-    "0102030405060708",
-    "00000005 68656C6C 6F000000",
-    "00000003 61626300",
-    "00000002 00000007 FFFFFFFF",
-    "00000001",
-    "00000001",
-    "00000004",
-    "00000001",
-    "00000005",
-    "00000003",
-    "00000002",
-    "00002718",
-    "00000007",
-    "00000001 00000003 61626300 00000002 00000003 00000002 00000004 00000005",
-    "00000001 00000002 AABB0000",
-    "0000002A 00000000 00000002 000186A3 00000003 00000001 00000001 00000004 01020304 00000000 00000000",
-    "00000000 00000002 000186A3 00000003 00000001 00000000 00000000 00000000 00000000",
-    "00000002 000186A3 00000003 00000001 00000000 00000000 00000000 00000000",
-    "00000000 00000000 00000000 00000002 00000003 00000004",
-    "00000000 00000000 00000002 00000003 00000004",
-    "00000002 00000003 00000004",
-    "00000000 00000002 00000002",
-    "00000002 00000003",
-    "00000008 00000001",
-    "00000002 55660000",
-    "00000007 00000008",
-    FATTR3,
-    "00000000 00000001 00000002 00000003 00000004 00000005 00000006 00000007 0000000000000008 00000009 0000000A 0000000B",
-    "0000000000000001 00000002 00000003 00000004 00000005",
-    "00000001 0000000000000001 00000002 00000003 00000004 00000005",
-    "00000000",
-    "00000001 0000000000000001 00000002 00000003 00000004 00000005 00000000",
-    "00000001 00000001 99000000",
-    "00000001 000001A4",
-    "00000001 000003E8",
-    "00000001 000003E8",
-    "00000001 0000000000001000",
-    "00000002 00000007 00000008",
-    "00000002 00000007 00000008",
-    SATTR3,
-    "00000004 0A0B0C0D 00000005 68656C6C 6F000000",
-    "00000000 00000000 00000000 00000000 00000000 00000000 00000003 61626300",
-];
+/// The rows of kinds.txt: number, name, and a message in published form.
+fn table() -> impl Iterator<Item = (u32, &'static str, Vec<u8>)> {
+    let rows = include_str!("../../../kinds.txt").lines().filter(|line| !line.is_empty() && !line.starts_with('#'));
+    rows.map(|row| {
+        let columns: Vec<&str> = row.split('|').map(str::trim).collect();
+        let [number, name, _, _, _, message] = columns[..] else { panic!("a row has six columns: {row}") };
+        (number.parse().expect("a number"), name, hex(message))
+    })
+}
+
 const FATTR3: &str = "00000002 000001ED 00000003 00000004 00000005 0000000000000006 0000000000000007 00000008 00000009 \
     000000000000000A 000000000000000B 0000000C 0000000D 0000000E 0000000F 00000010 00000011";
 const SATTR3: &str =
@@ -74,9 +34,7 @@ const SATTR3: &str =
 
 #[test]
 fn kinds_have_their_numbers_and_names() {
-    for (number, kind) in Kind::ALL.iter().enumerate() {
-        assert_eq!(kind.number() as usize, number);
-    }
+    assert!(Kind::ALL.iter().map(|kind| (kind.number(), kind.name())).eq(table().map(|(number, name, _)| (number, name))));
     assert_eq!(Kind::Bool.to_string(), "bool");
     assert_eq!((Kind::RpcMsg.number(), Kind::RpcMsg.name()), (20, "rpc_msg"));
     assert_eq!((Kind::Symlinkdata3.number(), Kind::Symlinkdata3.name()), (46, "symlinkdata3"));
@@ -84,8 +42,7 @@ fn kinds_have_their_numbers_and_names() {
 
 #[test]
 fn every_kind_is_rewritten() {
-    for (kind, sample) in Kind::ALL.into_iter().zip(SAMPLES) {
-        let message = hex(sample);
+    for (kind, (_, _, message)) in Kind::ALL.into_iter().zip(table()) {
         let size = message.len();
         let mut out = vec![0xEE; size + 1];
         assert_eq!(rewrite(kind, &message, 0, &mut out), Ok(Rewritten { next: size, plain: true, len: size }), "{kind}");
