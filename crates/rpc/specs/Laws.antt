@@ -2,7 +2,7 @@
 pub mod Promise
 pub mod One
 pub mod Makers
-pub mod Length
+pub mod Lengths
 pub mod Sizes
 pub mod UnixIn
 pub mod Tags
