@@ -3,6 +3,7 @@ mod answers;
 mod captured;
 mod cases;
 mod compare;
+mod lent;
 mod limits;
 mod lines;
 mod list;
@@ -14,6 +15,7 @@ mod run;
 mod shapes;
 mod tally;
 mod truth;
+mod values;
 
 use std::io::{BufWriter, Write};
 use std::path::Path;
