@@ -30,7 +30,7 @@ const BODIES: &[Body] = &[
 /// The lines of all captures below a folder.
 pub fn lines(folder: &Path) -> io::Result<Vec<String>> {
     let mut list = Vec::new();
-    for capture in sorted(folder)? {
+    for capture in sorted(folder)?.into_iter().filter(|path| path.is_dir()) {
         for client in sorted(&capture)? {
             let Some(name) = client.to_str().and_then(|path| path.strip_suffix("-c2s.bin")) else { continue };
             connection(&fs::read(&client)?, &fs::read(format!("{name}-s2c.bin"))?, &mut list);
