@@ -46,6 +46,30 @@ pub struct AuthUnix {
     pub gids: Piece,
 }
 
+impl AuthUnix {
+    /// The value that seven figures are.
+    pub fn of(figures: &[u64]) -> AuthUnix {
+        let (word, piece) = (
+            |at: usize| figures[at] as u32,
+            |at: usize| Piece { place: figures[at] as usize, count: figures[at + 1] as usize },
+        );
+        AuthUnix { stamp: word(0), name: piece(1), uid: word(3), gid: word(4), gids: piece(5) }
+    }
+
+    pub fn figures(&self) -> [u64; 7] {
+        let (name, gids) = (self.name, self.gids);
+        [
+            u64::from(self.stamp),
+            name.place as u64,
+            name.count as u64,
+            u64::from(self.uid),
+            u64::from(self.gid),
+            gids.place as u64,
+            gids.count as u64,
+        ]
+    }
+}
+
 /// The choice of program. A reply's 24 bytes stand in a buffer beside this.
 #[derive(Clone, Copy, Debug, PartialEq, Eq)]
 pub enum Choice {
@@ -76,6 +100,17 @@ impl State {
     pub fn fresh(capacity: u64) -> State {
         State { capacity, ..State::default() }
     }
+
+    /// The state that seven numbers are: for `last` and `stopped` each number but 0 is yes.
+    pub fn of(numbers: [u64; STATE_FIGURES]) -> State {
+        let [capacity, placed, count, value, left, last, stopped] = numbers;
+        State { capacity, placed, count, value, left, last: last != 0, stopped: stopped != 0 }
+    }
+
+    pub fn numbers(&self) -> [u64; STATE_FIGURES] {
+        let State { capacity, placed, count, value, left, last, stopped } = *self;
+        [capacity, placed, count, value, left, u64::from(last), u64::from(stopped)]
+    }
 }
 
 /// What a feed answers, with the count of bytes used.
@@ -86,5 +121,109 @@ pub enum Fed {
     Refused { number: u32, used: usize },
 }
 
-/// `write_fragment`'s answer: the next place, or the number of the refusal.
+/// A writer's answer: the next place, or the number of the refusal.
 pub type Wrote = Result<usize, u32>;
+
+/// Answers that are no refusal. A choice is handed over, replied to or met with silence; a feed wants more or is complete.
+pub const DONE: u32 = 0;
+pub const HAND_OVER: u32 = 100;
+pub const REPLIED: u32 = 101;
+pub const SILENCE: u32 = 102;
+pub const MORE: u32 = 100;
+pub const COMPLETE: u32 = 101;
+
+/// Answers to a call that is itself at fault: a number that does not fit its field, a list that is too short, a kind that
+/// is not there.
+pub const WIDE_NUMBER: u32 = 253;
+pub const SHORT_LIST: u32 = 254;
+pub const UNKNOWN_KIND: u32 = 255;
+
+/// How many figures each function has that is not one of `Value`.
+pub const READ_FIGURES: usize = 3;
+pub const CHOOSE_FIGURES: usize = 12;
+pub const FEED_FIGURES: usize = 2;
+pub const STATE_FIGURES: usize = 7;
+pub const WRITE_FIGURES: usize = 1;
+pub const PART_FIGURES: usize = 2;
+
+/// What an exported function tells: its answer, and the figures that it puts at the front of the list lent for them, as
+/// include/yugerzat.h has them.
+#[derive(Clone, Debug, PartialEq, Eq)]
+pub struct Told {
+    pub answer: u32,
+    pub figures: Vec<u64>,
+}
+
+impl Told {
+    pub fn done(figures: Vec<u64>) -> Told {
+        Told { answer: DONE, figures }
+    }
+
+    /// The call is at fault, and no figure is touched.
+    pub fn untouched(answer: u32) -> Told {
+        Told { answer, figures: Vec::new() }
+    }
+
+    /// A refusal's place, or 0, and zeros for all other figures.
+    pub fn refused(refusal: &Refusal, count: usize) -> Told {
+        let mut figures = vec![0; count];
+        figures[0] = refusal.place as u64;
+        Told { answer: refusal.number, figures }
+    }
+
+    pub fn read(answer: &Result<Took, Refusal>) -> Told {
+        match answer {
+            Ok(took) => Told::done(vec![took.next as u64, u64::from(took.plain), took.length as u64]),
+            Err(refusal) => Told::refused(refusal, READ_FIGURES),
+        }
+    }
+
+    pub fn chose(choice: &Choice) -> Told {
+        let mut figures = vec![0; CHOOSE_FIGURES];
+        let answer = match choice {
+            Choice::HandOver { program, version, procedure, arguments, auth_unix } => {
+                let numbers = [*program, *version, *procedure].map(u64::from);
+                figures[..3].copy_from_slice(&numbers);
+                figures[3] = *arguments as u64;
+                if let Some(auth) = auth_unix {
+                    figures[4] = 1;
+                    figures[5..].copy_from_slice(&auth.figures());
+                }
+                HAND_OVER
+            },
+            Choice::Reply => {
+                figures[0] = REPLY as u64;
+                REPLIED
+            },
+            Choice::Silence => SILENCE,
+            Choice::Refused(refusal) => return Told::refused(refusal, CHOOSE_FIGURES),
+        };
+        Told { answer, figures }
+    }
+
+    pub fn fed(fed: &Fed) -> Told {
+        let (answer, used, length) = match *fed {
+            Fed::More { used } => (MORE, used, 0),
+            Fed::Complete { length, used } => (COMPLETE, used, length),
+            Fed::Refused { number, used } => (number, used, 0),
+        };
+        Told { answer, figures: vec![used as u64, length as u64] }
+    }
+
+    /// A number that is wide is no refusal: nothing is touched.
+    pub fn wrote(wrote: &Wrote) -> Told {
+        match wrote {
+            Ok(next) => Told::done(vec![*next as u64]),
+            Err(WIDE_NUMBER) => Told::untouched(WIDE_NUMBER),
+            Err(number) => Told { answer: *number, figures: vec![0] },
+        }
+    }
+
+    pub fn part(inside: bool, at: usize, count: usize) -> Told {
+        if inside {
+            Told::done(vec![at as u64, count as u64])
+        } else {
+            Told { answer: 4, figures: vec![0, 0] }
+        }
+    }
+}

@@ -6,7 +6,7 @@ use std::io;
 use std::path::{Path, PathBuf};
 
 use crate::answers::{Choice, BOUND};
-use crate::cases::{Case, Room};
+use crate::cases::{Question, Room};
 use crate::shapes::kind;
 use crate::truth::Truth;
 
@@ -30,7 +30,7 @@ const BODIES: &[Body] = &[
 /// The lines of all captures below a folder.
 pub fn lines(folder: &Path) -> io::Result<Vec<String>> {
     let mut list = Vec::new();
-    for capture in sorted(folder)? {
+    for capture in sorted(folder)?.into_iter().filter(|path| path.is_dir()) {
         for client in sorted(&capture)? {
             let Some(name) = client.to_str().and_then(|path| path.strip_suffix("-c2s.bin")) else { continue };
             connection(&fs::read(&client)?, &fs::read(format!("{name}-s2c.bin"))?, &mut list);
@@ -52,7 +52,7 @@ fn connection(sent: &[u8], answered: &[u8], list: &mut Vec<String>) {
     for call in stream(&truth, sent, list) {
         let arguments = judged(&mut truth, &call, list);
         for (seen, room) in [(false, 24), (true, 24), (false, 0)] {
-            list.push(Case::Choose { seen, room, message: call.clone() }.line());
+            list.push(Question::Choose { seen, room, message: call.clone() }.line());
         }
         if let Choice::HandOver { program, version, procedure, .. } = truth.choose(&call, false, &mut [0; 24]) {
             if let Some(body) = BODIES.iter().find(|body| body.0 == [program, version, procedure]) {
@@ -63,7 +63,7 @@ fn connection(sent: &[u8], answered: &[u8], list: &mut Vec<String>) {
     }
     for reply in stream(&truth, answered, list) {
         let results = judged(&mut truth, &reply, list);
-        list.push(Case::Choose { seen: false, room: 24, message: reply.clone() }.line());
+        list.push(Question::Choose { seen: false, room: 24, message: reply.clone() }.line());
         if let Some(body) = calls.get(&reply[..4]) {
             all_of(&mut truth, &reply, results, body.2, list);
         }
@@ -78,9 +78,9 @@ fn stream(truth: &Truth, bytes: &[u8], list: &mut Vec<String>) -> Vec<Vec<u8>> {
     let records: Vec<Vec<u8>> = records.complete.into_iter().map(|(record, _)| record).collect();
     let longest = records.iter().map(Vec::len).max().expect("a captured stream has a record");
     for lengths in [&[bytes.len()][..], &[1], &[3], &[5, 1, 64, 2, 7], &[97, 4, 1]] {
-        list.push(Case::Feed { capacity: longest, runs: runs(bytes, lengths) }.line());
+        list.push(Question::Feed { capacity: longest, runs: runs(bytes, lengths) }.line());
     }
-    list.push(Case::Feed { capacity: longest - 1, runs: vec![bytes.to_vec()] }.line());
+    list.push(Question::Feed { capacity: longest - 1, runs: vec![bytes.to_vec()] }.line());
     records
 }
 
@@ -101,7 +101,7 @@ fn runs(mut bytes: &[u8], lengths: &[usize]) -> Vec<Vec<u8>> {
 /// A record, read as an `rpc_msg` and written as a fragment again. Gives the place behind the `rpc_msg`.
 fn judged(truth: &mut Truth, record: &[u8], list: &mut Vec<String>) -> usize {
     let next = read(truth, record, 0, "rpc_msg", list);
-    list.push(Case::Fragment { message: record.to_vec(), room: record.len() + 4, start: 0 }.line());
+    list.push(Question::Fragment { message: record.to_vec(), room: record.len() + 4, start: 0 }.line());
     next
 }
 
@@ -119,6 +119,6 @@ fn read(truth: &mut Truth, record: &[u8], at: usize, name: &str, list: &mut Vec<
     let kind = kind(name).expect("the kind is known");
     let took = truth.read(kind, record, at).expect("what was captured is taken");
     assert!(took.plain, "what was captured is in published form");
-    list.push(Case::Read { kind, at, message: record.to_vec(), room: Room::Ample }.line());
+    list.push(Question::Read { kind: kind as u32, at, message: record.to_vec(), room: Room::Ample }.line());
     took.next
 }

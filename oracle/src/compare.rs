@@ -1,18 +1,21 @@
 //! One case asked of both sides.
-use crate::answers::{Fed, Refusal, State, BOUND, REPLY};
-use crate::cases::{Case, Room};
-use crate::lines;
+use crate::answers::{
+    Fed, Refusal, State, Told, CHOOSE_FIGURES, FEED_FIGURES, PART_FIGURES, READ_FIGURES, STATE_FIGURES, UNKNOWN_KIND,
+    WRITE_FIGURES,
+};
+use crate::cases::{Case, Lending, Question, Room};
+use crate::lent::{bytes, list, Left};
+use crate::lines::hex;
 use crate::model::Model;
 use crate::proved::Proved;
+use crate::shapes::{kind, KINDS};
 use crate::tally::Tally;
 use crate::truth::Truth;
+use crate::values::Value;
 
-/// Both sides, and the buffers that are lent to the proved one.
 pub struct Sides {
     truth: Truth,
     proved: Proved,
-    /// Held at EE between the cases, so that a byte written where none is due shows.
-    out: Vec<u8>,
     tally: Tally,
 }
 
@@ -22,171 +25,257 @@ pub struct Difference {
     pub expected: String,
 }
 
-const EMPTY: u8 = 0xEE;
-
-/// How far behind the bytes that are due the buffer is looked at.
-const BEHIND: usize = 64;
-
 impl Sides {
     pub fn new() -> Sides {
-        Sides { truth: Truth::new(), proved: Proved::new(), out: vec![EMPTY; 2 * BOUND], tally: Tally::default() }
+        Sides { truth: Truth::new(), proved: Proved::new(), tally: Tally::default() }
     }
 
     /// What was due so far.
     pub fn tally(&self) -> Tally {
-        let mut tally = self.tally;
+        let mut tally = self.tally.clone();
         tally.unasked = self.truth.unasked;
         tally
     }
 
     /// Asks both sides.
     pub fn differ(&mut self, case: &Case) -> Option<Difference> {
-        match case {
-            Case::Read { kind, at, message, room } => self.read(*kind, *at, message, *room),
-            Case::Choose { seen, room, message } => self.choose(*seen, *room, message),
-            Case::Feed { capacity, runs } => self.feed(*capacity, runs),
-            Case::State { state, length, run } => self.state(*state, *length, run),
-            Case::Fragment { message, room, start } => self.fragment(message, *room, *start),
+        let lending = &case.lending;
+        match &case.question {
+            Question::Read { kind, at, message, room } => self.read(*kind, *at, message, *room, lending),
+            Question::Value { value, at, message } => self.value(*value, *at, message, lending),
+            Question::AuthUnix { at, count, message } => self.auth_unix(*at, *count, message, lending),
+            Question::Write { value, source, fields, room, start } => {
+                self.write(*value, source, fields, *room, *start, lending)
+            },
+            Question::Part { message, at, count } => self.part(message, *at, *count, lending),
+            Question::Choose { seen, room, message } => self.choose(*seen, *room, message, lending),
+            Question::Feed { capacity, runs } => self.feed(*capacity, runs, lending),
+            Question::State { state, length, run } => self.state(*state, *length, run, lending),
+            Question::Fragment { message, room, start } => self.fragment(message, *room, *start, lending),
         }
     }
 
-    fn read(&mut self, kind: usize, at: usize, message: &[u8], room: Room) -> Option<Difference> {
-        let mut expected = self.truth.read(kind, message, at);
+    fn read(&mut self, kind: u32, at: usize, message: &[u8], room: Room, lending: &Lending) -> Option<Difference> {
+        let known = (kind as usize) < KINDS.len();
+        let mut expected = if known { self.truth.read(kind as usize, message, at) } else { Err(Refusal::plain(0)) };
         let length = expected.map_or(0, |took| took.length);
         let room = match room {
-            Room::Ample => self.out.len(),
+            Room::Ample => message.len().max(40) + 9,
             Room::Over(more) => length + more,
             Room::Under(fewer) => length.saturating_sub(fewer),
         };
         if room < length {
             expected = Err(Refusal::plain(5));
         }
-        match &expected {
-            Ok(took) => self.tally.took(took.plain),
-            Err(refusal) => self.tally.refused(refusal.number),
+        let mut due = Left::new(room, lending.info.length(READ_FIGURES));
+        let mut got = due.clone();
+        if due.info.get().len() >= READ_FIGURES {
+            let mut told = Told::read(&expected);
+            if !known {
+                told.answer = UNKNOWN_KIND;
+            }
+            due.tell(&told);
+            if let Ok(took) = expected {
+                self.tally.took(took.plain);
+                due.out.slice()[..took.length].copy_from_slice(&self.truth.rewriting);
+            }
         }
-        let got = self.proved.read(kind, message, at, &mut self.out[..room]);
-        let due: &[u8] = if expected.is_ok() { &self.truth.rewriting } else { &[] };
-        let same = got == expected && holds(&self.out, due);
-        let difference = (!same).then(|| {
-            let shown = got.map_or(0, |took| took.length).min(self.out.len());
-            let given = if room < self.out.len() { format!("with room {room}: ") } else { String::new() };
-            let proved = given.clone() + &lines::reading(&got, &self.out[..shown]);
-            Difference { proved, expected: given + &lines::reading(&expected, due) }
-        });
-        let used = if same { due.len() } else { self.out.len() };
-        self.out[..used].fill(EMPTY);
-        difference
+        got.answer = self.proved.read(kind, message, at, got.out.slice(), got.info.slice());
+        self.same("read", &got, &due)
     }
 
-    fn choose(&mut self, seen: bool, room: usize, message: &[u8]) -> Option<Difference> {
-        let (mut due, mut out) = ([EMPTY; 64], [EMPTY; 64]);
-        let expected = self.truth.choose(message, seen, &mut due[..room]);
-        self.tally.chose(&expected);
-        let got = self.proved.choose(message, seen, &mut out[..room]);
-        (got != expected || out != due).then(|| Difference {
-            proved: lines::choice(&got, &out[..room.max(REPLY)]),
-            expected: lines::choice(&expected, &due[..room.max(REPLY)]),
-        })
+    /// The reader of the value; and, so that both readers of its kind are seen to agree, `yugerzat_read` of the same.
+    fn value(&mut self, value: Value, at: usize, message: &[u8], lending: &Lending) -> Option<Difference> {
+        let mut due = Left::new(0, lending.info.length(value.figures()));
+        let mut got = due.clone();
+        if due.info.get().len() >= value.figures() {
+            let expected = self.truth.value(value, message, at);
+            if let Ok(figures) = &expected {
+                self.tally.took(figures[1] == 1);
+            }
+            due.tell(&expected.map_or_else(|refusal| Told::refused(&refusal, value.figures()), Told::done));
+        }
+        got.answer = self.proved.value(value, message, at, got.info.slice());
+        let kind = kind(value.kind()).expect("the kind is known") as u32;
+        self.same(value.reader(), &got, &due).or_else(|| self.read(kind, at, message, Room::Ample, &Lending::ENOUGH))
+    }
+
+    fn auth_unix(&mut self, at: usize, count: usize, message: &[u8], lending: &Lending) -> Option<Difference> {
+        let figures = Value::AuthUnix.figures();
+        let mut due = Left::new(0, lending.info.length(figures));
+        let mut got = due.clone();
+        if due.info.get().len() >= figures {
+            let expected = self.truth.auth_unix_in(message, at, count);
+            due.tell(&expected.map_or_else(|refusal| Told::refused(&refusal, figures), Told::done));
+        }
+        got.answer = self.proved.auth_unix(message, at, count, got.info.slice());
+        self.same(Value::AuthUnix.reader(), &got, &due)
+    }
+
+    fn write(
+        &mut self,
+        value: Value,
+        source: &[u8],
+        fields: &[u64],
+        room: usize,
+        start: usize,
+        lending: &Lending,
+    ) -> Option<Difference> {
+        let fields = list(fields, lending.given.length(value.fields()));
+        let mut due = Left::new(room, lending.info.length(WRITE_FIGURES));
+        let mut got = due.clone();
+        if fields.get().len() >= value.fields() && due.info.get().len() >= WRITE_FIGURES {
+            let wrote = self.truth.write(value, source, fields.get(), due.out.slice(), start);
+            due.tell(&Told::wrote(&wrote));
+        }
+        let (out, info) = (got.out.slice(), got.info.slice());
+        got.answer = self.proved.write(value, source, fields.get(), out, start, info);
+        self.same(value.writer(), &got, &due)
+    }
+
+    fn part(&mut self, message: &[u8], at: usize, count: usize, lending: &Lending) -> Option<Difference> {
+        let mut due = Left::new(0, lending.info.length(PART_FIGURES));
+        let mut got = due.clone();
+        if due.info.get().len() >= PART_FIGURES {
+            let inside = at.checked_add(count).is_some_and(|end| end <= message.len());
+            due.tell(&Told::part(inside, at, count));
+        }
+        got.answer = self.proved.part(message, at, count, got.info.slice());
+        self.same("part", &got, &due)
+    }
+
+    fn choose(&mut self, seen: bool, room: usize, message: &[u8], lending: &Lending) -> Option<Difference> {
+        let mut due = Left::new(room, lending.info.length(CHOOSE_FIGURES));
+        let mut got = due.clone();
+        if due.info.get().len() >= CHOOSE_FIGURES {
+            let choice = self.truth.choose(message, seen, due.out.slice());
+            due.tell(&Told::chose(&choice));
+        }
+        let number = if seen { (lending.yes as u32).max(1) } else { 0 };
+        got.answer = self.proved.choose(message, number, got.out.slice(), got.info.slice());
+        self.same("choose", &got, &due)
     }
 
     /// Each feed is compared with the model's, and the records with those of the crate.
-    fn feed(&mut self, capacity: usize, runs: &[Vec<u8>]) -> Option<Difference> {
-        let (mut record, mut modelled) = (vec![EMPTY; capacity], vec![EMPTY; capacity]);
-        let (mut state, mut model) = (State::fresh(capacity as u64), State::fresh(capacity as u64));
+    fn feed(&mut self, capacity: usize, runs: &[Vec<u8>], lending: &Lending) -> Option<Difference> {
+        let mut model = State::fresh(capacity as u64);
+        let mut due = Left::new(0, lending.info.length(FEED_FIGURES));
+        due.out = bytes(capacity);
+        due.state = list(&model.numbers(), lending.given.length(STATE_FIGURES));
+        let mut got = due.clone();
+        let enough = due.info.get().len() >= FEED_FIGURES && due.state.get().len() >= STATE_FIGURES;
+        if !enough {
+            let run: &[u8] = runs.first().map_or(&[], |run| run);
+            got.answer = self.proved.feed(got.state.slice(), run, got.out.slice(), got.info.slice());
+            return self.same("feed", &got, &due);
+        }
         let (records, too_long) = self.truth.records(&runs.concat(), capacity);
         let mut complete = records.complete.iter();
         let mut used_in_all = 0;
         for run in runs {
             let mut rest: &[u8] = run;
             loop {
-                let got = self.proved.feed(&mut state, rest, &mut record);
-                let expected = Model::FAULTLESS.feed(&mut model, rest, &mut modelled);
-                self.tally.fed(&expected);
-                if got != expected || state != model {
-                    return Some(fed_otherwise(&got, &state, &record, &expected, &model, &modelled));
+                got.info = list(&[], got.info.get().len());
+                due.info = got.info.clone();
+                got.answer = self.proved.feed(got.state.slice(), rest, got.out.slice(), got.info.slice());
+                let expected = Model::FAULTLESS.feed(&mut model, rest, due.out.slice());
+                due.tell(&Told::fed(&expected));
+                due.state.slice()[..STATE_FIGURES].copy_from_slice(&model.numbers());
+                self.tally.due("feed", due.answer);
+                if got.answer != due.answer || got.info != due.info || got.state != due.state {
+                    return Some(differ(&got, &due));
                 }
-                match got {
+                match expected {
                     Fed::More { .. } => {
                         used_in_all += rest.len();
                         break;
                     },
                     Fed::Complete { length, used } => {
                         used_in_all += used;
-                        let due = complete.next();
-                        if due.is_none_or(|(bytes, end)| record[..length] != **bytes || used_in_all != *end) {
-                            return Some(record_otherwise(Some((&record[..length], used_in_all)), due));
+                        let (record, of_crate) = (&got.out.get()[..length], complete.next());
+                        if of_crate.is_none_or(|(bytes, end)| record != *bytes || used_in_all != *end) {
+                            return Some(record_otherwise(Some((record, used_in_all)), of_crate));
                         }
                         rest = &rest[used..];
                         if rest.is_empty() {
                             break;
                         }
                     },
-                    Fed::Refused { number, used } => {
+                    Fed::Refused { used, .. } => {
                         used_in_all += used;
-                        let due = too_long.map(|header| header + 4);
-                        let same =
-                            number == 7 && due == Some(used_in_all) && complete.next().is_none() && record == modelled;
-                        return (!same).then(|| Difference {
-                            proved: format!("refused {number} after {used_in_all}"),
-                            expected: format!("refused 7 after {due:?}"),
-                        });
+                        let at = too_long.map(|header| header + 4);
+                        if at != Some(used_in_all) || complete.next().is_some() {
+                            return Some(Difference {
+                                proved: format!("refused after {used_in_all}"),
+                                expected: format!("a fragment that is too long, after {at:?}"),
+                            });
+                        }
+                        return (got.out != due.out).then(|| differ(&got, &due));
                     },
                 }
             }
         }
-        if let Some(due) = complete.next() {
-            return Some(record_otherwise(None, Some(due)));
+        if let Some(record) = complete.next() {
+            return Some(record_otherwise(None, Some(record)));
+        }
+        if got.out != due.out {
+            return Some(differ(&got, &due));
         }
         // A fragment cut short stands in the crate's record at its full length.
-        let placed = state.placed as usize;
+        let placed = model.placed as usize;
         let same = too_long.is_none()
-            && record == modelled
-            && records.begun.len() as u64 == state.placed + state.left
-            && record[..placed] == records.begun[..placed];
+            && records.begun.len() as u64 == model.placed + model.left
+            && got.out.get()[..placed] == records.begun[..placed];
         (!same).then(|| Difference {
-            proved: lines::state_and_buffer(&state, &record),
-            expected: format!("begun {} of {}, too long {too_long:?}", lines::hex(&records.begun), records.begun.len()),
+            proved: got.to_string(),
+            expected: format!("begun {} of {}, too long {too_long:?}", hex(&records.begun), records.begun.len()),
         })
     }
 
     /// The crate has no states: the model is the judge.
-    fn state(&mut self, state: State, length: usize, run: &[u8]) -> Option<Difference> {
-        let (mut record, mut modelled) = (vec![EMPTY; length], vec![EMPTY; length]);
-        let (mut proved, mut model) = (state, state);
-        let got = self.proved.feed(&mut proved, run, &mut record);
-        let expected = Model::FAULTLESS.feed(&mut model, run, &mut modelled);
-        self.tally.fed(&expected);
-        let same = got == expected && proved == model && record == modelled;
-        (!same).then(|| fed_otherwise(&got, &proved, &record, &expected, &model, &modelled))
+    fn state(&mut self, state: State, length: usize, run: &[u8], lending: &Lending) -> Option<Difference> {
+        let mut numbers = state.numbers();
+        numbers[5] *= lending.yes;
+        numbers[6] *= lending.yes;
+        let mut due = Left::new(length, lending.info.length(FEED_FIGURES));
+        due.state = list(&numbers, lending.given.length(STATE_FIGURES));
+        let mut got = due.clone();
+        if due.info.get().len() >= FEED_FIGURES && due.state.get().len() >= STATE_FIGURES {
+            let mut model = State::of(numbers);
+            let fed = Model::FAULTLESS.feed(&mut model, run, due.out.slice());
+            due.tell(&Told::fed(&fed));
+            // The numbers for yes come back as 1, also where the state does not fit.
+            due.state.slice()[..STATE_FIGURES].copy_from_slice(&model.numbers());
+        }
+        got.answer = self.proved.feed(got.state.slice(), run, got.out.slice(), got.info.slice());
+        self.same("feed", &got, &due)
     }
 
-    fn fragment(&mut self, message: &[u8], room: usize, start: usize) -> Option<Difference> {
-        let (mut due, mut out) = (vec![EMPTY; room], vec![EMPTY; room]);
-        let expected = self.truth.fragment(message, &mut due, start);
-        self.tally.wrote(&expected);
-        let got = self.proved.fragment(message, &mut out, start);
-        (got != expected || out != due)
-            .then(|| Difference { proved: lines::wrote(got, &out), expected: lines::wrote(expected, &due) })
+    fn fragment(&mut self, message: &[u8], room: usize, start: usize, lending: &Lending) -> Option<Difference> {
+        let mut due = Left::new(room, lending.info.length(WRITE_FIGURES));
+        let mut got = due.clone();
+        if due.info.get().len() >= WRITE_FIGURES {
+            let wrote = self.truth.fragment(message, due.out.slice(), start);
+            due.tell(&Told::wrote(&wrote));
+        }
+        got.answer = self.proved.fragment(message, got.out.slice(), start, got.info.slice());
+        self.same("fragment", &got, &due)
+    }
+
+    /// Whether the answer and all that was lent are the same, what lies around it too.
+    fn same(&mut self, function: &'static str, got: &Left, due: &Left) -> Option<Difference> {
+        self.tally.due(function, due.answer);
+        (got != due).then(|| differ(got, due))
     }
 }
 
-/// Whether the buffer begins with the bytes that are due, and is empty for a way behind them.
-fn holds(out: &[u8], due: &[u8]) -> bool {
-    let (written, rest) = out.split_at(due.len());
-    written == due && rest.iter().take(BEHIND).all(|byte| *byte == EMPTY)
-}
-
-fn fed_otherwise(got: &Fed, state: &State, record: &[u8], expected: &Fed, model: &State, modelled: &[u8]) -> Difference {
-    Difference {
-        proved: lines::fed(got, None) + &lines::state_and_buffer(state, record),
-        expected: lines::fed(expected, None) + &lines::state_and_buffer(model, modelled),
-    }
+fn differ(got: &Left, due: &Left) -> Difference {
+    Difference { proved: got.to_string(), expected: due.to_string() }
 }
 
 fn record_otherwise(got: Option<(&[u8], usize)>, due: Option<&(Vec<u8>, usize)>) -> Difference {
     let text = |record: Option<(&[u8], usize)>| {
-        record.map_or(String::from("no record"), |(bytes, end)| format!("record {} ending at {end}", lines::hex(bytes)))
+        record.map_or(String::from("no record"), |(bytes, end)| format!("record {} ending at {end}", hex(bytes)))
     };
     Difference { proved: text(got), expected: text(due.map(|(bytes, end)| (bytes.as_slice(), *end))) }
 }

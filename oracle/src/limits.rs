@@ -1,6 +1,7 @@
 //! Messages at the bound: of 1,048,576 bytes, of one less and of one more. The program `limits` asks the proved code the
 //! same. Such bytes are too long for a line: they are made by a rule, and a line names them by their length and a digest.
 use crate::answers::{Choice, Fed, State, BOUND};
+use crate::lent::EMPTY;
 use crate::lines::refusal;
 use crate::model::Model;
 use crate::shapes::kind;
@@ -8,9 +9,6 @@ use crate::truth::Truth;
 
 /// The length of every output buffer that is not named, and of the longest stream.
 const ROOM: usize = BOUND + 8;
-
-/// What stands in a buffer before anything is written into it.
-const EMPTY: u8 = 0xEE;
 
 /// All questions, each with its answer.
 pub fn lines() -> Vec<String> {

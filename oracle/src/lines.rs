@@ -2,7 +2,7 @@
 use std::fmt::Write;
 
 use crate::answers::{Choice, Fed, Refusal, State, Took};
-use crate::cases::Case;
+use crate::cases::Question;
 use crate::shapes::KINDS;
 
 /// The longest line that is read.
@@ -78,13 +78,24 @@ pub fn wrote(answer: Result<usize, u32>, out: &[u8]) -> String {
     }
 }
 
-impl Case {
-    /// The line by which the program `answers` can be asked the same.
+impl Question {
+    /// The line by which the program `answers` can be asked the same. Where there is none, the function's name and what it
+    /// is given, in the order of include/yugerzat.h.
     pub fn line(&self) -> String {
         match self {
-            Case::Read { kind, at, message, .. } => format!("read {} {at} {}", KINDS[*kind].0, hex(message)),
-            Case::Choose { seen, room, message } => format!("choose {} {room} {}", u8::from(*seen), hex(message)),
-            Case::Feed { capacity, runs } => {
+            Question::Read { kind, at, message, .. } => {
+                let name = KINDS.get(*kind as usize).map_or(kind.to_string(), |(name, _)| String::from(*name));
+                format!("read {name} {at} {}", hex(message))
+            },
+            Question::Value { value, at, message } => format!("{} {} {at}", value.reader(), hex(message)),
+            Question::AuthUnix { at, count, message } => format!("read_auth_unix {} {at} {count}", hex(message)),
+            Question::Write { value, source, fields, room, start } => {
+                let source = if value.pieces().is_empty() { String::new() } else { format!(" {}", hex(source)) };
+                format!("{}{source} {fields:?} {room} {start}", value.writer())
+            },
+            Question::Part { message, at, count } => format!("part {} {at} {count}", hex(message)),
+            Question::Choose { seen, room, message } => format!("choose {} {room} {}", u8::from(*seen), hex(message)),
+            Question::Feed { capacity, runs } => {
                 let mut line = format!("feed {capacity}");
                 for run in runs.iter().filter(|run| !run.is_empty()) {
                     line += " ";
@@ -92,12 +103,12 @@ impl Case {
                 }
                 line
             },
-            Case::State { state, length, run } => {
+            Question::State { state, length, run } => {
                 let State { capacity, placed, count, value, left, last, stopped } = state;
                 let (last, stopped) = (u8::from(*last), u8::from(*stopped));
                 format!("state {capacity} {placed} {count} {value} {left} {last} {stopped} {length} {}", hex(run))
             },
-            Case::Fragment { message, room, start } => format!("fragment {} {room} {start}", hex(message)),
+            Question::Fragment { message, room, start } => format!("fragment {} {room} {start}", hex(message)),
         }
     }
 }

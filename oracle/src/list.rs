@@ -5,7 +5,7 @@ use std::path::Path;
 
 use crate::answers::State;
 use crate::captured;
-use crate::cases::{append_call, append_message, cuts, damage, state, stream, Case, Room, Style};
+use crate::cases::{append_call, append_message, cuts, damage, state, stream, Question, Room, Style};
 use crate::lines::hex;
 use crate::random::Random;
 use crate::shapes::{Shape, KINDS};
@@ -104,7 +104,7 @@ fn made(random: &mut Random, kind: usize, style: Style) -> Vec<u8> {
 }
 
 fn read_line(kind: usize, at: usize, message: &[u8]) -> String {
-    Case::Read { kind, at, message: message.to_vec(), room: Room::Ample }.line()
+    Question::Read { kind: kind as u32, at, message: message.to_vec(), room: Room::Ample }.line()
 }
 
 fn readings(random: &mut Random, kind: usize, list: &mut Vec<String>) {
@@ -195,7 +195,7 @@ fn choices(random: &mut Random, list: &mut Vec<String>) {
         }
         left -= 1;
         let room = if random.once_in(3) { random.below(40) } else { 24 };
-        list.push(Case::Choose { seen: random.once_in(4), room, message: bytes }.line());
+        list.push(Question::Choose { seen: random.once_in(4), room, message: bytes }.line());
     }
 }
 
@@ -207,13 +207,13 @@ fn streams(random: &mut Random, list: &mut Vec<String>) {
             continue;
         }
         left -= 1;
-        list.push(Case::Feed { capacity, runs: cuts(random, &bytes) }.line());
+        list.push(Question::Feed { capacity, runs: cuts(random, &bytes) }.line());
     }
     let mut left = 200;
     while left > 0 {
         let case = state(random);
         // The header's count and value are kept to what a word can hold.
-        if let Case::State { state: State { count, value, .. }, length, .. } = &case {
+        if let Question::State { state: State { count, value, .. }, length, .. } = &case {
             if *count <= u64::from(u32::MAX) && *value <= u64::from(u32::MAX) && *length <= SHORT {
                 left -= 1;
                 list.push(case.line());
@@ -226,7 +226,7 @@ fn streams(random: &mut Random, list: &mut Vec<String>) {
         for (room, start) in
             [(length + 4, 0), (length + 9, 3), (length + 3, 0), (length + 6, 3), (3, 3), (3, 4), (0, 0), (0, 1)]
         {
-            list.push(Case::Fragment { message: message.clone(), room, start }.line());
+            list.push(Question::Fragment { message: message.clone(), room, start }.line());
         }
     }
 }

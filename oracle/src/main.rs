@@ -3,10 +3,12 @@ mod answers;
 mod captured;
 mod cases;
 mod compare;
+mod lent;
 mod limits;
 mod lines;
 mod list;
 mod model;
+mod odd;
 mod proved;
 mod questions;
 mod random;
@@ -14,8 +16,10 @@ mod run;
 mod shapes;
 mod tally;
 mod truth;
+mod values;
 
-use std::io::{BufWriter, Write};
+use std::io::{BufRead, BufWriter, Write};
+use std::panic::{catch_unwind, AssertUnwindSafe};
 use std::path::Path;
 use std::process::ExitCode;
 
@@ -27,28 +31,40 @@ fn main() -> ExitCode {
             (Ok(count), Ok(seed)) => ExitCode::from(u8::from(run::run(count, seed) != 0)),
             _ => usage(),
         },
-        ["faults"] => print(model::Fault::ALL.iter().map(|(_, name)| String::from(*name))),
+        ["faults"] => print(model::Fault::ALL.iter().map(|(_, name)| *name)),
+        ["odd", count, seed] => match (count.parse(), seed.parse()) {
+            (Ok(count), Ok(seed)) => print(odd::lines(count, seed)),
+            _ => usage(),
+        },
         ["list", captures] => match list::lines(Path::new(captures)) {
-            Ok(lines) => print(lines.into_iter()),
+            Ok(lines) => print(lines),
             Err(error) => {
                 eprintln!("oracle: the captures in {captures} cannot be read: {error}");
                 ExitCode::FAILURE
             },
         },
-        ["limits"] => print(limits::lines().into_iter()),
-        ["answer"] => {
-            let mut truth = truth::Truth::new();
-            let lines = std::io::stdin().lines().map_while(Result::ok);
-            print(lines.map(|line| questions::answer(&mut truth, &line)))
-        },
+        ["limits"] => print(limits::lines()),
+        ["answer"] => print(answers_to(std::io::stdin().lock())),
         _ => usage(),
     }
 }
 
-fn print(lines: impl Iterator<Item = String>) -> ExitCode {
+/// The answers to the lines of an input, which may be any bytes. What a side is sure of may fail: no answer is known then,
+/// and the next line is answered all the same.
+fn answers_to(input: impl BufRead) -> impl Iterator<Item = String> {
+    let mut truth = truth::Truth::new();
+    input.split(b'\n').map_while(Result::ok).map(move |line| {
+        catch_unwind(AssertUnwindSafe(|| questions::answer(&mut truth, &line))).unwrap_or_else(|_| {
+            truth = truth::Truth::new();
+            String::from("broke off")
+        })
+    })
+}
+
+fn print<T: AsRef<[u8]>>(lines: impl IntoIterator<Item = T>) -> ExitCode {
     let mut out = BufWriter::new(std::io::stdout().lock());
     for line in lines {
-        writeln!(out, "{line}").expect("standard output can be written");
+        out.write_all(line.as_ref()).and_then(|()| out.write_all(b"\n")).expect("standard output can be written");
     }
     out.flush().expect("standard output can be written");
     ExitCode::SUCCESS
@@ -60,6 +76,7 @@ fn usage() -> ExitCode {
          oracle faults                print the names of the faults that can be planted in the model\n\
          oracle list CAPTURES         print the chosen lines, those of the captures in that folder among them\n\
          oracle limits                print what the program `limits` must print\n\
+         oracle odd COUNT SEED        print odd lines, and as many random ones, most of them damaged\n\
          oracle answer                answer the lines of standard input from the crate and the model"
     );
     ExitCode::from(2)

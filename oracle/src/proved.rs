@@ -1,12 +1,14 @@
-//! The proved side: the functions of the library, or the model in their place.
+//! The proved side: the functions of the library, or the model in their place. Both take slices for the addresses and
+//! lengths of include/yugerzat.h, and give the answer; what they tell beside it is in what was lent.
 pub use side::Proved;
 
 #[cfg(not(feature = "model"))]
 mod side {
-    use crate::answers::{AuthUnix, Choice, Fed, Piece, Refusal, State, Took, Wrote};
+    use crate::values::Value;
 
-    // A lent slice passes as its address and its length. `crates/door` declares the same.
+    // A lent slice passes as its address and its length. include/yugerzat.h declares the same.
     extern "C" {
+        #[rustfmt::skip]
         fn yugerzat_read(
             kind: u32,
             source: *const u8,
@@ -17,15 +19,66 @@ mod side {
             info: *mut u64,
             infos: usize,
         ) -> u32;
-        fn yugerzat_choose(
+        fn yugerzat_judge(message: *const u8, length: usize, at: usize, info: *mut u64, infos: usize) -> u32;
+        #[rustfmt::skip]
+        fn yugerzat_write_call(
             source: *const u8,
             length: usize,
-            seen: u32,
+            fields: *const u64,
+            count: usize,
             out: *mut u8,
             room: usize,
+            start: usize,
             info: *mut u64,
             infos: usize,
         ) -> u32;
+        #[rustfmt::skip]
+        fn yugerzat_read_auth_unix(
+            message: *const u8,
+            length: usize,
+            at: usize,
+            count: usize,
+            info: *mut u64,
+            infos: usize,
+        ) -> u32;
+        fn yugerzat_read_fattr3(source: *const u8, length: usize, at: usize, info: *mut u64, infos: usize) -> u32;
+        #[rustfmt::skip]
+        fn yugerzat_write_fattr3(
+            fields: *const u64,
+            count: usize,
+            out: *mut u8,
+            room: usize,
+            start: usize,
+            info: *mut u64,
+            infos: usize,
+        ) -> u32;
+        fn yugerzat_read_sattr3(source: *const u8, length: usize, at: usize, info: *mut u64, infos: usize) -> u32;
+        #[rustfmt::skip]
+        fn yugerzat_write_sattr3(
+            fields: *const u64,
+            count: usize,
+            out: *mut u8,
+            room: usize,
+            start: usize,
+            info: *mut u64,
+            infos: usize,
+        ) -> u32;
+        fn yugerzat_read_diropargs3(source: *const u8, length: usize, at: usize, info: *mut u64, infos: usize) -> u32;
+        #[rustfmt::skip]
+        fn yugerzat_write_diropargs3(
+            source: *const u8,
+            length: usize,
+            fields: *const u64,
+            count: usize,
+            out: *mut u8,
+            room: usize,
+            start: usize,
+            info: *mut u64,
+            infos: usize,
+        ) -> u32;
+        #[rustfmt::skip]
+        fn yugerzat_part(message: *const u8, length: usize, at: usize, count: usize, info: *mut u64, infos: usize) -> u32;
+        #[rustfmt::skip]
         fn yugerzat_feed(
             state: *mut u64,
             states: usize,
@@ -36,6 +89,7 @@ mod side {
             info: *mut u64,
             infos: usize,
         ) -> u32;
+        #[rustfmt::skip]
         fn yugerzat_fragment(
             message: *const u8,
             length: usize,
@@ -45,149 +99,109 @@ mod side {
             info: *mut u64,
             infos: usize,
         ) -> u32;
+        #[rustfmt::skip]
+        fn yugerzat_choose(
+            message: *const u8,
+            length: usize,
+            seen: u32,
+            out: *mut u8,
+            room: usize,
+            info: *mut u64,
+            infos: usize,
+        ) -> u32;
     }
-
-    /// Answers that are no refusal.
-    const TAKEN: u32 = 0;
-    const FIRST: u32 = 100;
-    const SECOND: u32 = 101;
-    const THIRD: u32 = 102;
-
-    /// What stands in a number that the library did not write.
-    const UNTOUCHED: u64 = 0xEEEE_EEEE_EEEE_EEEE;
 
     pub struct Proved;
 
+    // Each address comes with the length of the slice it was taken from, and what is written overlaps nothing else: the
+    // borrow checker sees to it. So every call below is sound.
     impl Proved {
         pub fn new() -> Proved {
             Proved
         }
 
-        /// Reads a message of the kind at a place; its rewriting is put at the start of `out`.
-        pub fn read(&mut self, kind: usize, source: &[u8], at: usize, out: &mut [u8]) -> Result<Took, Refusal> {
-            let mut info = [UNTOUCHED; 4];
-            // SAFETY: each address comes with the length of the slice it was taken from.
-            let answer = unsafe {
-                yugerzat_read(
-                    kind as u32,
-                    source.as_ptr(),
-                    source.len(),
-                    at,
-                    out.as_mut_ptr(),
-                    out.len(),
-                    info.as_mut_ptr(),
-                    info.len(),
-                )
-            };
-            match answer {
-                TAKEN => Ok(Took { next: info[0] as usize, plain: info[1] != 0, length: info[2] as usize }),
-                number => Err(refusal(number, info[0])),
-            }
-        }
-
-        pub fn choose(&mut self, message: &[u8], seen: bool, out: &mut [u8]) -> Choice {
-            let mut info = [UNTOUCHED; 12];
+        pub fn read(&self, kind: u32, source: &[u8], at: usize, out: &mut [u8], info: &mut [u64]) -> u32 {
+            let (length, room, infos) = (source.len(), out.len(), info.len());
             // SAFETY: as above.
-            let answer = unsafe {
-                yugerzat_choose(
-                    message.as_ptr(),
-                    message.len(),
-                    u32::from(seen),
-                    out.as_mut_ptr(),
-                    out.len(),
-                    info.as_mut_ptr(),
-                    info.len(),
-                )
-            };
-            match answer {
-                FIRST => Choice::HandOver {
-                    program: info[0] as u32,
-                    version: info[1] as u32,
-                    procedure: info[2] as u32,
-                    arguments: info[3] as usize,
-                    auth_unix: (info[4] != 0).then(|| AuthUnix {
-                        stamp: info[5] as u32,
-                        name: Piece { place: info[6] as usize, count: info[7] as usize },
-                        uid: info[8] as u32,
-                        gid: info[9] as u32,
-                        gids: Piece { place: info[10] as usize, count: info[11] as usize },
-                    }),
-                },
-                SECOND => Choice::Reply,
-                THIRD => Choice::Silence,
-                number => Choice::Refused(refusal(number, info[0])),
-            }
+            unsafe { yugerzat_read(kind, source.as_ptr(), length, at, out.as_mut_ptr(), room, info.as_mut_ptr(), infos) }
         }
 
-        pub fn feed(&mut self, state: &mut State, run: &[u8], record: &mut [u8]) -> Fed {
-            let State { capacity, placed, count, value, left, last, stopped } = *state;
-            let mut numbers = [capacity, placed, count, value, left, u64::from(last), u64::from(stopped)];
-            let mut info = [UNTOUCHED; 4];
+        /// The reader of a value at a place of a message.
+        pub fn value(&self, value: Value, message: &[u8], at: usize, info: &mut [u64]) -> u32 {
+            let reader = match value {
+                Value::Message => yugerzat_judge,
+                Value::AuthUnix => unreachable!("an auth_unix is read in a body"),
+                Value::Fattr3 => yugerzat_read_fattr3,
+                Value::Sattr3 => yugerzat_read_sattr3,
+                Value::Diropargs3 => yugerzat_read_diropargs3,
+            };
             // SAFETY: as above.
-            let answer = unsafe {
-                yugerzat_feed(
-                    numbers.as_mut_ptr(),
-                    numbers.len(),
-                    run.as_ptr(),
-                    run.len(),
-                    record.as_mut_ptr(),
-                    record.len(),
-                    info.as_mut_ptr(),
-                    info.len(),
-                )
-            };
-            let [capacity, placed, count, value, left, last, stopped] = numbers;
-            assert!(last < 2 && stopped < 2, "a yes or no of the state is {last} or {stopped}");
-            *state = State { capacity, placed, count, value, left, last: last != 0, stopped: stopped != 0 };
-            let used = info[0] as usize;
-            match answer {
-                FIRST => Fed::More { used },
-                SECOND => Fed::Complete { length: info[1] as usize, used },
-                number => Fed::Refused { number, used },
-            }
+            unsafe { reader(message.as_ptr(), message.len(), at, info.as_mut_ptr(), info.len()) }
         }
 
-        pub fn fragment(&mut self, message: &[u8], out: &mut [u8], start: usize) -> Wrote {
-            let mut info = [UNTOUCHED; 4];
+        pub fn auth_unix(&self, message: &[u8], at: usize, count: usize, info: &mut [u64]) -> u32 {
             // SAFETY: as above.
-            let answer = unsafe {
-                yugerzat_fragment(
-                    message.as_ptr(),
-                    message.len(),
-                    out.as_mut_ptr(),
-                    out.len(),
-                    start,
-                    info.as_mut_ptr(),
-                    info.len(),
-                )
-            };
-            if answer == TAKEN {
-                Ok(info[0] as usize)
-            } else {
-                Err(answer)
+            unsafe { yugerzat_read_auth_unix(message.as_ptr(), message.len(), at, count, info.as_mut_ptr(), info.len()) }
+        }
+
+        /// The writer of a value; those without pieces take no source.
+        pub fn write(
+            &self,
+            value: Value,
+            source: &[u8],
+            fields: &[u64],
+            out: &mut [u8],
+            start: usize,
+            info: &mut [u64],
+        ) -> u32 {
+            let (from, length) = (source.as_ptr(), source.len());
+            let (list, count) = (fields.as_ptr(), fields.len());
+            let (room, infos) = (out.len(), info.len());
+            let (out, info) = (out.as_mut_ptr(), info.as_mut_ptr());
+            // SAFETY: as above.
+            unsafe {
+                match value {
+                    Value::Message => yugerzat_write_call(from, length, list, count, out, room, start, info, infos),
+                    Value::AuthUnix => unreachable!("there is no such writer"),
+                    Value::Fattr3 => yugerzat_write_fattr3(list, count, out, room, start, info, infos),
+                    Value::Sattr3 => yugerzat_write_sattr3(list, count, out, room, start, info, infos),
+                    Value::Diropargs3 => yugerzat_write_diropargs3(from, length, list, count, out, room, start, info, infos),
+                }
             }
         }
-    }
 
-    fn refusal(number: u32, place: u64) -> Refusal {
-        let refusal = Refusal::plain(number);
-        if refusal.has_place() {
-            Refusal { number, place: place as usize }
-        } else {
-            refusal
+        pub fn part(&self, message: &[u8], at: usize, count: usize, info: &mut [u64]) -> u32 {
+            // SAFETY: as above.
+            unsafe { yugerzat_part(message.as_ptr(), message.len(), at, count, info.as_mut_ptr(), info.len()) }
+        }
+
+        pub fn feed(&self, state: &mut [u64], run: &[u8], record: &mut [u8], info: &mut [u64]) -> u32 {
+            let (states, length, room, infos) = (state.len(), run.len(), record.len(), info.len());
+            let (state, record, info) = (state.as_mut_ptr(), record.as_mut_ptr(), info.as_mut_ptr());
+            // SAFETY: as above.
+            unsafe { yugerzat_feed(state, states, run.as_ptr(), length, record, room, info, infos) }
+        }
+
+        pub fn fragment(&self, message: &[u8], out: &mut [u8], start: usize, info: &mut [u64]) -> u32 {
+            let (length, room, infos) = (message.len(), out.len(), info.len());
+            // SAFETY: as above.
+            unsafe { yugerzat_fragment(message.as_ptr(), length, out.as_mut_ptr(), room, start, info.as_mut_ptr(), infos) }
+        }
+
+        pub fn choose(&self, message: &[u8], seen: u32, out: &mut [u8], info: &mut [u64]) -> u32 {
+            let (length, room, infos) = (message.len(), out.len(), info.len());
+            // SAFETY: as above.
+            unsafe { yugerzat_choose(message.as_ptr(), length, seen, out.as_mut_ptr(), room, info.as_mut_ptr(), infos) }
         }
     }
 }
 
 #[cfg(feature = "model")]
 mod side {
-    use crate::answers::{Choice, Fed, Refusal, State, Took, Wrote};
     use crate::model::{Fault, Model};
+    use crate::values::Value;
 
-    pub struct Proved {
-        model: Model,
-        rewriting: Vec<u8>,
-    }
+    pub struct Proved(Model);
 
     impl Proved {
         /// The model, with the fault that the environment variable FAULT names.
@@ -196,28 +210,47 @@ mod side {
                 let fault = Fault::ALL.iter().find(|(_, known)| *known == name);
                 fault.unwrap_or_else(|| panic!("no fault is called {name}")).0
             });
-            Proved { model: Model::with(fault), rewriting: Vec::new() }
+            Proved(Model::with(fault))
         }
 
-        pub fn read(&mut self, kind: usize, source: &[u8], at: usize, out: &mut [u8]) -> Result<Took, Refusal> {
-            let took = self.model.read(kind, source, at, &mut self.rewriting).answer?;
-            if took.length > out.len() {
-                return Err(Refusal::plain(5));
-            }
-            out[..took.length].copy_from_slice(&self.rewriting);
-            Ok(took)
+        pub fn read(&self, kind: u32, source: &[u8], at: usize, out: &mut [u8], info: &mut [u64]) -> u32 {
+            self.0.exported_read(kind, source, at, out, info)
         }
 
-        pub fn choose(&mut self, message: &[u8], seen: bool, out: &mut [u8]) -> Choice {
-            self.model.choose(message, seen, out).choice
+        pub fn value(&self, value: Value, message: &[u8], at: usize, info: &mut [u64]) -> u32 {
+            self.0.exported_value(value, message, at, info)
         }
 
-        pub fn feed(&mut self, state: &mut State, run: &[u8], record: &mut [u8]) -> Fed {
-            self.model.feed(state, run, record)
+        pub fn auth_unix(&self, message: &[u8], at: usize, count: usize, info: &mut [u64]) -> u32 {
+            self.0.exported_auth_unix(message, at, count, info)
         }
 
-        pub fn fragment(&mut self, message: &[u8], out: &mut [u8], start: usize) -> Wrote {
-            self.model.fragment(message, out, start)
+        pub fn write(
+            &self,
+            value: Value,
+            source: &[u8],
+            fields: &[u64],
+            out: &mut [u8],
+            start: usize,
+            info: &mut [u64],
+        ) -> u32 {
+            self.0.exported_write(value, source, fields, out, start, info)
+        }
+
+        pub fn part(&self, message: &[u8], at: usize, count: usize, info: &mut [u64]) -> u32 {
+            self.0.exported_part(message, at, count, info)
+        }
+
+        pub fn feed(&self, state: &mut [u64], run: &[u8], record: &mut [u8], info: &mut [u64]) -> u32 {
+            self.0.exported_feed(state, run, record, info)
+        }
+
+        pub fn fragment(&self, message: &[u8], out: &mut [u8], start: usize, info: &mut [u64]) -> u32 {
+            self.0.exported_fragment(message, out, start, info)
+        }
+
+        pub fn choose(&self, message: &[u8], seen: u32, out: &mut [u8], info: &mut [u64]) -> u32 {
+            self.0.exported_choose(message, seen, out, info)
         }
     }
 }

@@ -1,17 +1,15 @@
 //! Answers the lines of VECTORS.md as the program `answers` must: from the crate, and where it cannot tell, from the model.
 use crate::answers::{Fed, State, BOUND};
+use crate::lent::EMPTY;
 use crate::lines;
 use crate::model::Model;
 use crate::shapes::kind;
 use crate::truth::Truth;
 
-/// What stands in a buffer before anything is written into it.
-const EMPTY: u8 = 0xEE;
-
-/// The answer to a line; `?` if the line has not the form of any.
-pub fn answer(truth: &mut Truth, line: &str) -> String {
-    let words: Vec<&str> = line.split(' ').collect();
-    let known = if line.len() > lines::LONGEST { None } else { try_answer(truth, &words) };
+/// The answer to a line; `?` if the line has not the form of any. A line may have any bytes.
+pub fn answer(truth: &mut Truth, line: &[u8]) -> String {
+    let text = std::str::from_utf8(line).ok().filter(|line| line.len() <= lines::LONGEST);
+    let known = text.and_then(|line| try_answer(truth, &line.split(' ').collect::<Vec<&str>>()));
     known.unwrap_or(String::from("?"))
 }
 
@@ -22,14 +20,14 @@ fn try_answer(truth: &mut Truth, words: &[&str]) -> Option<String> {
             Some(lines::reading(&answer, &truth.rewriting))
         },
         ["write", name, at, bytes, room, start] => {
-            let (room, start) = (number(room)?, number(start)?);
+            let (mut out, start) = (buffer(room)?, number(start)?);
             match truth.read(kind(name)?, &unhex(bytes)?, number(at)?) {
-                Ok(_) => Some(write(&truth.rewriting, room, start)),
+                Ok(_) => Some(write(&truth.rewriting, &mut out, start)),
                 Err(refusal) => Some(lines::refusal(&refusal)),
             }
         },
         ["fragment", bytes, room, start] => {
-            let mut out = vec![EMPTY; number(room)?];
+            let mut out = buffer(room)?;
             let wrote = truth.fragment(&unhex(bytes)?, &mut out, number(start)?);
             Some(lines::wrote(wrote, &out))
         },
@@ -47,12 +45,12 @@ fn try_answer(truth: &mut Truth, words: &[&str]) -> Option<String> {
                 last: yes(last)?,
                 stopped: yes(stopped)?,
             };
-            let mut record = vec![EMPTY; number(length)?];
+            let mut record = buffer(length)?;
             let fed = Model::FAULTLESS.feed(&mut state, &unhex(run)?, &mut record);
             Some(lines::fed(&fed, None) + &lines::state_and_buffer(&state, &record))
         },
         ["choose", seen, room, bytes] => {
-            let mut out = vec![EMPTY; number(room)?];
+            let mut out = buffer(room)?;
             let choice = truth.choose(&unhex(bytes)?, yes(seen)?, &mut out);
             Some(lines::choice(&choice, &out))
         },
@@ -64,22 +62,22 @@ fn try_answer(truth: &mut Truth, words: &[&str]) -> Option<String> {
 
 /// Bytes of a message written from a place of a buffer on. (A source over the bound is refused when it is read, a
 /// piece that was just read lies inside, and no rewriting of so short a line is over the bound: 9 and 5 are left.)
-fn write(rewriting: &[u8], room: usize, start: usize) -> String {
-    let mut out = vec![EMPTY; room];
-    if start > room {
-        return lines::wrote(Err(9), &out);
+fn write(rewriting: &[u8], out: &mut [u8], start: usize) -> String {
+    if start > out.len() {
+        return lines::wrote(Err(9), out);
     }
     let next = start + rewriting.len();
     match out.get_mut(start..next) {
-        None => lines::wrote(Err(5), &out),
+        None => lines::wrote(Err(5), out),
         Some(place) => {
             place.copy_from_slice(rewriting);
-            lines::wrote(Ok(next), &out)
+            lines::wrote(Ok(next), out)
         },
     }
 }
 
-/// The model's answers, after a look whether the crate makes the same records of the stream.
+/// The model's answers, after a look whether the crate makes the same records of the stream. Each run is fed once at
+/// least, an empty one too.
 fn feed(truth: &mut Truth, capacity: usize, runs: &[Vec<u8>]) -> String {
     if capacity > BOUND {
         return String::from("refused 3");
@@ -89,7 +87,7 @@ fn feed(truth: &mut Truth, capacity: usize, runs: &[Vec<u8>]) -> String {
     let (mut text, mut records) = (Vec::new(), Vec::new());
     'runs: for run in runs {
         let mut rest: &[u8] = run;
-        while !rest.is_empty() {
+        loop {
             let fed = Model::FAULTLESS.feed(&mut state, rest, &mut record);
             match fed {
                 Fed::More { used } => {
@@ -106,6 +104,9 @@ fn feed(truth: &mut Truth, capacity: usize, runs: &[Vec<u8>]) -> String {
                     break 'runs;
                 },
             }
+            if rest.is_empty() {
+                break;
+            }
         }
     }
     let (crates, _) = truth.records(&runs.concat(), capacity);
@@ -120,6 +121,11 @@ fn part(source: &[u8], place: usize, count: usize, width: usize) -> String {
         return String::from("outside -");
     }
     format!("inside {}", lines::hex(&source[place..end as usize]))
+}
+
+/// A buffer of as many bytes as a word says; there is none of more than the bound.
+fn buffer(text: &str) -> Option<Vec<u8>> {
+    number(text).filter(|length| *length <= BOUND).map(|length| vec![EMPTY; length])
 }
 
 fn number(text: &str) -> Option<usize> {
@@ -152,6 +158,7 @@ fn unhex(text: &str) -> Option<Vec<u8>> {
 #[cfg(test)]
 mod tests {
     use super::answer;
+    use crate::lines::LONGEST;
     use crate::truth::Truth;
 
     /// The examples of VECTORS.md, and the worked bytes of document 01 that they leave out.
@@ -187,11 +194,56 @@ mod tests {
         ("part 0011223344 3 3", "outside -"),
     ];
 
+    /// What document 01 leaves to the program: docs/DECISIONS.md says how it was decided.
+    const DECIDED: &[(&[u8], &str)] = &[
+        (b"", "?"),
+        (b" ", "?"),
+        (b"feed 1", "?"),
+        (b"feed 1 ", "?"),
+        (b"feed 1 -", "more 0; state 1 0 0 0 0 0 0; buffer ee"),
+        (b"feed 1 - 80 -", "more 0; more 1; more 0; state 1 0 1 128 0 0 0; buffer ee"),
+        (b"feed 0 80000000 -", "complete 0 4 -; more 0; state 0 0 0 0 0 0 0; buffer -"),
+        (b"feed 0 8000000000", "complete 0 4 -; more 1; state 0 0 1 0 0 0 0; buffer -"),
+        (b"feed 0 80000001 -", "refused 7 4; state 0 0 0 0 0 0 1; buffer -"),
+        (b"feed 1048577 -", "refused 3"),
+        (b"feed 1048577 0", "?"),
+        (b"feed 18446744073709551615 00", "refused 3"),
+        (b"fragment - 1048577 0", "?"),
+        (b"fragment - 18446744073709551615 0", "?"),
+        (b"fragment - 0 18446744073709551615", "refused 9 -"),
+        (b"write bool 0 00000001 1048577 0", "?"),
+        (b"write bool 0 - 1048577 0", "?"),
+        (b"choose 0 1048577 0000002a00000002", "?"),
+        (b"state 1048577 0 0 0 0 0 0 1048577 -", "?"),
+        (b"state 18446744073709551615 0 0 0 0 0 0 0 -", "refused 6 0; state 18446744073709551615 0 0 0 0 0 0; buffer -"),
+        (b"part 00 0000000000000000000000 1", "inside 00"),
+        (b"part 00 18446744073709551616 0", "?"),
+        (b"part 00 0 1\r", "?"),
+        (b"part 00 0 \xff", "?"),
+    ];
+
     #[test]
     fn worked_bytes() {
         let mut truth = Truth::new();
         for (line, expected) in WORKED {
-            assert_eq!(answer(&mut truth, line), *expected, "{line}");
+            assert_eq!(answer(&mut truth, line.as_bytes()), *expected, "{line}");
         }
+    }
+
+    #[test]
+    fn decided_lines() {
+        let mut truth = Truth::new();
+        for (line, expected) in DECIDED {
+            assert_eq!(answer(&mut truth, line), *expected, "{}", line.escape_ascii());
+        }
+    }
+
+    #[test]
+    fn longest_line() {
+        let mut truth = Truth::new();
+        let line = |zeros: usize| ["part 00 ", &"0".repeat(zeros), " 1"].concat();
+        let most = LONGEST - line(0).len();
+        assert_eq!(answer(&mut truth, line(most).as_bytes()), "inside 00");
+        assert_eq!(answer(&mut truth, line(most + 1).as_bytes()), "?");
     }
 }

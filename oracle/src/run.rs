@@ -79,7 +79,7 @@ fn work(progress: &Progress, seed: u64) {
                 let short = |text: &str| text.get(..LONGEST).map_or(text.to_owned(), |start| format!("{start}.."));
                 let line = format!(
                     "case {number}: {} | proved: {} | expected: {}",
-                    short(&case.line()),
+                    short(&case.question.line()),
                     short(&difference.proved),
                     short(&difference.expected)
                 );

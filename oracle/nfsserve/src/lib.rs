@@ -11,9 +11,11 @@ include!(concat!(env!("OUT_DIR"), "/modules.rs"));
 mod filesystem;
 mod reading;
 mod spies;
+mod values;
 
 use spies::{mount_handlers, nfs_handlers, portmap_handlers};
 
 pub use reading::{read, Reading, KINDS};
 pub use rpcwire::{Choice, Records, Wire};
 pub use spies::{HandOver, Handler};
+pub use values::{held, written, Field};

@@ -3,6 +3,7 @@ mod damage;
 mod messages;
 mod numbers;
 mod streams;
+mod values;
 
 pub use damage::damage;
 pub use messages::{append_call, append_message, Style};
@@ -11,15 +12,72 @@ pub use streams::{cuts, state, stream};
 use crate::answers::{State, BOUND};
 use crate::random::Random;
 use crate::shapes::{kind, KINDS};
+use crate::values::Value;
 
-/// One question, as a line of VECTORS.md could put it.
+/// A question, and what is lent with it.
 #[derive(Clone, Debug)]
-pub enum Case {
-    Read { kind: usize, at: usize, message: Vec<u8>, room: Room },
+pub struct Case {
+    pub question: Question,
+    pub lending: Lending,
+}
+
+/// What is asked. Most could be put by a line of VECTORS.md.
+#[derive(Clone, Debug)]
+pub enum Question {
+    Read { kind: u32, at: usize, message: Vec<u8>, room: Room },
+    Value { value: Value, at: usize, message: Vec<u8> },
+    AuthUnix { at: usize, count: usize, message: Vec<u8> },
+    Write { value: Value, source: Vec<u8>, fields: Vec<u64>, room: usize, start: usize },
+    Part { message: Vec<u8>, at: usize, count: usize },
     Choose { seen: bool, room: usize, message: Vec<u8> },
     Feed { capacity: usize, runs: Vec<Vec<u8>> },
     State { state: State, length: usize, run: Vec<u8> },
     Fragment { message: Vec<u8>, room: usize, start: usize },
+}
+
+/// What a line cannot say: the lengths of the lists, and the number that stands for yes.
+#[derive(Clone, Copy, Debug)]
+pub struct Lending {
+    /// The list for the figures.
+    pub info: List,
+    /// The list of a writer's fields, or of the assembler's state.
+    pub given: List,
+    pub yes: u64,
+}
+
+impl Lending {
+    pub const ENOUGH: Lending = Lending { info: List::Over(1), given: List::Over(1), yes: 1 };
+
+    fn any(random: &mut Random) -> Lending {
+        let yes = random.pick(&[1, 1, 1, 2, 1 << 31, 0xFFFF_FFFF, 1 << 32, u64::MAX]);
+        Lending { info: List::any(random), given: List::any(random), yes }
+    }
+}
+
+/// How long a list is.
+#[derive(Clone, Copy, Debug, PartialEq, Eq)]
+pub enum List {
+    /// So many more than the function has figures.
+    Over(usize),
+    /// So many fewer (or none).
+    Under(usize),
+}
+
+impl List {
+    fn any(random: &mut Random) -> List {
+        if random.once_in(40) {
+            List::Under(random.between(1, 19))
+        } else {
+            List::Over(random.below(4))
+        }
+    }
+
+    pub fn length(self, figures: usize) -> usize {
+        match self {
+            List::Over(more) => figures + more,
+            List::Under(fewer) => figures.saturating_sub(fewer),
+        }
+    }
 }
 
 /// The room that a rewriting gets.
@@ -42,50 +100,88 @@ pub fn case(seed: u64, number: u64) -> Case {
     if row % 8 == 0 {
         return cut(&mut Random::of(!seed, row), index as usize);
     }
-    any(&mut Random::of(seed, number))
+    let random = &mut Random::of(seed, number);
+    let question = any(random);
+    Case { question, lending: Lending::any(random) }
 }
 
 /// A message cut to that length, or with so many bytes behind it that it has that length.
 fn cut(random: &mut Random, length: usize) -> Case {
     let (mut bytes, mut words) = (Vec::new(), Vec::new());
-    if random.once_in(4) {
-        append_call(random, &mut bytes, &mut words);
-        bytes.resize(length, 0);
-        return Case::Choose { seen: random.once_in(4), room: 24, message: bytes };
-    }
-    let kind = random.below(KINDS.len());
-    let style = Style::any(random);
-    append_message(random, &KINDS[kind].1, style, &mut bytes, &mut words);
-    bytes.resize(length, 0);
-    Case::Read { kind, at: 0, message: bytes, room: Room::Ample }
+    let question = match random.below(8) {
+        0 | 1 => {
+            append_call(random, &mut bytes, &mut words);
+            bytes.resize(length, 0);
+            Question::Choose { seen: random.once_in(4), room: 24, message: bytes }
+        },
+        2 => {
+            let value = random.pick(&Value::WRITTEN);
+            let style = Style::any(random);
+            let kind = kind(value.kind()).expect("the kind is known");
+            append_message(random, &KINDS[kind].1, style, &mut bytes, &mut words);
+            bytes.resize(length, 0);
+            Question::Value { value, at: 0, message: bytes }
+        },
+        _ => {
+            let kind = random.below(KINDS.len());
+            let style = Style::any(random);
+            append_message(random, &KINDS[kind].1, style, &mut bytes, &mut words);
+            bytes.resize(length, 0);
+            Question::Read { kind: kind as u32, at: 0, message: bytes, room: Room::Ample }
+        },
+    };
+    Case { question, lending: Lending::ENOUGH }
 }
 
-fn any(random: &mut Random) -> Case {
+fn any(random: &mut Random) -> Question {
     match random.below(100) {
-        0..=77 => read(random),
-        78..=89 => choose(random),
+        0..=47 => read(random),
+        48..=60 => values::value(random),
+        61..=64 => values::auth_unix(random),
+        65..=77 => values::write(random),
+        78..=79 => values::part(random),
+        80..=89 => choose(random),
         90..=94 => {
             let (stream, capacity) = stream(random);
-            Case::Feed { capacity, runs: cuts(random, &stream) }
+            Question::Feed { capacity, runs: cuts(random, &stream) }
         },
         95..=97 => state(random),
         _ => fragment(random),
     }
 }
 
-fn read(random: &mut Random) -> Case {
+fn read(random: &mut Random) -> Question {
     // Records and unions have more to go wrong than words.
     let first_record = 18;
     let kind = if random.once_in(3) { random.below(KINDS.len()) } else { random.between(first_record, KINDS.len() - 1) };
+    let (message, at) = message(random, kind);
+    let room = match random.below(16) {
+        0 => Room::Under(random.between(1, 9)),
+        1..=7 => Room::Over(random.below(9)),
+        _ => Room::Ample,
+    };
+    let kind = if random.once_in(200) { unknown(random) } else { kind as u32 };
+    Question::Read { kind, at, message, room }
+}
+
+/// The number of a kind that is not there; some have the low bits of one that is.
+fn unknown(random: &mut Random) -> u32 {
+    let first = KINDS.len() as u32;
+    let known = random.below(KINDS.len()) as u32;
+    let some = random.word();
+    random.pick(&[first, first + 1, 255, 256 + known, 65_536 + known, 1 << 31 | known, u32::MAX, some]).max(first)
+}
+
+/// A message of a kind behind some bytes, mostly damaged, and the place to read it from.
+fn message(random: &mut Random, kind: usize) -> (Vec<u8>, usize) {
     let at = match random.below(8) {
         0 | 1 => random.between(1, 20),
         2 => 4 * random.between(1, 9),
         _ => 0,
     };
-    let mut message = Vec::new();
+    let (mut message, mut words) = (Vec::new(), Vec::new());
     random.append(at, &mut message);
     let style = Style::any(random);
-    let mut words = Vec::new();
     append_message(random, &KINDS[kind].1, style, &mut message, &mut words);
     if random.once_in(4_000) {
         return at_the_bound(random, kind, at, message);
@@ -99,37 +195,32 @@ fn read(random: &mut Random) -> Case {
         2 => usize::MAX - random.below(9),
         _ => at.min(message.len()),
     };
-    let room = match random.below(16) {
-        0 => Room::Under(random.between(1, 9)),
-        1..=7 => Room::Over(random.below(9)),
-        _ => Room::Ample,
-    };
-    Case::Read { kind, at, message, room }
+    (message, at)
 }
 
-/// Messages about as long as refusal 3 allows: with bytes behind the message, before it, or in its last opaque.
-fn at_the_bound(random: &mut Random, asked: usize, at: usize, mut message: Vec<u8>) -> Case {
+/// Messages about as long as refusal 3 allows: with bytes behind the message, before it, or in an opaque that begins it.
+fn at_the_bound(random: &mut Random, asked: usize, at: usize, mut message: Vec<u8>) -> (Vec<u8>, usize) {
     let length = random.between(BOUND - 5, BOUND + 4);
     let spare = length - message.len().min(length);
-    let (mut kind_asked, mut place) = (asked, at);
+    let opaques = ["opaque", "nfsstring", "nfs_fh3", "diropargs3"].map(|name| kind(name).expect("the kind is known"));
     match random.below(3) {
         0 => message.resize(length, 0xA5),
         1 => {
             message.splice(0..0, std::iter::repeat_n(0x5A, spare));
-            place += spare;
+            return (message, at + spare);
         },
-        _ => {
-            kind_asked = kind("opaque").expect("a kind");
-            place = 0;
+        _ if opaques.contains(&asked) || random.once_in(2) => {
             message.clear();
-            message.extend_from_slice(&(length as u32 - 4 - random.below(5) as u32).to_be_bytes());
+            message.extend_from_slice(&(length as u32 - 4 - random.below(9) as u32).to_be_bytes());
             message.resize(length, 0);
+            return (message, 0);
         },
+        _ => message.resize(length, 0),
     }
-    Case::Read { kind: kind_asked, at: place, message, room: Room::Ample }
+    (message, at)
 }
 
-fn choose(random: &mut Random) -> Case {
+fn choose(random: &mut Random) -> Question {
     let mut message = Vec::new();
     let mut words = Vec::new();
     append_call(random, &mut message, &mut words);
@@ -139,10 +230,10 @@ fn choose(random: &mut Random) -> Case {
         damage(random, 0, &mut message, &mut words);
     }
     let room = if random.once_in(4) { random.below(40) } else { 24 };
-    Case::Choose { seen: random.once_in(4), room, message }
+    Question::Choose { seen: random.once_in(4), room, message }
 }
 
-fn fragment(random: &mut Random) -> Case {
+fn fragment(random: &mut Random) -> Question {
     let mut message = Vec::new();
     let length = match random.below(2_000) {
         0 => random.between(BOUND - 2, BOUND + 2),
@@ -150,12 +241,18 @@ fn fragment(random: &mut Random) -> Case {
         _ => random.below(40),
     };
     random.append(length, &mut message);
+    let (room, start) = place_to_write(random, length + 4);
+    Question::Fragment { message, room, start }
+}
+
+/// Room for so many bytes and a place in it: mostly enough, just enough or too little; or a place past the end.
+fn place_to_write(random: &mut Random, length: usize) -> (usize, usize) {
     let start = random.below(12);
     let room = match random.below(8) {
         0 => random.below(start + 1),
-        1 => start + random.below(length + 4),
-        2 => start + length + 4,
-        _ => start + length + 4 + random.below(9),
+        1 => start + random.below(length),
+        2 => start + length,
+        _ => start + length + random.below(9),
     };
-    Case::Fragment { message, room, start }
+    (room, if random.once_in(200) { usize::MAX - random.below(9) } else { start })
 }

@@ -1,6 +1,6 @@
 //! Streams of fragments, the runs they are fed in, and states of the assembler.
 use super::numbers::telling;
-use super::Case;
+use super::Question;
 use crate::answers::{State, BOUND};
 use crate::random::Random;
 
@@ -74,7 +74,7 @@ pub fn cuts(random: &mut Random, stream: &[u8]) -> Vec<Vec<u8>> {
 }
 
 /// A state near the border between those that fit and those that don't, and a run for it.
-pub fn state(random: &mut Random) -> Case {
+pub fn state(random: &mut Random) -> Question {
     let length = if random.once_in(3_000) { random.between(BOUND - 1, BOUND + 1) } else { random.below(24) };
     let near = |border: u64, random: &mut Random| match random.below(24) {
         0..=7 => 0,
@@ -108,5 +108,5 @@ pub fn state(random: &mut Random) -> Case {
         let header = random.below(12) as u32 | (u32::from(random.once_in(2)) << 31);
         run[at..at + 4].copy_from_slice(&header.to_be_bytes());
     }
-    Case::State { state, length, run }
+    Question::State { state, length, run }
 }

@@ -1,7 +1,7 @@
 //! The choice of program.
 use super::{word_at, Fault, Model};
-use crate::answers::{AuthUnix, Choice, Piece, Refusal, BOUND, REPLY};
-use crate::shapes::{AUTH_UNIX, RPC_MSG};
+use crate::answers::{AuthUnix, Choice, Refusal, BOUND};
+use crate::shapes::RPC_MSG;
 
 /// The tags of rpc_body that are declared.
 const CALL: u32 = 0;
@@ -46,28 +46,28 @@ impl Model {
             CALL => self.call(message, seen, arguments, out, claim),
             REPLY_TAG if !self.has(Fault::ReplyTaken) => Err(Refusal::plain(8)),
             // A call of zeros: no credential to read, and its rpcvers is not 2.
-            _ => reply(message, VERSION_MISMATCH, out),
+            _ => self.reply(message, VERSION_MISMATCH, out),
         }
     }
 
     fn call(self, message: &[u8], seen: bool, arguments: usize, out: &mut [u8], claim: &mut u32) -> Result<Choice, Refusal> {
         let version_fits = word_at(message, RPCVERS) == 2;
         if !version_fits && self.has(Fault::CredentialAfterVersion) {
-            return reply(message, VERSION_MISMATCH, out);
+            return self.reply(message, VERSION_MISMATCH, out);
         }
         let auth_unix = self.credential(message, claim)?;
         if seen && self.has(Fault::SeenBeforeVersion) {
             return Ok(Choice::Silence);
         }
         if !version_fits {
-            return reply(message, VERSION_MISMATCH, out);
+            return self.reply(message, VERSION_MISMATCH, out);
         }
         if seen {
             return Ok(Choice::Silence);
         }
         let program = word_at(message, PROGRAM);
         if !HANDED_OVER.contains(&program) {
-            return reply(message, PROGRAM_UNAVAILABLE, out);
+            return self.reply(message, PROGRAM_UNAVAILABLE, out);
         }
         let (version, procedure) = (word_at(message, VERSION), word_at(message, PROCEDURE));
         Ok(Choice::HandOver { program, version, procedure, arguments, auth_unix })
@@ -82,29 +82,15 @@ impl Model {
         if self.has(Fault::CredentialToTheEnd) || end > message.len() {
             end = message.len();
         }
-        let read = self.read_shape(&AUTH_UNIX, &message[..end], BODY, &mut Vec::new());
+        let read = self.auth_unix_in(message, BODY, end - BODY);
         *claim = (*claim).max(read.claim);
-        read.answer?;
-        let name = Piece { place: BODY + 8, count: word_at(message, BODY + 4) as usize };
-        let uid = name.place + name.count.next_multiple_of(4);
-        let gids = Piece { place: uid + 12, count: word_at(message, uid + 8) as usize };
-        Ok(Some(AuthUnix {
-            stamp: word_at(message, BODY),
-            name,
-            uid: word_at(message, uid),
-            gid: word_at(message, uid + 4),
-            gids,
-        }))
+        Ok(Some(AuthUnix::of(&read.answer?[2..])))
     }
-}
 
-fn reply(message: &[u8], words: [u32; 5], out: &mut [u8]) -> Result<Choice, Refusal> {
-    if out.len() < REPLY {
-        return Err(Refusal::plain(5));
+    fn reply(self, message: &[u8], words: [u32; 5], out: &mut [u8]) -> Result<Choice, Refusal> {
+        let mut bytes = message[..4].to_vec();
+        bytes.extend(words.iter().flat_map(|word| word.to_be_bytes()));
+        self.put(&bytes, out, 0).map_err(Refusal::plain)?;
+        Ok(Choice::Reply)
     }
-    out[..4].copy_from_slice(&message[..4]);
-    for (place, word) in out[4..REPLY].chunks_exact_mut(4).zip(words) {
-        place.copy_from_slice(&word.to_be_bytes());
-    }
-    Ok(Choice::Reply)
 }

@@ -32,4 +32,44 @@ faults! {
     SumUnchecked "sum-one-over" "a fragment may pass the record buffer's end by one";
     CompleteLate "complete-late" "an empty last fragment does not complete the record";
     FragmentNotLast "fragment-not-last" "write_fragment leaves out bit 31";
+
+    RefusedKept "refused-kept" "after a refusal only the place is written, and the other figures stay as they were";
+    RefusedPlain "refused-plain" "after a refusal the second figure is 1";
+    RefusedLast "refused-last" "after a refusal the last figure is 1";
+    PlaceAlways "place-always" "a refusal that has no place gives its number for one";
+    NoRoomNext "no-room-next" "where there is no room for the rewriting, the next place is told";
+    UnknownUntouched "unknown-untouched" "a kind that is not there leaves the figures as they were";
+    ShortTouched "short-touched" "a list that is too short is touched";
+    FigureBeyond "figure-beyond" "one figure more than there are is written";
+    ByteBeyond "byte-beyond" "one byte more than is due is written";
+    WrittenInPart "written-in-part" "what has too little room is written as far as it goes";
+    WroteKept "wrote-kept" "a writer that refuses leaves its figure as it was";
+    SilenceTells "silence-tells" "silence has a figure";
+    SeenIfOne "seen-if-one" "only 1 says that a call was seen before";
+    MoreLength "more-length" "a feed that wants more tells a length";
+    YesKept "yes-kept" "the state's yes for last comes back as it was given";
+    MisfitCleared "misfit-cleared" "a state that does not fit comes back fresh";
+    PartWraps "part-wraps" "a piece's end is worked out in 64 bits";
+    PartKept "part-kept" "a piece that is not inside is told as it was asked for";
+
+    JudgePlain "judge-plain" "every header is called plain";
+    VerifierPlace "verifier-place" "a verifier's place is that of its length";
+    DefaultPlace "default-place" "the pieces of a call of zeros are where the reading ended";
+    AcceptStatKept "accept-stat-kept" "an undeclared accept_stat is told as it came";
+    GidsInBytes "gids-in-bytes" "the count of groups is one of bytes";
+    UnixPlaceInBody "unix-place-in-body" "the name's place is counted from the body's start";
+    UnixOutside "unix-outside" "a body that is not inside is refused as a place past the end";
+    TimesSwapped "times-swapped" "the seconds of mtime and ctime are swapped when read";
+    FlagKept "flag-kept" "a flag is told as it came, not as 0 or 1";
+    TimeUnset "time-unset" "a time that the server sets has seconds";
+    PiecesSwapped "pieces-swapped" "a diropargs3's handle and name are swapped when read";
+
+    WriteOrder "write-order" "a fattr3's uid and gid are swapped when written";
+    WritePadDirty "write-pad-dirty" "padding is written that is not zero";
+    WideCut "wide-cut" "a number that does not fit its field is cut";
+    UndeclaredWritten "undeclared-written" "a number that is not declared is written";
+    SetIfOne "set-if-one" "a value is set only if its flag is 1";
+    UnsetLookedAt "unset-looked-at" "a value that is not set must fit its field";
+    PieceBeforeSource "piece-before-source" "pieces are looked at before the source's length";
+    RoomBeforePiece "room-before-piece" "room is looked at before the pieces";
 }

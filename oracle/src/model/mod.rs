@@ -1,15 +1,20 @@
 //! A model of document 01, written from the document. It calls nothing of the crate and nothing of the proved library.
 //!
-//! It has three uses: it fills in what the crate cannot tell (places of refusals, states that don't fit); it tells
+//! It has three uses: it fills in what the crate cannot tell (places of refusals and pieces, states that don't fit); it tells
 //! beforehand how much the crate would allocate for a message; and, with the feature `model`, it stands on the proved
 //! side, where faults can be planted to show that the oracle finds them.
 
 mod choice;
+#[cfg(feature = "model")]
+mod exports;
 mod fault;
 mod reading;
 mod stream;
+mod values;
 
 pub use fault::Fault;
+
+use crate::answers::Wrote;
 
 /// The model, with its planted fault if it has one.
 #[derive(Clone, Copy)]
@@ -27,6 +32,24 @@ impl Model {
 
     fn has(self, fault: Fault) -> bool {
         self.fault == Some(fault)
+    }
+
+    /// Bytes put into a buffer from a place inside it on, if they fit.
+    fn put(self, bytes: &[u8], out: &mut [u8], start: usize) -> Wrote {
+        let room = &mut out[start..];
+        if room.len() < bytes.len() {
+            if self.has(Fault::WrittenInPart) {
+                room.copy_from_slice(&bytes[..room.len()]);
+            }
+            return Err(5);
+        }
+        room[..bytes.len()].copy_from_slice(bytes);
+        if self.has(Fault::ByteBeyond) {
+            if let Some(beyond) = room.get_mut(bytes.len()) {
+                *beyond = 0;
+            }
+        }
+        Ok(start + bytes.len())
     }
 }
 

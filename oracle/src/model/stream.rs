@@ -96,13 +96,9 @@ impl Model {
         if message.len() > BOUND {
             return Err(3);
         }
-        let next = start + 4 + message.len();
-        if next > out.len() {
-            return Err(5);
-        }
         let bit = if self.has(Fault::FragmentNotLast) { 0 } else { LAST as u32 };
-        out[start..start + 4].copy_from_slice(&(message.len() as u32 + bit).to_be_bytes());
-        out[start + 4..next].copy_from_slice(message);
-        Ok(next)
+        let mut bytes = (message.len() as u32 + bit).to_be_bytes().to_vec();
+        bytes.extend_from_slice(message);
+        self.put(&bytes, out, start)
     }
 }

@@ -1,8 +1,11 @@
 //! What the answers must be. The crate is asked wherever it can tell; document 01's own rules (the bound, places past
-//! the end, room) stand in front of it; and the model fills in what the crate has no word for: the places of refusals.
+//! the end, room) stand in front of it; and the model fills in what the crate has no word for: the places of refusals and
+//! of pieces.
+mod values;
+
 use nfsserve::{Handler, Reading, Records, Wire};
 
-use crate::answers::{AuthUnix, Choice, Piece, Refusal, Took, Wrote, BOUND, REPLY};
+use crate::answers::{Choice, Refusal, Took, Wrote, BOUND, REPLY};
 use crate::model::Model;
 
 /// The crate allocates by the claimed length or count before it looks whether so much is there. Above this (and above
@@ -81,7 +84,7 @@ impl Truth {
                     version: noted.version,
                     procedure: noted.procedure,
                     arguments: message.len() - noted.left,
-                    auth_unix: noted.auth_unix.map(|bytes| auth_unix(&bytes, message, &model.choice)),
+                    auth_unix: noted.auth_unix.map(|bytes| values::auth_unix(&bytes, message, &model.choice)),
                 }
             },
             nfsserve::Choice::Replied if out.len() < REPLY => Choice::Refused(Refusal::plain(5)),
@@ -131,29 +134,6 @@ fn placed(refused: Reading, model: Option<Refusal>) -> Refusal {
     };
     let place = model.filter(|refusal| refusal.number == number).map_or(NO_PLACE, |refusal| refusal.place);
     Refusal { number, place }
-}
-
-/// The `auth_unix` that the crate handed over, from the bytes it writes for it. Its pieces have the model's places, if
-/// the message has the crate's bytes there.
-fn auth_unix(bytes: &[u8], message: &[u8], model: &Choice) -> AuthUnix {
-    let word = |at: usize| u32::from_be_bytes([bytes[at], bytes[at + 1], bytes[at + 2], bytes[at + 3]]);
-    let (name, gids) = match model {
-        Choice::HandOver { auth_unix: Some(found), .. } => (found.name.place, found.gids.place),
-        _ => (NO_PLACE, NO_PLACE),
-    };
-    let located = |place: usize, content: &[u8], width: usize| {
-        let stands = message.get(place..).is_some_and(|rest| rest.starts_with(content));
-        Piece { place: if stands { place } else { NO_PLACE }, count: content.len() / width }
-    };
-    let length = word(4) as usize;
-    let uid = 8 + length.next_multiple_of(4);
-    AuthUnix {
-        stamp: word(0),
-        name: located(name, &bytes[8..8 + length], 1),
-        uid: word(uid),
-        gid: word(uid + 4),
-        gids: located(gids, &bytes[uid + 12..], 4),
-    }
 }
 
 /// The place of the first header whose fragment doesn't fit behind what its record has before it.

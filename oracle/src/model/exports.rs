@@ -1,0 +1,166 @@
+//! The model in the library's place: the functions of include/yugerzat.h, with slices for addresses and lengths.
+use super::{Fault, Model};
+use crate::answers::{
+    Choice, Fed, Refusal, State, Told, Wrote, CHOOSE_FIGURES, FEED_FIGURES, PART_FIGURES, READ_FIGURES, SHORT_LIST,
+    STATE_FIGURES, UNKNOWN_KIND, WRITE_FIGURES,
+};
+use crate::shapes::KINDS;
+use crate::values::Value;
+
+impl Model {
+    pub fn exported_read(self, kind: u32, message: &[u8], at: usize, out: &mut [u8], info: &mut [u64]) -> u32 {
+        if info.len() < READ_FIGURES {
+            return self.short_list(info);
+        }
+        if kind as usize >= KINDS.len() {
+            let figures = if self.has(Fault::UnknownUntouched) { Vec::new() } else { vec![0; READ_FIGURES] };
+            return self.tell(Told { answer: UNKNOWN_KIND, figures }, info);
+        }
+        let mut rewriting = Vec::new();
+        let mut answer = self.read(kind as usize, message, at, &mut rewriting).answer;
+        let next = answer.map_or(0, |took| took.next);
+        if answer.is_ok() {
+            if let Err(number) = self.put(&rewriting, out, 0) {
+                answer = Err(Refusal::plain(number));
+            }
+        }
+        let mut told = Told::read(&answer);
+        if told.answer == 5 && self.has(Fault::NoRoomNext) {
+            told.figures[0] = next as u64;
+        }
+        self.tell(told, info)
+    }
+
+    pub fn exported_value(self, value: Value, message: &[u8], at: usize, info: &mut [u64]) -> u32 {
+        if info.len() < value.figures() {
+            return self.short_list(info);
+        }
+        self.tell_value(value, self.value(value, message, at).answer, info)
+    }
+
+    pub fn exported_auth_unix(self, message: &[u8], at: usize, count: usize, info: &mut [u64]) -> u32 {
+        if info.len() < Value::AuthUnix.figures() {
+            return self.short_list(info);
+        }
+        self.tell_value(Value::AuthUnix, self.auth_unix_in(message, at, count).answer, info)
+    }
+
+    fn tell_value(self, value: Value, answer: Result<Vec<u64>, Refusal>, info: &mut [u64]) -> u32 {
+        let told = answer.map_or_else(|refusal| Told::refused(&refusal, value.figures()), Told::done);
+        self.tell(told, info)
+    }
+
+    pub fn exported_write(
+        self,
+        value: Value,
+        source: &[u8],
+        fields: &[u64],
+        out: &mut [u8],
+        start: usize,
+        info: &mut [u64],
+    ) -> u32 {
+        if fields.len() < value.fields() || info.len() < WRITE_FIGURES {
+            return self.short_list(info);
+        }
+        let written = self.written(value, source, fields);
+        let wrote = match written {
+            Err(number) if number > 9 => Err(number),
+            _ if start > out.len() => Err(9),
+            Err(_) if self.has(Fault::RoomBeforePiece) && out.len() - start < 8 => Err(5),
+            Err(number) => Err(number),
+            Ok(bytes) => self.put(&bytes, out, start),
+        };
+        self.tell_wrote(&wrote, info)
+    }
+
+    pub fn exported_part(self, message: &[u8], at: usize, count: usize, info: &mut [u64]) -> u32 {
+        if info.len() < PART_FIGURES {
+            return self.short_list(info);
+        }
+        let mut told = Told::part(self.is_inside(message, at, count), at, count);
+        if told.answer == 4 && self.has(Fault::PartKept) {
+            told.figures = vec![at as u64, count as u64];
+        }
+        self.tell(told, info)
+    }
+
+    pub fn exported_feed(self, state: &mut [u64], run: &[u8], record: &mut [u8], info: &mut [u64]) -> u32 {
+        let (Some(numbers), true) = (state.first_chunk_mut::<STATE_FIGURES>(), info.len() >= FEED_FIGURES) else {
+            return self.short_list(info);
+        };
+        let mut standing = State::of(*numbers);
+        let fed = self.feed(&mut standing, run, record);
+        let mut after = standing.numbers();
+        if self.has(Fault::YesKept) && after[5] == 1 {
+            after[5] = numbers[5].max(1);
+        }
+        if self.has(Fault::MisfitCleared) && matches!(fed, Fed::Refused { number: 6, .. }) {
+            after = State::fresh(after[0]).numbers();
+        }
+        *numbers = after;
+        let mut told = Told::fed(&fed);
+        if self.has(Fault::MoreLength) && matches!(fed, Fed::More { .. }) {
+            told.figures[1] = standing.placed;
+        }
+        self.tell(told, info)
+    }
+
+    pub fn exported_fragment(self, message: &[u8], out: &mut [u8], start: usize, info: &mut [u64]) -> u32 {
+        if info.len() < WRITE_FIGURES {
+            return self.short_list(info);
+        }
+        let wrote = self.fragment(message, out, start);
+        self.tell_wrote(&wrote, info)
+    }
+
+    pub fn exported_choose(self, message: &[u8], seen: u32, out: &mut [u8], info: &mut [u64]) -> u32 {
+        if info.len() < CHOOSE_FIGURES {
+            return self.short_list(info);
+        }
+        let seen = if self.has(Fault::SeenIfOne) { seen == 1 } else { seen != 0 };
+        let choice = self.choose(message, seen, out).choice;
+        let mut told = Told::chose(&choice);
+        if self.has(Fault::SilenceTells) && choice == Choice::Silence {
+            told.figures[0] = u64::from(super::word_at(message, 12));
+        }
+        self.tell(told, info)
+    }
+
+    fn short_list(self, info: &mut [u64]) -> u32 {
+        if let (true, Some(first)) = (self.has(Fault::ShortTouched), info.first_mut()) {
+            *first = 0;
+        }
+        SHORT_LIST
+    }
+
+    fn tell_wrote(self, wrote: &Wrote, info: &mut [u64]) -> u32 {
+        let mut told = Told::wrote(wrote);
+        if self.has(Fault::WroteKept) && told.answer != 0 {
+            told.figures.clear();
+        }
+        self.tell(told, info)
+    }
+
+    /// Puts the figures at the front of the list.
+    fn tell(self, mut told: Told, info: &mut [u64]) -> u32 {
+        if (1..=9).contains(&told.answer) && told.figures.len() > 2 {
+            if self.has(Fault::RefusedPlain) {
+                told.figures[1] = 1;
+            }
+            if self.has(Fault::RefusedKept) {
+                told.figures.truncate(1);
+            }
+            if self.has(Fault::PlaceAlways) && told.answer > 2 {
+                told.figures[0] = u64::from(told.answer);
+            }
+            if let (true, Some(last)) = (self.has(Fault::RefusedLast), told.figures.last_mut()) {
+                *last = 1;
+            }
+        }
+        info[..told.figures.len()].copy_from_slice(&told.figures);
+        if let (true, Some(beyond)) = (self.has(Fault::FigureBeyond), info.get_mut(told.figures.len())) {
+            *beyond = 0;
+        }
+        told.answer
+    }
+}

@@ -1,0 +1,348 @@
+//! The figures of single values, as include/yugerzat.h lists them, and the bytes that are written for them.
+use super::{word_at, Fault, Model};
+use crate::answers::{Refusal, Took, BOUND, WIDE_NUMBER};
+use crate::shapes::{kind, AUTH_UNIX};
+use crate::values::Value;
+
+/// What a reading of one value gives: all figures of the function, and the largest length or count that was claimed.
+pub struct ValueRead {
+    pub answer: Result<Vec<u64>, Refusal>,
+    pub claim: u32,
+}
+
+impl Model {
+    /// Reads a value at a place of a message.
+    pub fn value(self, value: Value, message: &[u8], at: usize) -> ValueRead {
+        let kind = kind(value.kind()).expect("the kind is known");
+        let read = self.read(kind, message, at, &mut Vec::new());
+        let answer = read.answer.map(|took| self.figures(value, message, at, &took));
+        ValueRead { answer, claim: read.claim }
+    }
+
+    /// Reads an `auth_unix` in a credential's body, whose end is the end. A body that is not inside is as an empty one.
+    pub fn auth_unix_in(self, message: &[u8], at: usize, count: usize) -> ValueRead {
+        if message.len() > BOUND {
+            return ValueRead { answer: Err(Refusal::plain(3)), claim: 0 };
+        }
+        if !self.is_inside(message, at, count) {
+            let refusal = if self.has(Fault::UnixOutside) { Refusal::plain(9) } else { Refusal { number: 1, place: 0 } };
+            return ValueRead { answer: Err(refusal), claim: 0 };
+        }
+        let read = self.read_shape(&AUTH_UNIX, &message[..at + count], at, &mut Vec::new());
+        let answer = read.answer.map(|took| self.figures(Value::AuthUnix, message, at, &took));
+        ValueRead { answer, claim: read.claim }
+    }
+
+    /// Whether a piece of bytes lies in a message. In 128 bits: the sum must not wrap.
+    pub fn is_inside(self, message: &[u8], at: usize, count: usize) -> bool {
+        if self.has(Fault::PartWraps) {
+            return at.wrapping_add(count) <= message.len();
+        }
+        at as u128 + count as u128 <= message.len() as u128
+    }
+
+    /// The figures of a value that was read at a place.
+    fn figures(self, value: Value, message: &[u8], at: usize, took: &Took) -> Vec<u64> {
+        let plain = took.plain || (value == Value::Message && self.has(Fault::JudgePlain));
+        let mut taken = Taken { model: self, message, at, figures: vec![took.next as u64, u64::from(plain)] };
+        match value {
+            Value::Message => taken.message(),
+            Value::AuthUnix => taken.auth_unix(at),
+            Value::Fattr3 => taken.fattr3(),
+            Value::Sattr3 => taken.sattr3(),
+            Value::Diropargs3 => taken.diropargs3(),
+        }
+        taken.figures.resize(value.figures(), 0);
+        taken.figures
+    }
+
+    /// The bytes of a value by its fields; or 253, 3 for the source, 4, and 3 for the bytes, in that order.
+    pub fn written(self, value: Value, source: &[u8], fields: &[u64]) -> Result<Vec<u8>, u32> {
+        let no_source = value.pieces().is_empty();
+        let mut written = Written { model: self, source, fields, at: 0, bytes: Vec::new(), wide: false, outside: false };
+        match value {
+            Value::Message => written.call(),
+            Value::AuthUnix => unreachable!("there is no such writer"),
+            Value::Fattr3 => written.fattr3(),
+            Value::Sattr3 => written.sattr3(),
+            Value::Diropargs3 => written.diropargs3(),
+        }
+        if written.wide {
+            Err(WIDE_NUMBER)
+        } else if written.outside && self.has(Fault::PieceBeforeSource) {
+            Err(4)
+        } else if source.len() > BOUND && !no_source {
+            Err(3)
+        } else if written.outside {
+            Err(4)
+        } else if written.bytes.len() > BOUND {
+            Err(3)
+        } else {
+            Ok(written.bytes)
+        }
+    }
+}
+
+/// A value that was taken, gone through once more. (What a planted fault lets pass may end early: words are then 0.)
+struct Taken<'a> {
+    model: Model,
+    message: &'a [u8],
+    at: usize,
+    figures: Vec<u64>,
+}
+
+impl Taken<'_> {
+    fn word(&mut self) -> u64 {
+        let word = word_at(self.message, self.at);
+        self.at += 4;
+        u64::from(word)
+    }
+
+    fn words(&mut self, count: usize) {
+        for _ in 0..count {
+            let word = self.word();
+            self.figures.push(word);
+        }
+    }
+
+    fn hyper(&mut self) {
+        let number = self.word() << 32 | self.word();
+        self.figures.push(number);
+    }
+
+    /// An opaque: place and count.
+    fn piece(&mut self) {
+        let count = self.word();
+        self.figures.extend([self.at as u64, count]);
+        self.at += (count as usize).next_multiple_of(4);
+    }
+
+    fn message(&mut self) {
+        self.words(1);
+        match self.word() {
+            0 => {
+                self.figures.push(0);
+                self.words(4);
+                self.auth();
+                self.auth();
+                if self.model.has(Fault::VerifierPlace) {
+                    self.figures[12] -= 4;
+                }
+            },
+            1 => self.reply(),
+            // A call of zeros, whose pieces are the empty ones at the start.
+            _ if self.model.has(Fault::DefaultPlace) => {
+                let at = self.at as u64;
+                self.figures.extend([0, 0, 0, 0, 0, 0, at, 0, 0, at, 0]);
+            },
+            _ => {},
+        }
+    }
+
+    fn auth(&mut self) {
+        self.words(1);
+        self.piece();
+    }
+
+    fn reply(&mut self) {
+        let tag = self.word();
+        if tag == 1 {
+            let reason = self.word();
+            return if reason == 1 {
+                self.figures.push(3);
+                self.words(1);
+            } else {
+                self.figures.push(2);
+                if reason == 0 {
+                    self.words(2);
+                }
+            };
+        }
+        self.figures.push(1);
+        if tag > 1 {
+            return;
+        }
+        self.auth();
+        let status = self.word();
+        let highest = if self.model.has(Fault::AcceptStatKept) { u64::MAX } else { 4 };
+        self.figures.push(status.min(highest));
+        if status == 2 {
+            self.words(2);
+        }
+    }
+
+    fn auth_unix(&mut self, body: usize) {
+        self.words(1);
+        self.piece();
+        self.words(2);
+        let count = self.word();
+        let width = if self.model.has(Fault::GidsInBytes) { 4 } else { 1 };
+        self.figures.extend([self.at as u64, count * width]);
+        if self.model.has(Fault::UnixPlaceInBody) {
+            self.figures[3] -= body as u64;
+        }
+    }
+
+    fn fattr3(&mut self) {
+        self.words(5);
+        self.hyper();
+        self.hyper();
+        self.words(2);
+        self.hyper();
+        self.hyper();
+        self.words(6);
+        if self.model.has(Fault::TimesSwapped) {
+            self.figures.swap(15, 17);
+        }
+    }
+
+    fn sattr3(&mut self) {
+        for _ in 0..3 {
+            if self.flag() {
+                self.words(1);
+            } else {
+                self.figures.push(0);
+            }
+        }
+        if self.flag() {
+            self.hyper();
+        } else {
+            self.figures.push(0);
+        }
+        for _ in 0..2 {
+            let how = self.word();
+            self.figures.push(how);
+            if how == 2 {
+                self.words(2);
+            } else {
+                let unset = if self.model.has(Fault::TimeUnset) { how } else { 0 };
+                self.figures.extend([unset, 0]);
+            }
+        }
+    }
+
+    fn flag(&mut self) -> bool {
+        let number = self.word();
+        let is_set = number != 0;
+        self.figures.push(if self.model.has(Fault::FlagKept) { number } else { u64::from(is_set) });
+        is_set
+    }
+
+    fn diropargs3(&mut self) {
+        self.piece();
+        self.piece();
+        if self.model.has(Fault::PiecesSwapped) {
+            self.figures[2..].rotate_left(2);
+        }
+    }
+}
+
+/// Bytes that are written for fields; whether a number did not fit, and whether a piece was not inside.
+struct Written<'a> {
+    model: Model,
+    source: &'a [u8],
+    fields: &'a [u64],
+    at: usize,
+    bytes: Vec<u8>,
+    wide: bool,
+    outside: bool,
+}
+
+impl Written<'_> {
+    fn next(&mut self) -> u64 {
+        self.at += 1;
+        self.fields[self.at - 1]
+    }
+
+    fn put(&mut self, number: u64) {
+        self.wide |= number >> 32 != 0 && !self.model.has(Fault::WideCut);
+        self.bytes.extend_from_slice(&(number as u32).to_be_bytes());
+    }
+
+    fn words(&mut self, count: usize) {
+        for _ in 0..count {
+            let number = self.next();
+            self.put(number);
+        }
+    }
+
+    fn hypers(&mut self, count: usize) {
+        for _ in 0..count {
+            let number = self.next();
+            self.bytes.extend_from_slice(&number.to_be_bytes());
+        }
+    }
+
+    /// A number of a closed enumeration.
+    fn declared(&mut self, declared: std::ops::Range<u64>) {
+        let number = self.next();
+        self.wide |= !declared.contains(&number) && !self.model.has(Fault::UndeclaredWritten);
+        self.put(number);
+    }
+
+    fn piece(&mut self) {
+        let (at, count) = (self.next() as usize, self.next() as usize);
+        let inside = self.model.is_inside(self.source, at, count);
+        let Some(content) = self.source.get(at..at.saturating_add(count)).filter(|_| inside) else {
+            self.outside = true;
+            return;
+        };
+        self.bytes.extend_from_slice(&(count as u32).to_be_bytes());
+        self.bytes.extend_from_slice(content);
+        let pad = if self.model.has(Fault::WritePadDirty) { 0xA5 } else { 0 };
+        self.bytes.resize(self.bytes.len().next_multiple_of(4), pad);
+    }
+
+    fn call(&mut self) {
+        self.words(1);
+        self.put(0);
+        self.words(4);
+        for _ in 0..2 {
+            self.declared(0..4);
+            self.piece();
+        }
+    }
+
+    fn diropargs3(&mut self) {
+        self.piece();
+        self.piece();
+    }
+
+    fn fattr3(&mut self) {
+        self.declared(1..8);
+        self.words(4);
+        self.hypers(2);
+        self.words(2);
+        self.hypers(2);
+        self.words(6);
+        if self.model.has(Fault::WriteOrder) {
+            // uid and gid.
+            self.bytes[12..20].rotate_left(4);
+        }
+    }
+
+    fn sattr3(&mut self) {
+        for value in 0..4 {
+            let flag = self.next();
+            let is_set = if self.model.has(Fault::SetIfOne) { flag == 1 } else { flag != 0 };
+            self.put(u64::from(is_set));
+            match (is_set, value) {
+                (true, 3) => self.hypers(1),
+                (true, _) => self.words(1),
+                (false, _) => {
+                    let unset = self.next();
+                    self.wide |= unset >> 32 != 0 && value < 3 && self.model.has(Fault::UnsetLookedAt);
+                },
+            }
+        }
+        for _ in 0..2 {
+            let how = self.fields[self.at];
+            self.declared(0..3);
+            if how == 2 {
+                self.words(2);
+            } else {
+                self.at += 2;
+            }
+        }
+    }
+}

@@ -1,0 +1,271 @@
+//! Odd lines: what the program `answers` may be given, beside lines that have a meaning.
+use crate::answers::BOUND;
+use crate::cases::{case, Question};
+use crate::lines::{hex, LONGEST};
+use crate::random::Random;
+use crate::shapes::KINDS;
+use crate::values::Value;
+
+/// Most random lines are at most so long.
+const SHORT: usize = 600;
+
+/// All lines that were thought of, and so many random ones.
+pub fn lines(count: u64, seed: u64) -> Vec<Vec<u8>> {
+    let mut lines: Vec<Vec<u8>> = THOUGHT_OF.iter().map(|line| line.to_vec()).collect();
+    lines.extend(words_alone());
+    lines.extend(rooms());
+    lines.extend(long());
+    let questions = (0..).map(|number| case(seed, number).question).filter_map(|question| line(&question));
+    let questions = questions.filter(|line| line.len() <= SHORT).take(count as usize);
+    lines.extend(questions.enumerate().map(|(number, line)| {
+        let random = &mut Random::of(!seed, number as u64);
+        let mut line = said_otherwise(random, line).into_bytes();
+        for _ in 0..random.below(3) {
+            damage(random, &mut line);
+        }
+        line
+    }));
+    // A line's end would make two of one.
+    lines.iter_mut().flatten().filter(|byte| **byte == b'\n').for_each(|byte| *byte = b' ');
+    lines
+}
+
+const THOUGHT_OF: &[&[u8]] = &[
+    b"",
+    b" ",
+    b"  ",
+    b"                                                                                ",
+    b"-",
+    b"?",
+    b"\t",
+    b"\r",
+    b"\0",
+    b"\xff\xfe",
+    b"\xc3\xa9 \xc3\xa9 \xc3\xa9",
+    b" read bool 0 00000000",
+    b"read bool 0 00000000 ",
+    b"read bool 0 00000000  ",
+    b"read  bool 0 00000000",
+    b"read\tbool\t0\t00000000",
+    b"READ bool 0 00000000",
+    b"read BOOL 0 00000000",
+    b"read bool 0 00000000\r",
+    b"read bool 0 00000000\0",
+    b"read bool 0 0000000",
+    b"read bool 0 0000000g",
+    b"read bool 0 0x00000000",
+    b"read bool 0 \xff\xff",
+    b"read bool 0 --",
+    b"read bool 0 -00000000",
+    b"read bool 0 -",
+    b"read bool  00000000",
+    b"read bool +0 00000000",
+    b"read bool -0 00000000",
+    b"read bool 0. 00000000",
+    b"read bool 0x0 00000000",
+    b"read bool 00000000000000000000000000000000000000000 00000000",
+    b"read bool 18446744073709551615 00000000",
+    b"read bool 18446744073709551616 00000000",
+    b"read bool 99999999999999999999 00000000",
+    b"read bool 340282366920938463463374607431768211456 00000000",
+    b"read bool 00018446744073709551615 00000000",
+    b"read 0 0 00000000",
+    b"read bools 0 00000000",
+    b"read boo 0 00000000",
+    b"read  0 00000000",
+    b"read bool i32 0 00000000",
+    b"read symlinkdata3 0 -",
+    b"read symlinkdata 0 -",
+    b"read opaque 0 FfFfFfFf",
+    b"feed 1",
+    b"feed 1 ",
+    b"feed 1 -",
+    b"feed 1 - ",
+    b"feed 1 - -",
+    b"feed 1  -",
+    b"feed 0 -",
+    b"feed 0 80000000 -",
+    b"feed 0 - 80000000",
+    b"feed 0 80000001 -",
+    b"feed 0 80000001 zz",
+    b"feed 0 8000000080000000",
+    b"feed 0 800000008000000000",
+    b"feed 3 80000004 00",
+    b"feed 3 8000000480000000",
+    b"feed 1048577 -",
+    b"feed 1048577 zz",
+    b"feed 1048577",
+    b"feed 18446744073709551615 -",
+    b"feed 18446744073709551616 -",
+    b"state 0 0 0 0 0 0 0 0 -",
+    b"state 0 0 0 0 0 0 0 0",
+    b"state 0 0 0 0 0 0 0 0 - -",
+    b"state 0 0 0 0 0 00 0 0 -",
+    b"state 0 0 0 0 0 0 01 0 -",
+    b"state 0 0 0 0 0 2 0 0 -",
+    b"state 0 0 0 0 0 - 0 0 -",
+    b"state 0 0 0 0 0 1 0 0 -",
+    b"state 0 0 0 0 0 0 1 0 00",
+    b"state 0 0 0 1 0 0 0 0 00",
+    b"state 18446744073709551615 18446744073709551615 18446744073709551615 18446744073709551615 18446744073709551615 1 1 0 00",
+    b"choose 0 0 -",
+    b"choose 00 0 -",
+    b"choose 2 0 -",
+    b"choose yes 0 -",
+    b"choose  0 -",
+    b"choose 1 24 0000002A00000002",
+    b"part - 0 0",
+    b"part - 0 1",
+    b"part - 18446744073709551615 18446744073709551615",
+    b"part - 1 18446744073709551615",
+    b"part 00 18446744073709551615 2",
+    b"words 00000000 18446744073709551613 1",
+    b"words 00000000 0 4611686018427387904",
+    b"words 00000000 4 4611686018427387904",
+    b"words 00000000 0 18446744073709551615",
+    b"words - 0 0",
+    b"fragment - 4 0",
+    b"fragment - 3 0",
+    b"fragment - 0 18446744073709551615",
+    b"fragment 00 18446744073709551615 18446744073709551615",
+    b"write bool 0 00000001 4 18446744073709551615",
+    b"write bool 0 - 1048577 0",
+    b"write bool 5 00000001 1048577 0",
+    b"write bool 5 00000001 4 5",
+    b"write none 0 00000001 4 0",
+];
+
+/// Each first word with few words behind it.
+fn words_alone() -> Vec<Vec<u8>> {
+    let firsts = ["read", "write", "fragment", "feed", "state", "choose", "part", "words", "reads", "rea"];
+    let rests = ["", " ", " -", " 0", " 0 0", " - 0", " 0 -", " bool", " bool 0", " 0 0 0 0 0 0 0 0 0 0 0 0 0"];
+    firsts.iter().flat_map(|first| rests.map(|rest| [*first, rest].concat().into_bytes())).collect()
+}
+
+/// Rooms about the bound, and starts about the rooms.
+fn rooms() -> Vec<Vec<u8>> {
+    let mut lines = Vec::new();
+    for room in [0, 1, BOUND - 1, BOUND, BOUND + 1, 1 << 31, 1 << 32, 1 << 62, usize::MAX] {
+        lines.push(format!("choose 0 {room} 0000002a00000002"));
+        lines.push(format!("state {room} 0 0 0 0 0 0 {room} 80000001aa"));
+        lines.push(format!("feed {room} 80000001aa"));
+        for start in [0, room.saturating_sub(4), room, room.saturating_add(1)] {
+            lines.push(format!("write bool 0 00000002 {room} {start}"));
+            lines.push(format!("write bool 0 000000 {room} {start}"));
+            lines.push(format!("fragment - {room} {start}"));
+        }
+    }
+    lines.into_iter().map(String::into_bytes).collect()
+}
+
+/// Lines about as long as is read, with and without a meaning; and longer ones.
+fn long() -> Vec<Vec<u8>> {
+    let mut lines = Vec::new();
+    for length in [LONGEST - 1, LONGEST, LONGEST + 1, LONGEST + 2, 2 * LONGEST, 3 * LONGEST + 5] {
+        for (front, filling, end) in [
+            ("read opaque 0 00007f00", "5a", ""),
+            ("part 00 ", "0", "1 0"),
+            ("part 00 0 1", " ", ""),
+            ("", "x", ""),
+            ("", " ", ""),
+            ("feed 8 ", "- ", "-"),
+            ("feed 70000 8000ffff", "0", " -"),
+        ] {
+            let mut line = filling.repeat((length - front.len() - end.len()).div_ceil(filling.len()));
+            line.truncate(length - front.len() - end.len());
+            lines.push([front, &line, end].concat().into_bytes());
+        }
+    }
+    lines
+}
+
+/// The line of a question, if it has one.
+fn line(question: &Question) -> Option<String> {
+    match question {
+        Question::Read { kind, .. } if *kind as usize >= KINDS.len() => None,
+        Question::Value { .. } | Question::AuthUnix { .. } => None,
+        // `write` reads what it writes.
+        Question::Write { value, source, room, start, .. } => {
+            let at = source.len().min(if *value == Value::Fattr3 { 0 } else { start % 9 });
+            Some(format!("write {} {at} {} {room} {start}", value.kind(), hex(source)))
+        },
+        _ => Some(question.line()),
+    }
+}
+
+/// The same with capital digits, or with another first word or kind.
+fn said_otherwise(random: &mut Random, line: String) -> String {
+    match random.below(12) {
+        0 => {
+            let at = line.rfind(' ').unwrap_or(0);
+            line[..at].to_owned() + &line[at..].to_uppercase()
+        },
+        1 => line.replacen("part ", "words ", 1),
+        2 if line.starts_with("read ") => {
+            let mut words: Vec<&str> = line.split(' ').collect();
+            words[1] = random.pick(&KINDS.each_ref().map(|(name, _)| *name));
+            words.join(" ")
+        },
+        3 if line.starts_with("feed ") => line.replacen(' ', " 0", 1) + " -",
+        4 if line.starts_with("feed ") => {
+            let mut words: Vec<&str> = line.split(' ').collect();
+            words.insert(random.between(2, words.len()), "-");
+            words.join(" ")
+        },
+        _ => line,
+    }
+}
+
+/// Damages a line once: its words, or its bytes.
+fn damage(random: &mut Random, line: &mut Vec<u8>) {
+    const WORDS: [&str; 20] = [
+        "",
+        "-",
+        "--",
+        "0",
+        "1",
+        "2",
+        "00",
+        "07",
+        "+1",
+        "-1",
+        "1e3",
+        "0x10",
+        "zz",
+        "abc",
+        "1048576",
+        "1048577",
+        "bool",
+        "18446744073709551615",
+        "18446744073709551616",
+        "\u{e9}",
+    ];
+    let mut words: Vec<Vec<u8>> = line.split(|byte| *byte == b' ').map(<[u8]>::to_vec).collect();
+    let at = random.below(words.len());
+    match random.below(10) {
+        0 => {
+            words.remove(at);
+        },
+        1 => words.insert(at, random.pick(&WORDS).into()),
+        2..=4 => words[at] = random.pick(&WORDS).into(),
+        5 => words.swap(at, 0),
+        6 => {
+            let again = words[at].clone();
+            words.push(again);
+        },
+        7 => {
+            let place = random.below(words[at].len() + 1);
+            let byte = random.pick(b"0123456789abcdefABCDEFgG xX-+.,;?\t\r\0\x7f\xff");
+            words[at].insert(place, byte);
+        },
+        8 => {
+            words[at].pop();
+        },
+        _ => {
+            if let Some(byte) = words[at].first_mut() {
+                *byte ^= 1 << random.below(8);
+            }
+        },
+    }
+    *line = words.join(&b' ');
+}

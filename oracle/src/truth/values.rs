@@ -1,0 +1,121 @@
+//! What the readers and writers of single values must answer. The crate holds the fields of what it took, and makes the
+//! bytes of what is written; the places of pieces are the model's, where the message has the crate's bytes there.
+use nfsserve::{Field, Reading};
+
+use super::{placed, too_large, Truth, NO_PLACE};
+use crate::answers::{AuthUnix, Choice, Refusal, Wrote, BOUND, WIDE_NUMBER};
+use crate::model::Model;
+use crate::shapes::kind;
+use crate::values::Value;
+
+impl Truth {
+    /// All figures of the reader of a value at a place.
+    pub fn value(&mut self, value: Value, message: &[u8], at: usize) -> Result<Vec<u64>, Refusal> {
+        let took = self.read(kind(value.kind()).expect("the kind is known"), message, at)?;
+        let model = Model::FAULTLESS.value(value, message, at).answer.ok();
+        let mut figures = vec![took.next as u64, u64::from(took.plain)];
+        append(value, &message[at..], message, model.as_deref(), &mut figures);
+        Ok(figures)
+    }
+
+    /// All figures of the `auth_unix` in a credential's body. The crate is given the body alone, as `handle_rpc` has it.
+    pub fn auth_unix_in(&mut self, message: &[u8], at: usize, count: usize) -> Result<Vec<u64>, Refusal> {
+        let model = Model::FAULTLESS.auth_unix_in(message, at, count);
+        if message.len() > BOUND {
+            return Err(Refusal::plain(3));
+        }
+        let Some(body) = at.checked_add(count).and_then(|end| message.get(at..end)) else {
+            // A body that does not lie in the message is as an empty one, at the start.
+            return Err(Refusal { number: 1, place: 0 });
+        };
+        if too_large(model.claim, message) {
+            self.unasked += 1;
+            return Err(placed(Reading::Short, model.answer.err()));
+        }
+        let kind = kind(Value::AuthUnix.kind()).expect("the kind is known");
+        match nfsserve::read(kind, body, &mut self.rewriting) {
+            Reading::Took(used) => {
+                let plain = body[..used] == self.rewriting;
+                let mut figures = vec![(at + used) as u64, u64::from(plain)];
+                append(Value::AuthUnix, body, message, model.answer.ok().as_deref(), &mut figures);
+                Ok(figures)
+            },
+            refused => Err(placed(refused, model.answer.err())),
+        }
+    }
+
+    /// The answer of the writer of a value, and what it leaves in `out`. `fields` are enough. 253 where the crate's types
+    /// cannot hold them.
+    pub fn write(&mut self, value: Value, source: &[u8], fields: &[u64], out: &mut [u8], start: usize) -> Wrote {
+        let (held, all_inside) = held(value, source, fields);
+        let bytes = nfsserve::written(value.kind(), &held).ok_or(WIDE_NUMBER)?;
+        if start > out.len() {
+            return Err(9);
+        }
+        if source.len() > BOUND && !value.pieces().is_empty() {
+            return Err(3);
+        }
+        if !all_inside {
+            return Err(4);
+        }
+        if bytes.len() > BOUND {
+            return Err(3);
+        }
+        let next = start + bytes.len();
+        out.get_mut(start..next).ok_or(5_u32)?.copy_from_slice(&bytes);
+        Ok(next)
+    }
+}
+
+/// The `auth_unix` that the crate handed over, by the bytes that it writes for it.
+pub(super) fn auth_unix(bytes: &[u8], message: &[u8], model: &Choice) -> AuthUnix {
+    let model = match model {
+        Choice::HandOver { auth_unix: Some(found), .. } => Some([&[0, 0][..], &found.figures()].concat()),
+        _ => None,
+    };
+    let mut figures = vec![0, 0];
+    append(Value::AuthUnix, bytes, message, model.as_deref(), &mut figures);
+    AuthUnix::of(&figures[2..])
+}
+
+/// The fields of a writer as the crate has them, bytes for pieces; and whether all pieces were inside. One that is not is
+/// empty.
+fn held(value: Value, source: &[u8], fields: &[u64]) -> (Vec<Field>, bool) {
+    let (mut held, mut all_inside, mut at) = (Vec::new(), true, 0);
+    while at < value.fields() {
+        if value.pieces().contains(&at) {
+            let (place, count) = (fields[at] as usize, fields[at + 1] as usize);
+            let piece = place.checked_add(count).and_then(|end| source.get(place..end));
+            all_inside &= piece.is_some();
+            held.push(Field::Bytes(piece.unwrap_or(&[]).to_vec()));
+            at += 2;
+        } else {
+            held.push(Field::Number(fields[at]));
+            at += 1;
+        }
+    }
+    (held, all_inside)
+}
+
+/// Appends the figures of what the crate holds for the value that begins `source`. `figures` has the first two already;
+/// `model` has all, for the places of pieces in the message.
+fn append(value: Value, source: &[u8], message: &[u8], model: Option<&[u64]>, figures: &mut Vec<u64>) {
+    let fields = nfsserve::held(value.kind(), source).expect("the crate took it");
+    for field in fields {
+        let (bytes, count) = match field {
+            Field::Number(number) => {
+                figures.push(number);
+                continue;
+            },
+            Field::Bytes(bytes) => {
+                let count = bytes.len();
+                (bytes, count)
+            },
+            Field::Words(words) => (words.iter().flat_map(|word| word.to_be_bytes()).collect(), words.len()),
+        };
+        let place = model.map_or(NO_PLACE as u64, |model| model[figures.len()]);
+        let stands = message.get(place as usize..).is_some_and(|rest| rest.starts_with(&bytes));
+        figures.extend([if stands { place } else { NO_PLACE as u64 }, count as u64]);
+    }
+    assert_eq!(figures.len(), value.figures(), "the crate's fields are the figures");
+}
