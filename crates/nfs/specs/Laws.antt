@@ -6,3 +6,4 @@ pub mod Write
 pub mod Bytes
 pub mod Pieces
 pub mod Promises
+pub mod Lengths

@@ -7,3 +7,4 @@ pub mod Read
 pub mod Write
 pub mod Bytes
 pub mod Promises
+pub mod Lengths

@@ -75,12 +75,12 @@ module _ (s : List ℕ) (x : Piece) where
   -- accepted exactly if the message is short enough, the body lies inside, and one begins there before the body's end
   pub unix-accepted-iff : {a : Answer «auth_unix»} → AnswersIn s x a
       → ((v : «auth_unix») × (n : ℕ) × (b : Bool) × (a ≡ took v n b))
-        ↔ ((length s ≤ most) × (isInside s x ≡ true) × Begins (auth-unix .codec .kind) upTo (x .at))
+      ↔ ((length s ≤ most) × (isInside s x ≡ true) × Begins (auth-unix .codec .kind) upTo (x .at))
   unix-accepted-iff c = (
     (λ t.
-    let o = opened-took s 0 (unixIn s x) (sym (t .3) ∙ c .is) in
-    let i = took-inside (isInside s x) refl (o .0) in
-    (o .1, i, kept auth-unix .accepted-iff upTo (x .at) (as-answers c (o .1) i) .0 t .2)),
+        let o = opened-took s 0 (unixIn s x) (sym (t .3) ∙ c .is) in
+        let i = took-inside (isInside s x) refl (o .0) in
+        (o .1, i, kept auth-unix .accepted-iff upTo (x .at) (as-answers c (o .1) i) .0 t .2)),
     (λ g. kept auth-unix .accepted-iff upTo (x .at) (as-answers c (g .0) (g .1)) .1 (up-to-short (g .0), up-to-holds (g .1), g .2)),
   )
 

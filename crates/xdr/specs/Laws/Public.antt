@@ -39,7 +39,7 @@ module _ {A : Type 0} (s : List ℕ) (p : ℕ) where
   opened-in x h g = simp (le-leb (length s) most h, le-leb p (length s) g)
 
   -- what is taken was read, of a message that is not too long, at a place that is in it
-  opened-took : (x : Answer A) {a : A} {n : ℕ} {b : Bool} → took a n b ≡ opened s p x
+  pub opened-took : (x : Answer A) {a : A} {n : ℕ} {b : Bool} → took a n b ≡ opened s p x
       → (x ≡ took a n b) × (length s ≤ most) × (p ≤ length s)
   unfolding opened
   opened-took x {a} {n} {b} e = by-long (leb (length s) most) refl (leb p (length s)) refl

@@ -1,0 +1,138 @@
+-- How many bytes the kinds take, and that no rewriting is longer than the bytes read.
+-- Assumes nothing.
+use mathlib.Core.Path.{_≡_}
+use mathlib.Core.Bool.{Bool, true, false}
+use mathlib.Core.List.{List, _∷_}
+use Prim.Native.Nat.{ℕ, zero, suc}
+use native.Mathlib.Omega.{arith}
+use Rattle.xdr.specs.Meaning.Answer.{Way}
+use Rattle.xdr.specs.Meaning.Combinators.{means}
+use Rattle.xdr.specs.Meaning.Codecs.{_⨾_}
+use Rattle.xdr.specs.Meaning.Items.{word, hyper, opaque, option, taggedArm}
+use Rattle.xdr.specs.Meaning.Format.{exactly, _⨟_, flagged, optional, ifFormat}
+use Rattle.xdr.specs.Meaning.Formats.{bytes}
+use Rattle.xdr.specs.Laws.Lengths.{Lengths, Within, void-lengths, void-within, chain-lengths, chain-within, pair-within, pair-lengths, view-within, view-lengths, no-default, word-lengths, word-within, hyper-lengths, hyper-within, flag-within, opaque-within, closed-within, option-lengths, option-within}
+use Rattle.nfsattr.specs.Meaning.Attr.{nfstime}
+use Rattle.nfsattr.specs.Laws.Lengths.{nfstime-lengths, nfstime-within}
+use Rattle.nfs.specs.Meaning.Set.{SetTime, time-how, howNumber, hows, each-how, set-mode, set-uid, set-gid, set-size, set-time, timeArms, seeTime, set-atime, set-mtime, sattr}
+use Rattle.nfs.specs.Meaning.Dir.{nfs-fh, post-op-fh, diropargs, symlinkdata}
+
+pub time-how-within : Within 0 (time-how .kind)
+unfolding time-how
+time-how-within = closed-within howNumber hows each-how
+
+-- what may be set
+pub set-mode-lengths : Lengths 4 8 (set-mode .kind)
+unfolding set-mode
+set-mode-lengths = view-lengths (option-lengths word word-lengths)
+
+pub set-mode-within : Within 0 (set-mode .kind)
+unfolding set-mode
+set-mode-within = view-within _ _ (option word .laws) (option-within word word-within) (λ x m l u w e s f. no-default s)
+
+pub set-uid-lengths : Lengths 4 8 (set-uid .kind)
+unfolding set-uid
+set-uid-lengths = view-lengths (option-lengths word word-lengths)
+
+pub set-uid-within : Within 0 (set-uid .kind)
+unfolding set-uid
+set-uid-within = view-within _ _ (option word .laws) (option-within word word-within) (λ x m l u w e s f. no-default s)
+
+pub set-gid-lengths : Lengths 4 8 (set-gid .kind)
+unfolding set-gid
+set-gid-lengths = view-lengths (option-lengths word word-lengths)
+
+pub set-gid-within : Within 0 (set-gid .kind)
+unfolding set-gid
+set-gid-within = view-within _ _ (option word .laws) (option-within word word-within) (λ x m l u w e s f. no-default s)
+
+pub set-size-lengths : Lengths 4 12 (set-size .kind)
+unfolding set-size
+set-size-lengths = view-lengths (option-lengths hyper hyper-lengths)
+
+pub set-size-within : Within 0 (set-size .kind)
+unfolding set-size
+set-size-within = view-within _ _ (option hyper .laws) (option-within hyper hyper-within) (λ x m l u w e s f. no-default s)
+
+time-arm-lengths : (tag : ℕ) → Lengths 0 8 (timeArms tag .codec .kind)
+time-arm-lengths zero = record { of = λ m w e f. omega (arith, void-lengths .of m w e f) }
+time-arm-lengths (suc zero) = record { of = λ m w e f. omega (arith, void-lengths .of m w e f) }
+time-arm-lengths (suc (suc zero)) = record { of = λ m w e f. omega (arith, nfstime-lengths .of m w e f) }
+time-arm-lengths (suc (suc (suc n))) = record { of = λ m w e f. omega (arith, void-lengths .of m w e f) }
+
+time-arm-within : (tag : ℕ) → Within 0 (timeArms tag .codec .kind)
+time-arm-within zero = void-within
+time-arm-within (suc zero) = void-within
+time-arm-within (suc (suc zero)) = nfstime-within
+time-arm-within (suc (suc (suc n))) = void-within
+
+-- no tag of a time is loose: it is declared, or refused
+time-tight : (tag : ℕ) (x : timeArms tag .Msg) {P : Type 0} {m : SetTime} {l : Way} {u : List Way} → seeTime tag x ≡ means m (l ∷ u) → P
+time-tight zero x s = no-default s
+time-tight (suc zero) x s = no-default s
+time-tight (suc (suc zero)) x s = no-default s
+time-tight (suc (suc (suc n))) x s = let z : _≡_ {A = ℕ} 0 1 = cc in absurd (omega arith)
+
+set-time-lengths : Lengths 4 12 (set-time .kind)
+unfolding set-time
+set-time-lengths = view-lengths (chain-lengths word-lengths time-arm-lengths)
+
+set-time-within : Within 0 (set-time .kind)
+unfolding set-time
+set-time-within =
+    view-within _ _ (taggedArm timeArms .laws) (chain-within word-within time-arm-within) (λ x m l u w e s f. time-tight (x .0) (x .1) s)
+
+pub set-atime-lengths : Lengths 4 12 (set-atime .kind)
+unfolding set-atime
+set-atime-lengths = view-lengths set-time-lengths
+
+pub set-atime-within : Within 0 (set-atime .kind)
+unfolding set-atime
+set-atime-within = view-within _ _ (set-time .laws) set-time-within (λ x m l u w e s f. no-default s)
+
+pub set-mtime-lengths : Lengths 4 12 (set-mtime .kind)
+unfolding set-mtime
+set-mtime-lengths = view-lengths set-time-lengths
+
+pub set-mtime-within : Within 0 (set-mtime .kind)
+unfolding set-mtime
+set-mtime-within = view-within _ _ (set-time .laws) set-time-within (λ x m l u w e s f. no-default s)
+
+pub sattr-lengths : Lengths 24 60 (sattr .kind)
+unfolding sattr
+sattr-lengths =
+    view-lengths
+    (pair-lengths set-mode-lengths
+    (pair-lengths set-uid-lengths (pair-lengths set-gid-lengths (pair-lengths set-size-lengths (pair-lengths set-atime-lengths set-mtime-lengths)))))
+
+pub sattr-within : Within 0 (sattr .kind)
+unfolding sattr
+sattr-within =
+    view-within _ _ ((set-mode ⨾ set-uid ⨾ set-gid ⨾ set-size ⨾ set-atime ⨾ set-mtime) .laws)
+    (pair-within set-mode-within
+    (pair-within set-uid-within (pair-within set-gid-within (pair-within set-size-within (pair-within set-atime-within set-mtime-within)))))
+    (λ x m l u w e s f. no-default s)
+
+-- handles and names
+pub nfs-fh-within : Within 0 (nfs-fh .codec .kind)
+unfolding nfs-fh
+nfs-fh-within = view-within _ _ (opaque .laws) opaque-within (λ x m l u w e s f. no-default s)
+
+if-fh-within : (b : Bool) → Within 0 (ifFormat nfs-fh b .codec .kind)
+if-fh-within true = nfs-fh-within
+if-fh-within false = void-within
+
+pub post-op-fh-within : Within 0 (post-op-fh .codec .kind)
+unfolding post-op-fh
+post-op-fh-within =
+    view-within _ _ (optional nfs-fh .codec .laws)
+    (view-within _ _ (flagged nfs-fh .codec .laws) (chain-within flag-within if-fh-within) (λ x m l u w e s f. no-default s))
+    (λ x m l u w e s f. no-default s)
+
+pub diropargs-within : Within 0 (diropargs .codec .kind)
+unfolding diropargs
+diropargs-within = view-within _ _ ((nfs-fh ⨟ bytes) .codec .laws) (pair-within nfs-fh-within opaque-within) (λ x m l u w e s f. no-default s)
+
+pub symlinkdata-within : Within 0 (symlinkdata .codec .kind)
+unfolding symlinkdata
+symlinkdata-within = view-within _ _ ((exactly sattr ⨟ bytes) .codec .laws) (pair-within sattr-within opaque-within) (λ x m l u w e s f. no-default s)
