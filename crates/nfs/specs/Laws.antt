@@ -7,3 +7,4 @@ pub mod Bytes
 pub mod Pieces
 pub mod Promises
 pub mod Lengths
+pub mod One

@@ -8,3 +8,4 @@ pub mod Write
 pub mod Bytes
 pub mod Promises
 pub mod Lengths
+pub mod One
