@@ -3,3 +3,4 @@ pub mod Exports
 pub mod Values
 pub mod Given
 pub mod One
+pub mod Again

@@ -9,7 +9,8 @@ use lib.ListN.{length, take, drop}
 use lib.Dec.{leb}
 use borrow.Author.Tests.{le-leb, leb-true, leb-false}
 use Rattle.xdr.specs.Meaning.Answer.{Answer, took, refused, opened, most, Written, done, unwritten}
-use Rattle.xdr.specs.Meaning.Format.{Format, Branch}
+use Rattle.xdr.specs.Meaning.Kind.{Codec}
+use Rattle.xdr.specs.Meaning.Format.{Format, Branch, exactly}
 use Rattle.xdr.specs.Meaning.Order.{placing}
 use Rattle.xdr.specs.Meaning.Public.{Answers, output, writing, Writes}
 use Rattle.xdr.specs.Laws.Public.{kept}
@@ -57,6 +58,14 @@ module _ {M S : Type 0} (F : Format M S) (s : List ℕ) (h : length s ≤ most) 
 -- what was taken is of a source that is not too long
 pub short : {M S : Type 0} (F : Format M S) (s : List ℕ) (at : ℕ) {a : Answer S} {x : S} {n : ℕ} {b : Bool} → Answers F s at a → a ≡ took x n b → length s ≤ most
 short F s at {x = x} {n = n} {b = b} c e = kept F .accepted-iff s at c .0 (x, n, b, e) .0
+
+-- a message without pieces, read and written
+module _ {M R : Type 0} (C : Codec M) (view : R → Answer M) (s : List ℕ) (at start : ℕ) (o : List ℕ) {r t : R} where
+  pub plain-read : {x : M} {n : ℕ} {b : Bool} {o′ : List ℕ} {w : Written} {a : Copy} → Answers (exactly C) s at (view r) → r ≡ t
+      → Writes (exactly C) [] x start o w o′ → a ≡ saidOf n b w → view t ≡ took x n b → Copies (exactly C) s at start o a o′
+  plain-read {w = w} c e d f v =
+      was-read (exactly C) view s at start o c e v
+      (freed (exactly C) s (short (exactly C) s at c (ap view e ∙ v)) (λ t. (refl, refl)) refl start o w d) f
 
 -- past the end of the list there is no kind
 pub past : (l : List Branch) (k : ℕ) (s : List ℕ) (at start : ℕ) (o : List ℕ) → length l ≤ k → CopiesOf l k s at start o unknown o

@@ -1,20 +1,29 @@
--- Two answers that the contract of an exported reader or writer of values permits are one.
+-- Two answers that a contract permits are one: of `copy_kind`, and of each exported function.
 -- Assumes nothing.
 use mathlib.Core.Path.{_≡_, refl, sym, ap, _∙_}
-use mathlib.Core.Bool.{Bool, true, false}
+use mathlib.Core.Bool.{Bool, true, false, not}
 use mathlib.Core.List.{List, [], _∷_}
 use mathlib.Core.Logic.{_⊎_, inl, inr}
 use mathlib.Core.Option.{Option, none, some}
-use Prim.Native.Nat.{ℕ, _+_, _≤_, _<_}
-use lib.Dec.{leb}
+use Prim.Native.Nat.{ℕ, zero, suc, _+_, _≤_, _<_}
+use lib.Dec.{leb, eqb}
 use lib.ListN.{length}
 use lib.Seq.{sets}
 use borrow.Author.Tests.{leb-true, leb-false}
 use Rattle.xdr.specs.Meaning.Answer.{Answer, Written}
-use Rattle.xdr.specs.Meaning.Format.{Format}
+use Rattle.xdr.specs.Meaning.Format.{Format, Branch}
 use Rattle.xdr.specs.Meaning.Public.{Answers, leaving, Writes}
-use Rattle.door.specs.Meaning.Exports.{wroteCode, wroteFigure}
-use Rattle.door.specs.Meaning.Values.{readCode, readFigures, ValueCalled}
+use Rattle.xdr.specs.Laws.One.{Told}
+use Rattle.xdr.specs.declared.piece.Piece.{Piece}
+use Rattle.rpcwire.specs.Laws.Promise.{promised}
+use Rattle.rpcwire.specs.Laws.Fragment.{one-fragment}
+use Rattle.rpcwire.specs.Laws.Choice.{choice-promised}
+use Rattle.door.specs.Meaning.Copy.{Copy, viewCopied}
+use Rattle.door.specs.Meaning.Kinds.{kinds, CopiesOf}
+use Rattle.door.specs.Meaning.Exports.{codeOf, figures, ReadCalled, wroteCode, wroteFigure, FragmentCalled, chosenCode, chosenFigures, ChooseCalled, stateList, fedCode, fedState, fedFigures, FeedCalled}
+use Rattle.door.specs.declared.copy.Copied.{Copied}
+use Rattle.door.specs.declared.copy.Copied.the-variants.{Unknown, Unread, Unwritten, Done}
+use Rattle.door.specs.Meaning.Values.{readCode, readFigures, ValueCalled, PartCalled}
 use Rattle.door.specs.Meaning.Given.{GivenTold, WriteCalled}
 
 module _ {S : Type 0} (Answered : Answer S → Type 0) (one : (a b : Answer S) → Answered a → Answered b → a ≡ b) (f : S → List ℕ) (k : ℕ) (i : List ℕ) {r t : ℕ} {i′ j′ : List ℕ} where
@@ -61,3 +70,109 @@ pub writes-one : {M S : Type 0} (F : Format M S) (s : List ℕ) (start : ℕ) (o
 writes-one F s start o x a b o′ p′ c d =
     let g : a ≡ b = c .says ∙ sym (d .says) in
     (g, c .leaves ∙ ap (λ w. leaving F s x w start o) g ∙ sym (d .leaves))
+
+-- `copy_kind`: its answer, and the buffer
+pub copied-told : Told viewCopied
+copied-told Unknown Unknown e = refl
+copied-told Unknown (Unread r) e = cc
+copied-told Unknown (Unwritten r) e = cc
+copied-told Unknown (Done n b k) e = cc
+copied-told (Unread r) Unknown e = cc
+copied-told (Unread r) (Unread r′) e = cc
+copied-told (Unread r) (Unwritten r′) e = cc
+copied-told (Unread r) (Done n b k) e = cc
+copied-told (Unwritten r) Unknown e = cc
+copied-told (Unwritten r) (Unread r′) e = cc
+copied-told (Unwritten r) (Unwritten r′) e = cc
+copied-told (Unwritten r) (Done n b k) e = cc
+copied-told (Done n b k) Unknown e = cc
+copied-told (Done n b k) (Unread r) e = cc
+copied-told (Done n b k) (Unwritten r) e = cc
+copied-told (Done n b k) (Done n′ b′ k′) e = cc
+
+copies-one : (l : List Branch) (k : ℕ) (s : List ℕ) (at start : ℕ) (o : List ℕ) {c d : Copy} {o′ p′ : List ℕ} → CopiesOf l k s at start o c o′
+    → CopiesOf l k s at start o d p′ → (c ≡ d) × (o′ ≡ p′)
+copies-one [] k s at start o c d = (c .0 ∙ sym (d .0), c .1 ∙ sym (d .1))
+copies-one (b ∷ l) zero s at start o c d = (c .says ∙ sym (d .says), c .leaves ∙ sym (d .leaves))
+copies-one (b ∷ l) (suc k) s at start o c d = copies-one l k s at start o c d
+
+pub copy-kind-one : (k : ℕ) (s : List ℕ) (at start : ℕ) (o : List ℕ) (c d : Copied) {o′ p′ : List ℕ} → CopiesOf kinds k s at start o (viewCopied c) o′
+    → CopiesOf kinds k s at start o (viewCopied d) p′ → (c ≡ d) × (o′ ≡ p′)
+copy-kind-one k s at start o c d e f = let g = copies-one kinds k s at start o e f in (copied-told c d (g .0), g .1)
+
+-- the other exported functions: by the room for their figures
+module _ (i : List ℕ) {r t : ℕ} {i′ j′ : List ℕ} where
+  pub read-one : (kind : ℕ) (s : List ℕ) (at : ℕ) (o : List ℕ) {o′ p′ : List ℕ} → ReadCalled kind s at o i r o′ i′ → ReadCalled kind s at o i t p′ j′
+      → (r ≡ t) × (o′ ≡ p′) × (i′ ≡ j′)
+  read-one kind s at o {o′} {p′} c d = by (leb 3 (length i)) refl
+    where
+      by : (b : Bool) → leb 3 (length i) ≡ b → (r ≡ t) × (o′ ≡ p′) × (i′ ≡ j′)
+      by true e =
+          let x = c .room (leb-true 3 (length i) e) in
+          let y = d .room (leb-true 3 (length i) e) in
+          let g = copies-one kinds kind s at 0 o (x .copies) (y .copies) in
+          (x .number ∙ ap codeOf (g .0) ∙ sym (y .number), g .1, x .list ∙ ap (λ a. sets i 0 (figures a)) (g .0) ∙ sym (y .list))
+      by false e =
+          let h = leb-false 3 (length i) e in
+          (c .short h .0 ∙ sym (d .short h .0), c .short h .1 ∙ sym (d .short h .1), c .short h .2 ∙ sym (d .short h .2))
+
+  pub fragment-called-one : (m : List ℕ) (start : ℕ) (o : List ℕ) {o′ p′ : List ℕ} → FragmentCalled m start o i r o′ i′ → FragmentCalled m start o i t p′ j′
+      → (r ≡ t) × (o′ ≡ p′) × (i′ ≡ j′)
+  fragment-called-one m start o {o′} {p′} c d = by (leb 1 (length i)) refl
+    where
+      by : (b : Bool) → leb 1 (length i) ≡ b → (r ≡ t) × (o′ ≡ p′) × (i′ ≡ j′)
+      by true e =
+          let x = c .room (leb-true 1 (length i) e) in
+          let y = d .room (leb-true 1 (length i) e) in
+          let g = one-fragment m start o (x .writes) (y .writes) in
+          (x .number ∙ ap wroteCode (g .0) ∙ sym (y .number), g .1, x .list ∙ ap (λ w. sets i 0 (wroteFigure w ∷ [])) (g .0) ∙ sym (y .list))
+      by false e =
+          let h = leb-false 1 (length i) e in
+          (c .short h .0 ∙ sym (d .short h .0), c .short h .1 ∙ sym (d .short h .1), c .short h .2 ∙ sym (d .short h .2))
+
+  pub choose-called-one : (s : List ℕ) (seen : ℕ) (o : List ℕ) {o′ p′ : List ℕ} → ChooseCalled s seen o i r o′ i′ → ChooseCalled s seen o i t p′ j′
+      → (r ≡ t) × (o′ ≡ p′) × (i′ ≡ j′)
+  choose-called-one s seen o {o′} {p′} c d = by (leb 12 (length i)) refl
+    where
+      by : (b : Bool) → leb 12 (length i) ≡ b → (r ≡ t) × (o′ ≡ p′) × (i′ ≡ j′)
+      by true e =
+          let x = c .room (leb-true 12 (length i) e) in
+          let y = d .room (leb-true 12 (length i) e) in
+          let g = choice-promised s (not (eqb seen 0)) o (x .chooses) .one (y .chooses) in
+          (x .number ∙ ap chosenCode (g .0) ∙ sym (y .number), g .1, x .list ∙ ap (λ a. sets i 0 (chosenFigures a)) (g .0) ∙ sym (y .list))
+      by false e =
+          let h = leb-false 12 (length i) e in
+          (c .short h .0 ∙ sym (d .short h .0), c .short h .1 ∙ sym (d .short h .1), c .short h .2 ∙ sym (d .short h .2))
+
+  pub feed-called-one : (l run d : List ℕ) {l′ k′ d′ e′ : List ℕ} → FeedCalled l run d i r l′ d′ i′ → FeedCalled l run d i t k′ e′ j′
+      → (r ≡ t) × (l′ ≡ k′) × (d′ ≡ e′) × (i′ ≡ j′)
+  feed-called-one l run d {l′} {k′} {d′} {e′} c f = by (leb 7 (length l)) refl (leb 2 (length i)) refl
+    where
+      both : (length l < 7) ⊎ (length i < 2) → (r ≡ t) × (l′ ≡ k′) × (d′ ≡ e′) × (i′ ≡ j′)
+      both h =
+          let x = c .short h in let y = f .short h in
+          (x .0 ∙ sym (y .0), x .1 ∙ sym (y .1), x .2 ∙ sym (y .2), x .3 ∙ sym (y .3))
+
+      by : (a : Bool) → leb 7 (length l) ≡ a → (b : Bool) → leb 2 (length i) ≡ b → (r ≡ t) × (l′ ≡ k′) × (d′ ≡ e′) × (i′ ≡ j′)
+      by false e b g = both (inl (leb-false 7 (length l) e))
+      by true e false g = both (inr (leb-false 2 (length i) g))
+      by true e true g =
+          let x = c .room (leb-true 7 (length l) e) (leb-true 2 (length i) g) in
+          let y = f .room (leb-true 7 (length l) e) (leb-true 2 (length i) g) in
+          let o = promised (x .feeds) .one (y .feeds) in (
+            x .number ∙ ap fedCode (o .0) ∙ sym (y .number),
+            x .state ∙ ap (λ a. sets l 0 (stateList (fedState a))) (o .0) ∙ sym (y .state),
+            o .1,
+            x .list ∙ ap (λ a. sets i 0 (fedFigures a)) (o .0) ∙ sym (y .list),
+          )
+
+  pub part-called-one : (s : List ℕ) (x : Piece) → PartCalled s x i r i′ → PartCalled s x i t j′ → (r ≡ t) × (i′ ≡ j′)
+  part-called-one s x c d = by (leb 2 (length i)) refl
+    where
+      by : (b : Bool) → leb 2 (length i) ≡ b → (r ≡ t) × (i′ ≡ j′)
+      by true e =
+          let h = leb-true 2 (length i) e in
+          (c .room h .0 ∙ sym (d .room h .0), c .room h .1 ∙ sym (d .room h .1))
+      by false e =
+          let h = leb-false 2 (length i) e in
+          (c .short h .0 ∙ sym (d .short h .0), c .short h .1 ∙ sym (d .short h .1))
