@@ -28,6 +28,8 @@ use Rattle.rpcwire.specs.Laws.Promise.{promised}
 use Rattle.rpcwire.specs.Laws.Steps.{begin-more}
 use Rattle.rpcwire.specs.declared.assembler.Assembler.{Assembler}
 use Rattle.door.specs.Meaning.Copy.{made, saidOf, copySaid, copyLeft, Copies}
+use Rattle.xdr.specs.declared.refusal.Refusal.{Refusal}
+use Rattle.xdr.specs.declared.refusal.Refusal.the-variants.{Overrun}
 
 module _ {M S : Type 0} (F : Format M S) where
   -- a message that is in range, and not too long to be read

@@ -23,7 +23,7 @@ use Rattle.nfs.specs.declared.set.set_mtime.the-variants as mtime
 use Rattle.rpcwire.specs.Meaning.Stream.{stand, more, complete, fresh, inFragment, halted}
 use Rattle.rpcwire.specs.Meaning.Stream as stream
 use Rattle.worked.specs.Row.{Row, reading, writing, feeding}
-use Rattle.xdr.specs.declared.refusal.Refusal.the-variants.{Ended, Undeclared}
+use Rattle.xdr.specs.declared.refusal.Refusal.the-variants.{Ended, Undeclared, Overrun}
 
 abbrev hello : List ℕ
 hello = 0x68 ∷ 0x65 ∷ 0x6C ∷ 0x6C ∷ 0x6F ∷ []

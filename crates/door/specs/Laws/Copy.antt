@@ -16,6 +16,7 @@ use Rattle.xdr.specs.Meaning.Public.{Answers, output, writing, Writes}
 use Rattle.xdr.specs.Laws.Public.{kept}
 use Rattle.door.specs.Meaning.Copy.{Copy, unknown, unread, saidOf, Copies}
 use Rattle.door.specs.Meaning.Kinds.{CopiesOf}
+use Rattle.xdr.specs.declared.refusal.Refusal.{Refusal}
 
 module _ {M S R : Type 0} (F : Format M S) (view : R → Answer S) (s : List ℕ) (at start : ℕ) (o : List ℕ) {r t : R} (c : Answers F s at (view r)) (e : r ≡ t) where
   -- the reading was refused

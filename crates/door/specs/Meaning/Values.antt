@@ -32,6 +32,7 @@ use Rattle.rpc.specs.declared.reply.accept_body.{«accept_body»}
 use Rattle.rpc.specs.declared.reply.accept_body.the-variants.{SUCCESS, «PROG_UNAVAIL», «PROG_MISMATCH», «PROC_UNAVAIL», «GARBAGE_ARGS»}
 use Rattle.rpc.specs.declared.reply.reply_body.the-variants.{«MSG_ACCEPTED», «MSG_DENIED»}
 use Rattle.rpc.specs.declared.reply.rejected_reply.the-variants.{«RPC_MISMATCH», «AUTH_ERROR»}
+use Rattle.xdr.specs.Meaning.Refusal.{numberOf, placeOf}
 
 -- what is told of a reading, where a value of its kind has k figures: 0 with the place after the value, 1 if it was in published form and
 -- else 0, and its figures; or the refusal's number with its place and zeros

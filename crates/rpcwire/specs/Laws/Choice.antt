@@ -32,6 +32,7 @@ use Rattle.rpc.specs.declared.message.rpc_body.the-variants.{CALL, REPLY}
 use Rattle.rpc.specs.declared.reply.reply_body.{«reply_body»}
 use Rattle.rpc.specs.declared.message.rpc_msg.{«rpc_msg»}
 use Rattle.rpcwire.specs.Meaning.Choice.{Decision, refuse, reply, silence, hand-over, served, byProgram, byVersion, byUnix, byFlavor, byBody, byMessage, decided, Chosen, turned-away, replied, silent, handed, Outcome, outcome, replying, carriedOut, Chooses, Leaves, ChoicePromised}
+use Rattle.xdr.specs.Meaning.Bytes.{Bytes}
 use Rattle.xdr.specs.Meaning.Refusal.{OfReading}
 use Rattle.xdr.specs.Laws.Public.{kept}
 use Rattle.rpc.specs.Laws.UnixKept.{unix-numbered}

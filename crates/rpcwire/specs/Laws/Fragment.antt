@@ -23,6 +23,7 @@ use Rattle.rpcwire.specs.Laws.Steps.{begin-more, settled-done, walk-ende
 use Rattle.rpcwire.specs.Laws.Promise.{fresh-fits}
 use Rattle.rpcwire.specs.Laws.Turns.{copied-walk}
 use Rattle.xdr.specs.declared.refusal.Refusal.the-variants.{TooLong, NoRoom, PastEnd}
+use Rattle.xdr.specs.declared.refusal.Refusal.{Refusal}
 
 -- ---- the writer, by case
 

@@ -15,6 +15,8 @@ use Rattle.rpcwire.specs.Meaning.Promise.{numberSaid, stateSaid, shift, 
 use Rattle.rpcwire.specs.Laws.Fits.{fits-header}
 use Rattle.rpcwire.specs.Laws.Steps.{begin-more, begin-stopped, begin-misfit, walk-ended, shift-walk, Sound, SoundNow, sound-walk, used, used-walk, used-begin, cut-walk, KeptNow, kept-walk, placed-begin}
 use Rattle.rpcwire.specs.declared.assembler.Assembler.{Assembler}
+use Rattle.xdr.specs.declared.refusal.Refusal.the-variants.{Unfit, Overrun}
+use Rattle.xdr.specs.Meaning.Refusal.{numberOf}
 
 pub fresh-fits : (c : ℕ) → c ≤ most → fitsOf (fresh c) c ≡ true
 fresh-fits c h = fits-header c 0 0 0 c refl h (omega arith) (omega arith) (omega arith)
@@ -36,7 +38,7 @@ sound-fits (refused r s u) d h = h .0
 sound-number : (f : Said) (d : List ℕ) → Sound f d → numberSaid f ≡ 6 → ⊥
 sound-number (more s u) d h e = omega arith
 sound-number (complete n s u) d h e = omega arith
-sound-number (refused r s u) d h e = omega (arith, h .2)
+sound-number (refused r s u) d h e = let z = ap numberOf (h .2) in omega arith
 
 -- refusals before the first byte
 pub feed-misfit : (s : Assembler) (run d : List ℕ) → fitsOf s (length d) ≡ false → feedOf s run d ≡ stand (refused Unfit s 0) d

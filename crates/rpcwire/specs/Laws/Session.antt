@@ -18,6 +18,7 @@ use Rattle.rpcwire.specs.Laws.Fits.{fit}
 use Rattle.rpcwire.specs.Laws.Steps.{begin-more, Sound, used, used-step}
 use Rattle.rpcwire.specs.Laws.Promise.{fresh-fits, sound, split, feed-stopped}
 use Rattle.rpcwire.specs.declared.assembler.Assembler.{Assembler}
+use Rattle.xdr.specs.declared.refusal.Refusal.the-variants.{Overrun}
 
 -- one byte
 abbrev pub listen : Heard → ℕ → Heard

@@ -16,6 +16,7 @@ use Rattle.rpcwire.specs.Meaning.Stream.{Said, more, complete, refused, 
 use Rattle.rpcwire.specs.Meaning.Promise.{usedSaid, placedSaid, shiftSaid, shift, Kept}
 use Rattle.rpcwire.specs.Laws.Fits.{Fit, fit, fits-header, fits-fragment, fits-halted, more-value}
 use Rattle.rpcwire.specs.declared.assembler.Assembler.{Assembler}
+use Rattle.xdr.specs.declared.refusal.Refusal.the-variants.{Unfit, Overrun}
 
 -- before the first byte
 pub begin-more : (s : Assembler) (n : ℕ) → fitsOf s n ≡ true → s .stopped ≡ false → begin s n ≡ more s 0

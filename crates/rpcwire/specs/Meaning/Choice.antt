@@ -21,6 +21,8 @@ use Rattle.rpc.specs.declared.message.call_body.{«call_body»}
 use Rattle.rpc.specs.declared.message.rpc_body.{«rpc_body»}
 use Rattle.rpc.specs.declared.message.rpc_body.the-variants.{CALL, REPLY}
 use Rattle.rpc.specs.declared.message.rpc_msg.{«rpc_msg»}
+use Rattle.xdr.specs.declared.refusal.Refusal.{Refusal}
+use Rattle.xdr.specs.declared.refusal.Refusal.the-variants.{NoRoom, NotCall}
 
 -- What a message calls for, whatever the output is: a refusal; a reply; silence; or the hand-over, with
 -- program, version, procedure, the auth_unix or none, and the place where the arguments begin.

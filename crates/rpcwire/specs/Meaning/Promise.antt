@@ -9,6 +9,8 @@ use lib.ListN.{length, take, drop}
 use Rattle.xdr.specs.Meaning.Answer.{most}
 use Rattle.rpcwire.specs.Meaning.Stream.{Said, more, complete, refused, Now, stand, fresh, fitsOf, feedOf, Feeds}
 use Rattle.rpcwire.specs.declared.assembler.Assembler.{Assembler}
+use Rattle.xdr.specs.declared.refusal.Refusal.the-variants.{Unfit, Overrun}
+use Rattle.xdr.specs.Meaning.Refusal.{numberOf}
 
 -- the refusal's number, 0 where it is none; the state, the bytes used, and how many bytes of the record the buffer then holds
 abbrev pub numberSaid : Said → ℕ

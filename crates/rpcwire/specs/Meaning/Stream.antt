@@ -10,6 +10,7 @@ use Rattle.xdr.specs.Meaning.Bytes.{Bytes}
 use Rattle.xdr.specs.Meaning.Answer.{most}
 use Rattle.rpcwire.specs.declared.assembler.Assembler.{Assembler}
 use Rattle.xdr.specs.declared.refusal.Refusal.{Refusal}
+use Rattle.xdr.specs.declared.refusal.Refusal.the-variants.{TooLong, Unfit, Overrun}
 
 -- The states that feeding makes.
 

@@ -5,6 +5,7 @@ use borrow.Author.Tests.{lt-ltb, le-ltb, le-leb, lt-leb}
 use Rattle.rpcwire.specs.Meaning.Stream.{more, refused, headed, headerByte}
 use Rattle.rpcwire.proofs.assembler.header_byte.Statement.{statement}
 use Rattle.rpcwire.proofs.assembler.header_byte.Tie as tie
+use Rattle.xdr.specs.declared.refusal.Refusal.the-variants.{Overrun}
 
 returns : tie.Need-returns
 unfolding headerByte
