@@ -12,6 +12,7 @@ use Rattle.xdr.specs.Meaning.Answer.{Answer, took, refused, opened, most}
 use Rattle.xdr.specs.Meaning.Held.{thenFirst, thenSecond}
 use Rattle.xdr.specs.Meaning.Format.{Format, _⨟_}
 use Rattle.xdr.specs.Meaning.Public.{Answers, Took}
+use Rattle.xdr.specs.Laws.One.{Told}
 use Rattle.xdr.specs.Laws.Public.{opened-in, kept}
 use Rattle.reader.specs.Meaning.Step.{onward, Stepped, joined}
 use Rattle.reader.specs.declared.Reader.{Reader}
@@ -70,3 +71,8 @@ module _ {M S : Type 0} (F : Format M S) (r r′ : Reader) where
       let g : a ≡ b = kept F .one (now (r .src)) (r .at) (e .answers) (f .answers) in
       let at : r′ .at ≡ r″ .at = e .next ∙ ap (λ (z : Answer S). onward z (r .at)) g ∙ sym (f .next) in
       (g, λ i. record { src = (e .same ∙ sym (f .same)) i; at = at i })
+
+-- the same in the code's own types
+pub step-told : {M S R : Type 0} {view : R → Answer S} → Told view → (F : Format M S) {r r′ r″ : Reader} (x y : R) → Stepped F r (view x) r′ → Stepped F r (view y) r″
+    → (x ≡ y) × (r′ ≡ r″)
+step-told told F {r} {r′} x y e f = let o = step-one F r r′ e f in (told x y (o .0), o .1)

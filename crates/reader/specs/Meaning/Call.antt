@@ -1,6 +1,6 @@
 -- A call read whole: an rpc_msg, and behind it the arguments of MKDIR (RFC 1813, section 3.3.9).
 -- Assumes nothing.
-use Rattle.xdr.specs.Meaning.Answer.{Answer, took}
+use Rattle.xdr.specs.Meaning.Answer.{Answer, took, refused}
 use Rattle.xdr.specs.Meaning.Format.{Format, exactly, _⨟_}
 use Rattle.rpc.specs.Meaning.Messages.{RpcMsg}
 use Rattle.rpc.specs.Meaning.Message.{rpc-msg}
