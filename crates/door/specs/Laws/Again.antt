@@ -14,7 +14,7 @@ use Rattle.xdr.specs.Meaning.Bytes.{Bytes, part}
 use Rattle.xdr.specs.Meaning.Refusal.{numberOf}
 use Rattle.xdr.specs.Meaning.Answer.{Answer, took, refused, opened, most, Written, done, unwritten}
 use Rattle.xdr.specs.Meaning.Format.{Format, Branch}
-use Rattle.xdr.specs.Meaning.Public.{Answers, Took, message, output, writing, leaving, Writes, Back}
+use Rattle.xdr.specs.Meaning.Public.{Answers, Took, writing, leaving, Writes, Back}
 use Rattle.xdr.specs.Laws.Public.{kept}
 use Rattle.xdr.specs.Laws.Write.{wrote-back}
 use Rattle.xdr.specs.declared.refusal.Refusal.{Refusal}
@@ -25,16 +25,16 @@ use Rattle.door.specs.Meaning.Exports.{codeOf, figures, Told, wroteCode}
 use Rattle.door.specs.Meaning.Given.{GivenTold, WriteCalled}
 
 -- a copy that was made is a reading and a writing
-module _ {M S : Type 0} (F : Format M S) (s : List ℕ) (at start : ℕ) (o o′ : List ℕ) {n : ℕ} {b : Bool} {e : ℕ} where
-  pub record Made : Type 0 where
-    pub value : S
-    pub answers : Answers F s at (took value n b)
-    pub writes : Writes F s value start o (done e) o′
+pub record Made {M S : Type 0} (F : Format M S) (s : List ℕ) (at start : ℕ) (o o′ : List ℕ) (n : ℕ) (b : Bool) (e : ℕ) : Type 0 where
+  pub value : S
+  pub answers : Answers F s at (took value n b)
+  pub writes : Writes F s value start o (done e) o′
 
-  by-said : Bytes s → (x : S) (k : ℕ) (d : Bool) → opened s at (F .held .read s at) ≡ took x k d → (w : Written) → writing F s x start (length o) ≡ w
-      → made n b e ≡ saidOf k d w → o′ ≡ leaving F s x w start o → Made
-  by-said hb x k d t (unwritten r) u g l = let z : _≡_ {A = ℕ} 0 1 = cc g in absurd (omega arith)
-  by-said hb x k d t (done f) u g l =
+module _ {M S : Type 0} (F : Format M S) (s : List ℕ) (at start : ℕ) (o o′ : List ℕ) (n : ℕ) (b : Bool) (e : ℕ) (hb : Bytes s) where
+  by-said : (x : S) (k : ℕ) (d : Bool) → opened s at (F .held .read s at) ≡ took x k d → (w : Written) → writing F s x start (length o) ≡ w
+      → made n b e ≡ saidOf k d w → o′ ≡ leaving F s x w start o → Made F s at start o o′ n b e
+  by-said x k d t (unwritten r) u g l = let z : _≡_ {A = ℕ} 0 1 = cc g in absurd (omega arith)
+  by-said x k d t (done f) u g l =
       let j : opened s at (F .held .read s at) ≡ took x n b = cc (t, g) in
       let i : f ≡ e = cc g in
       let y : Took F = record { source = s; place = at; value = x; next = n; plain = b; answers = record { is = sym j; bytes = hb } } in
@@ -44,48 +44,49 @@ module _ {M S : Type 0} (F : Format M S) (s : List ℕ) (at start : ℕ) (o o′
         writes = record { says = sym (u ∙ ap done i); leaves = l ∙ ap (λ (m : ℕ). leaving F s x (done m) start o) i; good = kept F .in-range y };
       }
 
-  by-read : Bytes s → (a : Answer S) → opened s at (F .held .read s at) ≡ a → made n b e ≡ copySaid F s start o a → o′ ≡ copyLeft F s start o a → Made
-  by-read hb (refused r) t g l = let z : _≡_ {A = ℕ} 0 1 = cc g in absurd (omega arith)
-  by-read hb (took x k d) t g l = by-said hb x k d t (writing F s x start (length o)) refl g l
+  by-read : (a : Answer S) → opened s at (F .held .read s at) ≡ a → made n b e ≡ copySaid F s start o a → o′ ≡ copyLeft F s start o a
+      → Made F s at start o o′ n b e
+  by-read (refused r) t g l = let z : _≡_ {A = ℕ} 0 1 = cc g in absurd (omega arith)
+  by-read (took x k d) t g l = by-said x k d t (writing F s x start (length o)) refl g l
 
-  pub made-of : Bytes s → Copies F s at start o (made n b e) o′ → Made
-  made-of hb c = by-read hb (opened s at (F .held .read s at)) refl (c .says) (c .leaves)
+  pub made-of : Copies F s at start o (made n b e) o′ → Made F s at start o o′ n b e
+  made-of c = by-read (opened s at (F .held .read s at)) refl (c .says) (c .leaves)
 
-module _ {M S : Type 0} (F : Format M S) where
-  -- the message of a copy that was made
-  abbrev pub copied : {s : List ℕ} {at start : ℕ} {o o′ : List ℕ} {n : ℕ} {b : Bool} {e : ℕ} → Made F s at start o o′ {n} {b} {e} → M
-  copied {s} m = F .held .mean s (m .value)
+module _ {M S : Type 0} (F : Format M S) {s : List ℕ} {at start : ℕ} {o o′ : List ℕ} {n : ℕ} {b : Bool} {e : ℕ} (m : Made F s at start o o′ n b e) where
+  -- the message that was copied
+  abbrev pub copied : M
+  copied = F .held .mean s (m .value)
 
-  taken : {s : List ℕ} {at start : ℕ} {o o′ : List ℕ} {n : ℕ} {b : Bool} {e : ℕ} → Made F s at start o o′ {n} {b} {e} → Took F
-  taken {s} {at} {n = n} {b = b} m = record { source = s; place = at; value = m .value; next = n; plain = b; answers = m .answers }
+  pub taken : Took F
+  taken = record { source = s; place = at; value = m .value; next = n; plain = b; answers = m .answers }
 
-  module _ {s : List ℕ} {at start : ℕ} {o o′ : List ℕ} {n : ℕ} {b : Bool} {e : ℕ} (m : Made F s at start o o′ {n} {b} {e}) where
-    -- the bytes that it wrote are the message's
-    pub wrote-bytes : part o′ start e ≡ F .codec .kind .write (copied m)
-    wrote-bytes = wrote-back F s (m .value) start o (m .writes) .bytes
+  -- the bytes that were written are its own
+  pub wrote-bytes : part o′ start e ≡ F .codec .kind .write copied
+  wrote-bytes = wrote-back F s (m .value) start o (m .writes) .bytes
 
-    -- a second copy, of what the first wrote: plain, of exactly those bytes, the same message, and the same bytes again
-    pub again : length o′ ≤ most → {start′ : ℕ} {q q′ : List ℕ} {n′ : ℕ} {b′ : Bool} {e′ : ℕ} (m′ : Made F o′ start start′ q q′ {n′} {b′} {e′})
-        → (n′ ≡ e) × (b′ ≡ true) × (copied m′ ≡ copied m) × (part q′ start′ e′ ≡ part o′ start e)
-    again h {start′} {q} {q′} {n′} {b′} {e′} m′ =
-        let r = wrote-back F s (m .value) start o (m .writes) .answers h (m′ .answers) in
-        let v : m′ .value ≡ r .0 = cc (r .1) in
-        let same : copied m′ ≡ copied m = ap (F .held .mean o′) v ∙ r .2 in (
-          cc (r .1),
-          cc (r .1),
-          same,
-          wrote-back F o′ (m′ .value) start′ q (m′ .writes) .bytes ∙ ap (F .codec .kind .write) same ∙ sym wrote-bytes,
-        )
+-- a second copy, of what the first wrote: plain, of exactly those bytes, the same message, and the same bytes again
+pub again : {M S : Type 0} (F : Format M S) {s : List ℕ} {at start : ℕ} {o o′ : List ℕ} {n : ℕ} {b : Bool} {e : ℕ} (m : Made F s at start o o′ n b e)
+    → length o′ ≤ most → {start′ : ℕ} {q q′ : List ℕ} {n′ : ℕ} {b′ : Bool} {e′ : ℕ} (m′ : Made F o′ start start′ q q′ n′ b′ e′)
+    → (n′ ≡ e) × (b′ ≡ true) × (copied F m′ ≡ copied F m) × (part q′ start′ e′ ≡ part o′ start e)
+again F {s} {at} {start} {o} {o′} m h m′ =
+    let r = wrote-back F s (m .value) start o (m .writes) .answers h (m′ .answers) in
+    let v : m′ .value ≡ r .0 = cc (r .1) in
+    let same : copied F m′ ≡ copied F m = ap (F .held .mean o′) v ∙ r .2 in (
+      cc (r .1),
+      cc (r .1),
+      same,
+      wrote-bytes F m′ ∙ ap (F .codec .kind .write) same ∙ sym (wrote-bytes F m),
+    )
 
-    -- two copies: equal messages exactly if equal bytes
-    pub equal-iff : {s′ : List ℕ} {at′ start′ : ℕ} {q q′ : List ℕ} {n′ : ℕ} {b′ : Bool} {e′ : ℕ} (m′ : Made F s′ at′ start′ q q′ {n′} {b′} {e′})
-        → (copied m ≡ copied m′) ↔ (part o′ start e ≡ part q′ start′ e′)
-    equal-iff {s′} {start′ = start′} {q} m′ =
-        let f = kept F .same-iff (taken m) (taken m′) in
-        let i = wrote-back F s′ (m′ .value) start′ q (m′ .writes) .bytes in (
-          (λ g. wrote-bytes ∙ f .0 g ∙ sym i),
-          (λ g. f .1 (sym wrote-bytes ∙ g ∙ i)),
-        )
+-- two copies: equal messages exactly if equal bytes
+pub equal-iff : {M S : Type 0} (F : Format M S) {s s′ : List ℕ} {at at′ start start′ : ℕ} {o o′ q q′ : List ℕ} {n n′ : ℕ} {b b′ : Bool} {e e′ : ℕ}
+    (m : Made F s at start o o′ n b e) (m′ : Made F s′ at′ start′ q q′ n′ b′ e′) → (copied F m ≡ copied F m′) ↔ (part o′ start e ≡ part q′ start′ e′)
+unfolding taken
+equal-iff F m m′ =
+    let f = kept F .same-iff (taken F m) (taken F m′) in (
+      (λ g. wrote-bytes F m ∙ f .0 g ∙ sym (wrote-bytes F m′)),
+      (λ g. f .1 (sym (wrote-bytes F m) ∙ g ∙ wrote-bytes F m′)),
+    )
 
 -- `yugerzat_read` answered 0: its kind has a format, and the copy was made with the figures that it gave
 numbers-none : (r : Refusal) → 0 ≡ numberOf r → ⊥
@@ -105,13 +106,13 @@ pub record ReadMade (kind : ℕ) (s : List ℕ) (at : ℕ) (o i o′ i′ : List
   pub plain : Bool
   pub end : ℕ
   pub figures : i′ ≡ sets i 0 (next ∷ cond plain 1 0 ∷ end ∷ [])
-  pub made : Made (branch .format) s at 0 o o′ {next} {plain} {end}
+  pub made : Made (branch .format) s at 0 o o′ next plain end
 
 of-kind : (l : List Branch) (k : ℕ) (s : List ℕ) (at : ℕ) (o i o′ i′ : List ℕ) → Bytes s → (n : ℕ) (b : Bool) (e : ℕ) → CopiesOf l k s at 0 o (made n b e) o′
     → i′ ≡ sets i 0 (n ∷ cond b 1 0 ∷ e ∷ []) → ReadMade k s at o i o′ i′
 of-kind [] k s at o i o′ i′ h n b e c f = let z : _≡_ {A = ℕ} 0 1 = cc (c .0) in absurd (omega arith)
 of-kind (x ∷ l) zero s at o i o′ i′ h n b e c f =
-    record { branch = x; next = n; plain = b; end = e; figures = f; made = made-of (x .format) s at 0 o o′ h c }
+    record { branch = x; next = n; plain = b; end = e; figures = f; made = made-of (x .format) s at 0 o o′ n b e h c }
 of-kind (x ∷ l) (suc k) s at o i o′ i′ h n b e c f =
     let r = of-kind l k s at o i o′ i′ h n b e c f in
     record { branch = r .branch; next = r .next; plain = r .plain; end = r .end; figures = r .figures; made = r .made }
