@@ -1,4 +1,6 @@
-// The constants of RFC 1813, sections 2.2, 2.4 and 3.3.19.
+// The constants of RFC 1813, sections 2.1, 2.4 and 3.3.19.
+ghost use mathlib.Core.Path.{_≡_};
+ghost use Rattle.nfs.specs.Meaning.Constants.{rfc1813};
 
 // The RPC program of NFS version 3.
 pub const PROGRAM: u32 = 100003;
@@ -23,3 +25,35 @@ pub const FSF_SYMLINK: u32 = 2;
 pub const FSF_HOMOGENEOUS: u32 = 8;
 
 pub const FSF_CANSETTIME: u32 = 16;
+
+// All of them as one value.
+pub struct Constants {
+    pub program: u32,
+    pub version: u32,
+    pub fhsize: u32,
+    pub cookieverfsize: u32,
+    pub createverfsize: u32,
+    pub writeverfsize: u32,
+    pub link: u32,
+    pub symlink: u32,
+    pub homogeneous: u32,
+    pub cansettime: u32,
+}
+
+// The contract holds each constant to the RFC's number.
+pub fn rfc1813_constants() -> Constants
+    ensures { λ r. ⌜ r ≡ rfc1813 ⌝ }
+{
+    Constants {
+        program: PROGRAM,
+        version: VERSION,
+        fhsize: NFS3_FHSIZE,
+        cookieverfsize: NFS3_COOKIEVERFSIZE,
+        createverfsize: NFS3_CREATEVERFSIZE,
+        writeverfsize: NFS3_WRITEVERFSIZE,
+        link: FSF_LINK,
+        symlink: FSF_SYMLINK,
+        homogeneous: FSF_HOMOGENEOUS,
+        cansettime: FSF_CANSETTIME,
+    }
+}
