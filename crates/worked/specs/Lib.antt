@@ -3,3 +3,4 @@ pub mod Idle
 pub mod Row
 pub mod Table
 pub mod Worked
+pub mod EveryAnswer
