@@ -6,6 +6,9 @@ pub mod Length
 pub mod Sizes
 pub mod UnixIn
 pub mod Tags
-pub mod Fields
 pub mod Puts
 pub mod ClosedWrites
+pub mod Pairs
+pub mod Keys
+pub mod Unions
+pub mod Plans
