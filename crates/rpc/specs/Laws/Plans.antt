@@ -10,9 +10,10 @@ use Rattle.xdr.specs.Meaning.Format.{exactly}
 use Rattle.xdr.specs.Meaning.Formats.{bytes, wordList}
 use Rattle.xdr.specs.Laws.Plans.{Prog, ask, give, run, planned, plan, planned-as, at, _then_, asks, Step, Loses, step, lost-at}
 use Rattle.rpc.specs.Laws.Pairs.{two-words, words-then}
-use Rattle.rpc.specs.Laws.Keys.{Numbered, keys}
+use Rattle.rpc.specs.Laws.Keys.{keys}
+use Rattle.rpc.specs.Laws.Closed.{numbers}
 use Rattle.rpc.specs.Laws.Unions.{Union, armBranches, arms-read, unions}
-use Rattle.rpc.specs.Meaning.Closed.{msg-type, msgTypeNumber, msgTypes, each-msg-type, reply-stat, replyStatNumber, replyStats, each-reply-stat, accept-stat, acceptStatNumber, acceptStats, each-accept-stat, reject-stat, rejectStatNumber, rejectStats, each-reject-stat, auth-flavor, flavorNumber, flavors, each-auth-flavor, auth-stat, authStatNumber, authStats, each-auth-stat}
+use Rattle.rpc.specs.Meaning.Closed.{auth-flavor}
 use Rattle.rpc.specs.Meaning.Auth.{opaque-auth, auth-unix}
 use Rattle.rpc.specs.Meaning.Reply.{mismatch-info, acceptArms, seeAccept, fromAccept, accept-kept, accept-back, accept-body, accepted-reply, rejectArms, seeReject, fromReject, reject-kept, reject-back, rejected-reply, replyBranches, holdReply, reply-body}
 use Rattle.rpc.specs.Meaning.Message.{call-body, bodyBranches, holdBody, rpc-body, rpc-msg}
@@ -67,31 +68,6 @@ reply-union = record { is = λ s p. refl }
 pub body-union : Union rpc-body bodyBranches holdBody 2
 unfolding rpc-body
 body-union = record { is = λ s p. refl }
-
--- the enumerations, by their numbers
-pub msg-type-numbered : Numbered msg-type msgTypeNumber msgTypes
-unfolding msg-type
-msg-type-numbered = record { each = each-msg-type; is = refl }
-
-pub reply-stat-numbered : Numbered reply-stat replyStatNumber replyStats
-unfolding reply-stat
-reply-stat-numbered = record { each = each-reply-stat; is = refl }
-
-pub accept-stat-numbered : Numbered accept-stat acceptStatNumber acceptStats
-unfolding accept-stat
-accept-stat-numbered = record { each = each-accept-stat; is = refl }
-
-pub reject-stat-numbered : Numbered reject-stat rejectStatNumber rejectStats
-unfolding reject-stat
-reject-stat-numbered = record { each = each-reject-stat; is = refl }
-
-pub auth-flavor-numbered : Numbered auth-flavor flavorNumber flavors
-unfolding auth-flavor
-auth-flavor-numbered = record { each = each-auth-flavor; is = refl }
-
-pub auth-stat-numbered : Numbered auth-stat authStatNumber authStats
-unfolding auth-stat
-auth-stat-numbered = record { each = each-auth-stat; is = refl }
 
 -- the answers of the calls
 pub step-flavor : Step views.viewAuthFlavor
@@ -155,4 +131,4 @@ pub lost-body : Loses views.lostRpcBody
 lost-body A = lost-at views.lostRpcBody
 
 pub ruleset inner =
-    (keys, msg-type-numbered, reply-stat-numbered, accept-stat-numbered, reject-stat-numbered, auth-flavor-numbered, auth-stat-numbered, unions, accept-union, reject-union, reply-union, body-union, info-plan, auth-plan, unix-plan, call-plan, accepted-plan, msg-plan, asks, step-flavor, lost-flavor, step-stat, lost-stat, step-info, lost-info, step-auth, lost-auth, step-call, lost-call, step-accept, lost-accept, step-accepted, lost-accepted, step-reject, lost-reject, step-reply, lost-reply, step-body, lost-body)
+    (keys, numbers, unions, accept-union, reject-union, reply-union, body-union, info-plan, auth-plan, unix-plan, call-plan, accepted-plan, msg-plan, asks, step-flavor, lost-flavor, step-stat, lost-stat, step-info, lost-info, step-auth, lost-auth, step-call, lost-call, step-accept, lost-accept, step-accepted, lost-accepted, step-reject, lost-reject, step-reply, lost-reply, step-body, lost-body)

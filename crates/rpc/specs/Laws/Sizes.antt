@@ -1,7 +1,7 @@
 -- How long each kind is written: fixed, or by its pieces and its choices.
 -- Assumes nothing.
 use mathlib.Core.Path.{_≡_, refl, sym, ap, ap₂, _∙_}
-use mathlib.Core.Bool.{_&&_, and-true}
+use mathlib.Core.Bool.{Bool, _&&_, and-true}
 use mathlib.Core.List.{List, _++_, append-assoc, append-nil}
 use Prim.Native.Nat.{ℕ, _+_}
 use native.Mathlib.Omega.{arith}
@@ -15,6 +15,8 @@ use Rattle.xdr.specs.Laws.Marks.{and-left, and-right}
 use Rattle.xdr.specs.Laws.Padding.{word-length, word-pair-length}
 use Rattle.xdr.specs.Laws.LayPieces.{bytes-size, words-size}
 use Rattle.xdr.specs.Laws.Write.{Ready}
+use Rattle.xdr.specs.Meaning.Format.{exactly}
+use Rattle.rpc.specs.Laws.Putting.{Sized}
 use Rattle.rpc.specs.Meaning.Closed.{auth-flavor, auth-stat, flavorNumber, authStatNumber, msg-type, msgTypeNumber, reply-stat, replyStatNumber, accept-stat, acceptStatNumber, reject-stat, rejectStatNumber}
 use Rattle.rpc.specs.Meaning.Auth.{opaque-auth, auth-unix}
 use Rattle.rpc.specs.Meaning.Reply.{mismatch-info, accept-body, accepted-reply, rejected-reply, reply-body, insideReply}
@@ -336,3 +338,44 @@ module _ (s : List ℕ) where
   msg-length m h =
       ap length (sym (msg-written m)) ∙ length-append (word .kind .write (m .xid)) (output rpc-body s (m .body))
       ∙ ap₂ (λ a b. a + b) (word-length (m .xid)) (body-length (m .body) (msg-body m h))
+
+-- for the writers
+pub info-sized : Sized (exactly mismatch-info) (λ m. 8)
+info-sized = record { long = λ s m b r. info-length m }
+
+pub accept-sized : Sized (exactly accept-body) acceptSize
+accept-sized = record { long = λ s m b r. accept-length m }
+
+pub reject-sized : Sized (exactly rejected-reply) rejectSize
+reject-sized = record { long = λ s m b r. reject-length m }
+
+pub auth-sized : Sized opaque-auth authSize
+auth-sized = record { long = λ s m b r. auth-length s m r }
+
+pub unix-sized : Sized auth-unix unixSize
+unix-sized = record { long = λ s m b r. unix-length s b m r }
+
+pub call-sized : Sized call-body callSize
+call-sized = record { long = λ s m b r. call-length s m r }
+
+pub accepted-sized : Sized accepted-reply acceptedSize
+accepted-sized = record { long = λ s m b r. accepted-length s m r }
+
+pub reply-sized : Sized reply-body replySize
+reply-sized = record { long = λ s m b r. reply-length s m r }
+
+pub body-sized : Sized rpc-body bodySize
+body-sized = record { long = λ s m b r. body-length s m r }
+
+pub msg-sized : Sized rpc-msg msgSize
+msg-sized = record { long = λ s m b r. msg-length s m r }
+
+-- a message is its body and a word more
+pub msg-inside : (s : List ℕ) (m : «rpc_msg») (i : Bool) → i ≡ rpc-body .held .inside s (m .body) → i ≡ rpc-msg .held .inside s m
+unfolding rpc-msg
+msg-inside s m i h = h
+
+pub word-more : (n m : ℕ) → n ≡ m → 4 + n ≡ 4 + m
+word-more n m e = ap (λ k. 4 + k) e
+
+pub ruleset sizes = (info-sized, accept-sized, reject-sized, auth-sized, unix-sized, call-sized, accepted-sized, reply-sized, body-sized, msg-sized, msg-inside, word-more)
