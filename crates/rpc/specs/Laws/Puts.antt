@@ -47,10 +47,6 @@ backAt a ys zs = putMid a (length ys - a) ys zs
 put-sized : {xs ys bs : List ℕ} {n m : ℕ} → n ≡ m → Put xs ys n bs → Put xs ys m bs
 put-sized {xs} {bs = bs} e f = record { is = f .is ∙ ap (λ k. bs ++ drop k xs) e; long = f .long ∙ e }
 
--- a size, where the code has found which case it is: a rule for `omega`
-pub same-size : {S : Type 0} (size : S → ℕ) (m k : S) → m ≡ k → size m ≡ size k
-same-size size m k e = ap size e
-
 -- every case of accept_body but PROG_MISMATCH is its tag alone
 pub record Bare (m : «accept_body») : Type 0 where
   pub four : 4 ≡ acceptSize m

@@ -5,8 +5,8 @@ use mathlib.Core.Logic.{_⊎_, ⊎-elim}
 use lib.ListN.{length-take, length-drop}
 use Rattle.rpc.specs.declared.reply.accept_body.{«accept_body»}
 use Rattle.rpc.specs.declared.reply.accept_body.the-variants.{SUCCESS, «PROG_UNAVAIL», «PROG_MISMATCH», «PROC_UNAVAIL», «GARBAGE_ARGS»}
-use Rattle.rpc.specs.Laws.Sizes.{acceptSize}
-use Rattle.rpc.specs.Laws.Puts.{Bare, puts, same-size}
+use Rattle.rpc.specs.Laws.Sizes.{acceptSize, same-size}
+use Rattle.rpc.specs.Laws.Puts.{Bare, puts}
 use Rattle.rpc.proofs.put.put_accept_body.Statement.{statement}
 use Rattle.rpc.proofs.put.put_accept_body.Tie as tie
 

@@ -1,8 +1,8 @@
 use borrow.Author.Needs.{needs}
 use native.Mathlib.Omega.{arith}
 use lib.ListN.{length-take, length-drop}
-use Rattle.rpc.specs.Laws.Sizes.{rejectSize}
-use Rattle.rpc.specs.Laws.Puts.{puts, same-size}
+use Rattle.rpc.specs.Laws.Sizes.{rejectSize, same-size}
+use Rattle.rpc.specs.Laws.Puts.{puts}
 use Rattle.rpc.proofs.put.put_rejected_reply.Statement.{statement}
 use Rattle.rpc.proofs.put.put_rejected_reply.Tie as tie
 

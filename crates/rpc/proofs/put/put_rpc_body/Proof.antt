@@ -1,8 +1,8 @@
 use borrow.Author.Needs.{needs}
 use native.Mathlib.Omega.{arith}
 use lib.ListN.{length-take, length-drop}
-use Rattle.rpc.specs.Laws.Sizes.{bodySize}
-use Rattle.rpc.specs.Laws.Puts.{puts, readies, same-size}
+use Rattle.rpc.specs.Laws.Sizes.{bodySize, same-size}
+use Rattle.rpc.specs.Laws.Puts.{puts, readies}
 use Rattle.rpc.proofs.put.put_rpc_body.Statement.{statement}
 use Rattle.rpc.proofs.put.put_rpc_body.Tie as tie
 
