@@ -22,7 +22,8 @@ use Rattle.rpc.specs.Meaning.Closed.{msg-type, reply-stat, accept-stat, 
 use Rattle.rpc.specs.Meaning.Auth.{opaque-auth, auth-unix}
 use Rattle.rpc.specs.Meaning.Reply.{mismatch-info, accept-body, accepted-reply, rejected-reply, reply-body}
 use Rattle.rpc.specs.Meaning.Message.{call-body, rpc-body, rpc-msg}
-use Rattle.rpc.specs.Laws.Sizes.{unix-fields}
+use Rattle.rpc.specs.Laws.Putting.{putting}
+use Rattle.rpc.specs.Laws.Sizes.{unix-fields, sizes}
 use Rattle.rpc.specs.declared.message.msg_type.{«msg_type»}
 use Rattle.rpc.specs.declared.message.msg_type.the-variants as msgType
 use Rattle.rpc.specs.declared.reply.reply_stat.{«reply_stat»}
@@ -164,3 +165,6 @@ module _ (s : List ℕ) (h : Bytes s) (k : length s ≤ most) where
           ),
         ),
       )
+
+-- what a writer's proof cites
+pub ruleset writes = (putting, sizes, info-good, accept-good, reject-good, auth-good, unix-good, call-good, accepted-good, reply-good, body-good, msg-good)

@@ -1,12 +1,16 @@
 -- What follows: the promise for each kind, how long each is written, the bytes of the replies that are made, and facts that proofs cite.
-pub mod Promise
+pub mod Promises
 pub mod One
 pub mod Makers
 pub mod Lengths
 pub mod Sizes
 pub mod UnixIn
 pub mod Tags
-pub mod Fields
 pub mod Puts
-pub mod ClosedWrites
+pub mod Closed
+pub mod Pairs
+pub mod Keys
+pub mod Unions
+pub mod Plans
+pub mod Putting
 pub mod UnixKept

@@ -1,20 +1,24 @@
 -- How long each kind is written: fixed, or by its pieces and its choices.
 -- Assumes nothing.
 use mathlib.Core.Path.{_≡_, refl, sym, ap, ap₂, _∙_}
-use mathlib.Core.Bool.{_&&_, and-true}
+use mathlib.Core.Bool.{Bool, true, _&&_, and-true}
 use mathlib.Core.List.{List, _++_, append-assoc, append-nil}
-use Prim.Native.Nat.{ℕ, _+_}
+use Prim.Native.Nat.{ℕ, _+_, _≤_}
 use native.Mathlib.Omega.{arith}
 use lib.ListN.{length, length-append}
+use mir.Syntax.{w64}
+use mir.Val.{Fits}
 use Rattle.xdr.specs.Meaning.Bytes.{Bytes}
 use Rattle.xdr.specs.Meaning.Items.{word, word-pair}
 use Rattle.xdr.specs.Meaning.Formats.{bytes, wordList, pieceHeld, wordsHeld}
 use Rattle.xdr.specs.Meaning.Pieces.{isInside, areInside, sizeUpTo, wordsUpTo}
 use Rattle.xdr.specs.Meaning.Public.{output}
 use Rattle.xdr.specs.Laws.Marks.{and-left, and-right}
-use Rattle.xdr.specs.Laws.Padding.{word-length, word-pair-length}
+use Rattle.xdr.specs.Laws.Padding.{word-length, word-pair-length, size-small, words-small}
 use Rattle.xdr.specs.Laws.LayPieces.{bytes-size, words-size}
 use Rattle.xdr.specs.Laws.Write.{Ready}
+use Rattle.xdr.specs.Meaning.Format.{exactly}
+use Rattle.rpc.specs.Laws.Putting.{Sized}
 use Rattle.rpc.specs.Meaning.Closed.{auth-flavor, auth-stat, flavorNumber, authStatNumber, msg-type, msgTypeNumber, reply-stat, replyStatNumber, accept-stat, acceptStatNumber, reject-stat, rejectStatNumber}
 use Rattle.rpc.specs.Meaning.Auth.{opaque-auth, auth-unix}
 use Rattle.rpc.specs.Meaning.Reply.{mismatch-info, accept-body, accepted-reply, rejected-reply, reply-body, insideReply}
@@ -81,6 +85,30 @@ bodySize (REPLY r) = 4 + replySize r
 
 abbrev pub msgSize : «rpc_msg» → ℕ
 msgSize m = 4 + bodySize (m .body)
+
+-- a size, where the code has found which case it is: a rule for `omega`
+pub same-size : {S : Type 0} (size : S → ℕ) (m k : S) → m ≡ k → size m ≡ size k
+same-size size m k e = ap size e
+
+-- sums of the sizes of pieces
+module _ (n r : ℕ) (e : r ≡ sizeUpTo n) where
+  pub auth-fits : Fits w64 (4 + r)
+  auth-fits = record { fits = omega (arith, size-small n) }
+
+  pub auth-most : 4 + r ≤ 1048584
+  auth-most = omega (arith, size-small n)
+
+  pub unix-fits : Fits w64 (12 + r)
+  unix-fits = record { fits = omega (arith, size-small n) }
+
+  module _ (k q : ℕ) (f : q ≡ wordsUpTo k) where
+    pub unix-fits-2 : Fits w64 (12 + r + q)
+    unix-fits-2 = record { fits = omega (arith, size-small n, words-small k) }
+
+    pub unix-most : 12 + r + q ≤ 5242900
+    unix-most = omega (arith, size-small n, words-small k)
+
+pub ruleset sums = (auth-fits, auth-most, unix-fits, unix-fits-2, unix-most)
 
 -- the closed enumerations have 4 bytes
 pub msg-type-length : (a : «msg_type») → length (msg-type .kind .write a) ≡ 4
@@ -336,3 +364,73 @@ module _ (s : List ℕ) where
   msg-length m h =
       ap length (sym (msg-written m)) ∙ length-append (word .kind .write (m .xid)) (output rpc-body s (m .body))
       ∙ ap₂ (λ a b. a + b) (word-length (m .xid)) (body-length (m .body) (msg-body m h))
+
+-- for the writers
+pub info-sized : Sized (exactly mismatch-info) (λ m. 8)
+info-sized = record { long = λ s m b r. info-length m }
+
+pub accept-sized : Sized (exactly accept-body) acceptSize
+accept-sized = record { long = λ s m b r. accept-length m }
+
+pub reject-sized : Sized (exactly rejected-reply) rejectSize
+reject-sized = record { long = λ s m b r. reject-length m }
+
+pub auth-sized : Sized opaque-auth authSize
+auth-sized = record { long = λ s m b r. auth-length s m r }
+
+pub unix-sized : Sized auth-unix unixSize
+unix-sized = record { long = λ s m b r. unix-length s b m r }
+
+pub call-sized : Sized call-body callSize
+call-sized = record { long = λ s m b r. call-length s m r }
+
+pub accepted-sized : Sized accepted-reply acceptedSize
+accepted-sized = record { long = λ s m b r. accepted-length s m r }
+
+pub reply-sized : Sized reply-body replySize
+reply-sized = record { long = λ s m b r. reply-length s m r }
+
+pub body-sized : Sized rpc-body bodySize
+body-sized = record { long = λ s m b r. body-length s m r }
+
+pub msg-sized : Sized rpc-msg msgSize
+msg-sized = record { long = λ s m b r. msg-length s m r }
+
+pub word-more : (n m : ℕ) → n ≡ m → 4 + n ≡ 4 + m
+word-more n m e = ap (λ k. 4 + k) e
+
+-- whether the pieces lie inside, by what the code found of the parts
+pub reply-denied-found : (s : List ℕ) (m : «reply_body») (r : «rejected_reply») → m ≡ «MSG_DENIED» r → true ≡ reply-body .held .inside s m
+reply-denied-found s m r f = sym (ap (insideReply s) f) ∙ sym (reply-fields s m)
+
+module _ (s : List ℕ) (i : Bool) where
+  pub auth-found : (m : «opaque_auth») → i ≡ isInside s (m .body) → i ≡ opaque-auth .held .inside s m
+  auth-found m e = e ∙ sym (auth-inside s m)
+
+  pub accepted-found : (m : «accepted_reply») → i ≡ opaque-auth .held .inside s (m .verf) → i ≡ accepted-reply .held .inside s m
+  accepted-found m e = e ∙ sym (accepted-fields s m)
+
+  pub reply-accepted-found : (m : «reply_body») (a : «accepted_reply») → m ≡ «MSG_ACCEPTED» a → i ≡ accepted-reply .held .inside s a → i ≡ reply-body .held .inside s m
+  reply-accepted-found m a f e = e ∙ sym (ap (insideReply s) f) ∙ sym (reply-fields s m)
+
+  pub body-call-found : (m : «rpc_body») (c : «call_body») → m ≡ CALL c → i ≡ call-body .held .inside s c → i ≡ rpc-body .held .inside s m
+  body-call-found m c f e = e ∙ sym (ap (insideBody s) f) ∙ sym (body-fields s m)
+
+  pub body-reply-found : (m : «rpc_body») (r : «reply_body») → m ≡ REPLY r → i ≡ reply-body .held .inside s r → i ≡ rpc-body .held .inside s m
+  body-reply-found m r f e = e ∙ sym (ap (insideBody s) f) ∙ sym (body-fields s m)
+
+  pub msg-found : (m : «rpc_msg») → i ≡ rpc-body .held .inside s (m .body) → i ≡ rpc-msg .held .inside s m
+  msg-found m e = e ∙ sym (msg-fields s m)
+
+  module _ (j k : Bool) where
+    pub unix-found : (m : «auth_unix») → j ≡ isInside s (m .machinename) → k ≡ areInside s (m .gids) → i ≡ (j && k) → i ≡ auth-unix .held .inside s m
+    unix-found m e f g = g ∙ ap₂ (λ x y. x && y) e f ∙ sym (unix-fields s m)
+
+    pub call-found : (m : «call_body») → j ≡ opaque-auth .held .inside s (m .cred) → k ≡ opaque-auth .held .inside s (m .verf) → i ≡ (j && k)
+        → i ≡ call-body .held .inside s m
+    call-found m e f g = g ∙ ap₂ (λ x y. x && y) e f ∙ sym (call-fields s m)
+
+pub ruleset insides =
+    (auth-found, accepted-found, reply-accepted-found, reply-denied-found, body-call-found, body-reply-found, msg-found, unix-found, call-found)
+
+pub ruleset sizes = (info-sized, accept-sized, reject-sized, auth-sized, unix-sized, call-sized, accepted-sized, reply-sized, body-sized, msg-sized, msg-found, word-more)

@@ -1,12 +1,13 @@
 -- The auth_unix of a credential: the two answers of its public reader, and that what it takes means the same in the whole message.
 -- Assumes nothing.
 use mathlib.Core.Path.{_≡_, sym, ap₂, _∙_}
-use mathlib.Core.Bool.{Bool, true, false, _&&_}
+use mathlib.Core.Bool.{Bool, true, false, _&&_, not}
 use mathlib.Core.List.{List, _++_}
-use Prim.Native.Nat.{ℕ, _+_, _<_, _≤_}
+use Prim.Native.Nat.{ℕ, _+_, _^_, _<_, _≤_}
 use native.Mathlib.Omega.{arith}
 use lib.ListN.{length, take, drop, take-append-drop, getD}
-use mir.Syntax.{w8}
+use lib.Seq.{length-take-le}
+use mir.Syntax.{w8, w64}
 use mir.Val.{Fits}
 use borrow.Author.Tests.{lt-leb}
 use Rattle.xdr.specs.Meaning.Answer.{Answer, took, refused, most, opened}
@@ -15,7 +16,8 @@ use Rattle.xdr.specs.Meaning.Pieces.{isInside, areInside}
 use Rattle.xdr.specs.Laws.Lists.{known-bytes}
 use Rattle.xdr.specs.Laws.Marks.{and-left, and-right}
 use Rattle.xdr.specs.Laws.Held.{taken-inside}
-use Rattle.xdr.specs.Laws.Pieces.{bytes-grow, inside-grows}
+use Rattle.xdr.specs.Laws.Pieces.{inside-le, bytes-grow, inside-grows}
+use Rattle.xdr.specs.Laws.LayPieces.{yes, no}
 use Rattle.xdr.specs.Laws.Words.{words-grow, are-inside-grows}
 use Rattle.xdr.specs.Laws.Public.{opened-in}
 use Rattle.xdr.specs.declared.piece.Piece.{Piece}
@@ -25,13 +27,21 @@ use Rattle.rpc.specs.declared.auth.auth_unix.{«auth_unix»}
 use Rattle.xdr.specs.declared.refusal.Refusal.the-variants.{Ended, TooLong}
 
 module _ (s : List ℕ) (x : Piece) where
-  pub unix-outside : isInside s x ≡ false → refused (Ended 0) ≡ unixIn s x
-  unfolding unixIn
-  unix-outside h = simp h
+  -- by the test of the body
+  module _ (i : Bool) (e : i ≡ isInside s x) where
+    pub unix-outside : not i ≡ true → refused (Ended 0) ≡ unixIn s x
+    unfolding unixIn
+    unix-outside t = simp (no e t)
 
-  pub unix-inside : isInside s x ≡ true → {a : Answer «auth_unix»} → a ≡ auth-unix .held .read (take (x .at + x .count) s) (x .at) → a ≡ unixIn s x
-  unfolding unixIn
-  unix-inside h e = e ∙ sym (simp h)
+    pub end-fits : not i ≡ false → length s < 2 ^ 64 → Fits w64 (x .at + x .count)
+    end-fits t h = record { fits = omega (arith, inside-le s x (yes e t)) }
+
+    pub end-count : not i ≡ false → x .at + x .count ≡ length (take (x .at + x .count) s)
+    end-count t = sym (length-take-le (x .at + x .count) s (inside-le s x (yes e t)))
+
+    pub unix-inside : (a : Answer «auth_unix») → not i ≡ false → a ≡ auth-unix .held .read (take (x .at + x .count) s) (x .at) → a ≡ unixIn s x
+    unfolding unixIn
+    unix-inside a t f = f ∙ sym (simp (yes e t))
 
   module _ (given : (i : ℕ) → Fits w8 (getD s i 0)) where
     pub in-long : most < length s → AnswersIn s x (refused TooLong)

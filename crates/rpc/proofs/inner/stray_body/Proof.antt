@@ -2,11 +2,5 @@ use borrow.Author.Needs.{needs}
 use Rattle.rpc.proofs.inner.stray_body.Statement.{statement}
 use Rattle.rpc.proofs.inner.stray_body.Tie as tie
 
-returns : tie.Need-returns
-returns c = rw (c .before .no-auth .ensures, c .no-auth2 .ensures)
-
 pub stray-body-spec : {M : Type 1} → statement M
-stray-body-spec =
-    tie.close
-    (tie.spec
-    (search needs) (search needs) returns)
+stray-body-spec = tie.close (tie.spec (search needs) (search needs) (λ c. cc))
