@@ -8,8 +8,8 @@ use native.Mathlib.Omega.{arith}
 use Rattle.xdr.specs.Meaning.Answer.{Way}
 use Rattle.xdr.specs.Meaning.Combinators.{means}
 use Rattle.xdr.specs.Meaning.Codecs.{_⨾_}
-use Rattle.xdr.specs.Meaning.Items.{word, hyper, opaque, option, taggedArm}
-use Rattle.xdr.specs.Meaning.Format.{exactly, _⨟_, flagged, optional, ifFormat}
+use Rattle.xdr.specs.Meaning.Items.{word, hyper, opaque, option}
+use Rattle.xdr.specs.Meaning.Format.{exactly, _⨟_, flagged, optional, ifFormat, tagged}
 use Rattle.xdr.specs.Meaning.Formats.{bytes}
 use Rattle.xdr.specs.Laws.Lengths.{Lengths, Within, void-lengths, void-within, chain-lengths, chain-within, pair-within, pair-lengths, view-within, view-lengths, no-default, word-lengths, word-within, hyper-lengths, hyper-within, flag-within, opaque-within, closed-within, option-lengths, option-within}
 use Rattle.nfsattr.specs.Meaning.Attr.{nfstime}
@@ -54,13 +54,13 @@ pub set-size-within : Within 0 (set-size .kind)
 unfolding set-size
 set-size-within = view-within _ _ (option hyper .laws) (option-within hyper hyper-within) (λ x m l u w e s f. no-default s)
 
-time-arm-lengths : (tag : ℕ) → Lengths 0 8 (timeArms tag .codec .kind)
+time-arm-lengths : (tag : ℕ) → Lengths 0 8 (timeArms tag .format .codec .kind)
 time-arm-lengths zero = record { of = λ m w e f. omega (arith, void-lengths .of m w e f) }
 time-arm-lengths (suc zero) = record { of = λ m w e f. omega (arith, void-lengths .of m w e f) }
 time-arm-lengths (suc (suc zero)) = record { of = λ m w e f. omega (arith, nfstime-lengths .of m w e f) }
 time-arm-lengths (suc (suc (suc n))) = record { of = λ m w e f. omega (arith, void-lengths .of m w e f) }
 
-time-arm-within : (tag : ℕ) → Within 0 (timeArms tag .codec .kind)
+time-arm-within : (tag : ℕ) → Within 0 (timeArms tag .format .codec .kind)
 time-arm-within zero = void-within
 time-arm-within (suc zero) = void-within
 time-arm-within (suc (suc zero)) = nfstime-within
@@ -80,7 +80,7 @@ set-time-lengths = view-lengths (chain-lengths word-lengths time-arm-lengths)
 set-time-within : Within 0 (set-time .kind)
 unfolding set-time
 set-time-within =
-    view-within _ _ (taggedArm timeArms .laws) (chain-within word-within time-arm-within) (λ x m l u w e s f. time-tight (x .0) (x .1) s)
+    view-within _ _ (tagged word timeArms .codec .laws) (chain-within word-within time-arm-within) (λ x m l u w e s f. time-tight (x .0) (x .1) s)
 
 pub set-atime-lengths : Lengths 4 12 (set-atime .kind)
 unfolding set-atime

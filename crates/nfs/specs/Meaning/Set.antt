@@ -7,8 +7,9 @@ use Prim.Native.Nat.{ℕ, zero, suc}
 use Rattle.xdr.specs.Meaning.Kind.{Codec}
 use Rattle.xdr.specs.Meaning.Combinators.{Seen, means, undeclared}
 use Rattle.xdr.specs.Meaning.Codecs.{void, _⨾_, mapped}
-use Rattle.xdr.specs.Meaning.Items.{word, hyper, closed, Arm, arm, Kept, Back, union}
+use Rattle.xdr.specs.Meaning.Items.{word, hyper, closed}
 use Rattle.xdr.specs.Meaning.Combinators.{among}
+use Rattle.xdr.specs.Meaning.Format.{exactly, Branch, branch, Kept, Back, union}
 use Rattle.nfsattr.specs.Meaning.Cases.{Cases, maybe}
 use Rattle.nfsattr.specs.Meaning.Attr.{nfstime}
 use Rattle.nfsattr.specs.declared.attr.nfstime3.{nfstime3}
@@ -143,11 +144,11 @@ pub data SetTime : Type 0 where
   server-time : SetTime
   client-time : nfstime3 → SetTime
 
-abbrev pub timeArms : ℕ → Arm
-timeArms zero = arm void
-timeArms (suc zero) = arm void
-timeArms (suc (suc zero)) = arm nfstime
-timeArms (suc (suc (suc n))) = arm void
+abbrev pub timeArms : ℕ → Branch
+timeArms zero = branch (exactly void)
+timeArms (suc zero) = branch (exactly void)
+timeArms (suc (suc zero)) = branch (exactly nfstime)
+timeArms (suc (suc (suc n))) = branch (exactly void)
 
 abbrev pub seeTime : (tag : ℕ) → timeArms tag .Msg → Seen SetTime
 seeTime zero u = means dont-change []
@@ -160,19 +161,19 @@ fromTime dont-change = (0, tt)
 fromTime server-time = (1, tt)
 fromTime (client-time t) = (2, t)
 
-pub time-kept : Kept timeArms seeTime fromTime
+pub time-kept : Kept word timeArms seeTime fromTime
 time-kept zero u = refl
 time-kept (suc zero) u = refl
 time-kept (suc (suc zero)) t = refl
 time-kept (suc (suc (suc n))) u = tt
 
-pub time-back : Back timeArms seeTime fromTime
+pub time-back : Back word timeArms seeTime fromTime
 time-back dont-change = refl
 time-back server-time = refl
 time-back (client-time t) = refl
 
 unfoldable pub set-time : Codec SetTime
-set-time = union timeArms seeTime fromTime time-kept time-back
+set-time = union word timeArms seeTime fromTime time-kept time-back
 
 -- the same under the names that a type has for the three cases
 pub record Times (T : Type 0) : Type 0 where

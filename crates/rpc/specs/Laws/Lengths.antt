@@ -9,7 +9,7 @@ use lib.ListN.{length}
 use Rattle.xdr.specs.Meaning.Answer.{Way}
 use Rattle.xdr.specs.Meaning.Combinators.{means}
 use Rattle.xdr.specs.Meaning.Codecs.{_⨾_}
-use Rattle.xdr.specs.Meaning.Items.{number, word, opaque, taggedArm}
+use Rattle.xdr.specs.Meaning.Items.{number, word, opaque}
 use Rattle.xdr.specs.Meaning.Format.{exactly, _⨟_, tagged}
 use Rattle.xdr.specs.Meaning.Formats.{bytes, wordList}
 use Rattle.xdr.specs.Laws.Lengths.{Lengths, Within, weaken, void-lengths, void-within, chain-within, chain-grows, chain-lengths, pair-within, pair-lengths, view-within, view-lengths, no-default, word-lengths, word-within, opaque-within, words-within, closed-within}
@@ -77,14 +77,14 @@ call-body-within =
     (λ x m l u w e s f. no-default s)
 
 -- accept_body: its default has no more bytes than the tag
-accept-arm : (tag : ℕ) → Within 0 (acceptArms tag .codec .kind)
+accept-arm : (tag : ℕ) → Within 0 (acceptArms tag .format .codec .kind)
 accept-arm zero = void-within
 accept-arm (suc zero) = void-within
 accept-arm (suc (suc zero)) = mismatch-info-within
 accept-arm (suc (suc (suc n))) = void-within
 
 accept-default : (tag : ℕ) (x : acceptArms tag .Msg) (m : «accept_body») (l : Way) (u : List Way) → seeAccept tag x ≡ means m (l ∷ u)
-    → length (taggedArm acceptArms .kind .write (fromAccept m)) ≤ 4
+    → length (tagged word acceptArms .codec .kind .write (fromAccept m)) ≤ 4
 unfolding word number
 accept-default zero x m l u s = no-default s
 accept-default (suc zero) x m l u s = no-default s
@@ -93,9 +93,9 @@ accept-default (suc (suc (suc zero))) x m l u s = no-default s
 accept-default (suc (suc (suc (suc zero)))) x m l u s = no-default s
 accept-default (suc (suc (suc (suc (suc n))))) x m l u s =
     let q : «GARBAGE_ARGS» ≡ m = cc s in
-    subst (λ z. length (taggedArm acceptArms .kind .write (fromAccept z)) ≤ 4) q (omega arith)
+    subst (λ z. length (tagged word acceptArms .codec .kind .write (fromAccept z)) ≤ 4) q (omega arith)
 
-accept-long : (tag : ℕ) → Lengths 0 8 (acceptArms tag .codec .kind)
+accept-long : (tag : ℕ) → Lengths 0 8 (acceptArms tag .format .codec .kind)
 accept-long zero = record { of = λ m w e f. omega (arith, void-lengths .of m w e f) }
 accept-long (suc zero) = record { of = λ m w e f. omega (arith, void-lengths .of m w e f) }
 accept-long (suc (suc zero)) = record { of = λ m w e f. omega (arith, mismatch-info-lengths .of m w e f) }
@@ -104,7 +104,7 @@ accept-long (suc (suc (suc n))) = record { of = λ m w e f. omega (arith, void-l
 pub accept-body-within : Within 0 (accept-body .kind)
 unfolding accept-body
 accept-body-within =
-    view-within _ _ (taggedArm acceptArms .laws) (chain-within word-within accept-arm)
+    view-within _ _ (tagged word acceptArms .codec .laws) (chain-within word-within accept-arm)
     (λ x m l u w e s f. omega (arith, accept-default (x .0) (x .1) m l u s, chain-lengths word-lengths accept-long .of x w e f))
 
 pub accepted-reply-within : Within 0 (accepted-reply .codec .kind)
@@ -113,24 +113,24 @@ accepted-reply-within =
     view-within _ _ ((opaque-auth ⨟ exactly accept-body) .codec .laws) (pair-within opaque-auth-within accept-body-within) (λ x m l u w e s f. no-default s)
 
 -- rejected_reply: its default has 12 bytes
-reject-arm : (tag : ℕ) → Within 8 (rejectArms tag .codec .kind)
+reject-arm : (tag : ℕ) → Within 8 (rejectArms tag .format .codec .kind)
 reject-arm zero = weaken (omega arith) mismatch-info-within
 reject-arm (suc zero) = weaken (omega arith) auth-stat-within
 reject-arm (suc (suc n)) = weaken (omega arith) void-within
 
 reject-default : (tag : ℕ) (x : rejectArms tag .Msg) (m : «rejected_reply») (l : Way) (u : List Way) → seeReject tag x ≡ means m (l ∷ u)
-    → length (taggedArm rejectArms .kind .write (fromReject m)) ≤ 12
+    → length (tagged word rejectArms .codec .kind .write (fromReject m)) ≤ 12
 unfolding word number mismatch-info
 reject-default zero x m l u s = no-default s
 reject-default (suc zero) x m l u s = no-default s
 reject-default (suc (suc n)) x m l u s =
     let q : «RPC_MISMATCH» (record { low = 0; high = 0 }) ≡ m = cc s in
-    subst (λ z. length (taggedArm rejectArms .kind .write (fromReject z)) ≤ 12) q (omega arith)
+    subst (λ z. length (tagged word rejectArms .codec .kind .write (fromReject z)) ≤ 12) q (omega arith)
 
 pub rejected-reply-within : Within 12 (rejected-reply .kind)
 unfolding rejected-reply
 rejected-reply-within =
-    view-within _ _ (taggedArm rejectArms .laws) (chain-grows word-lengths word-within reject-arm)
+    view-within _ _ (tagged word rejectArms .codec .laws) (chain-grows word-lengths word-within reject-arm)
     (λ x m l u w e s f. omega (arith, reject-default (x .0) (x .1) m l u s))
 
 -- reply_body: 16
@@ -140,18 +140,18 @@ reply-arm (suc zero) = rejected-reply-within
 reply-arm (suc (suc n)) = weaken (omega arith) void-within
 
 reply-default : (tag : ℕ) (x : replyBranches tag .Msg) (m : ReplyBody) (l : Way) (u : List Way) → seeReply tag x ≡ means m (l ∷ u)
-    → length (tagged replyBranches .codec .kind .write (fromReply m)) ≤ 16
+    → length (tagged word replyBranches .codec .kind .write (fromReply m)) ≤ 16
 unfolding word number opaque auth-flavor opaque-auth accept-body accepted-reply
 reply-default zero x m l u s = no-default s
 reply-default (suc zero) x m l u s = no-default s
 reply-default (suc (suc n)) x m l u s =
     let q : accepted (record { verf = emptyAuth; «reply_data» = SUCCESS }) ≡ m = cc s in
-    subst (λ z. length (tagged replyBranches .codec .kind .write (fromReply z)) ≤ 16) q (omega arith)
+    subst (λ z. length (tagged word replyBranches .codec .kind .write (fromReply z)) ≤ 16) q (omega arith)
 
 pub reply-body-within : Within 16 (reply-body .codec .kind)
 unfolding reply-body
 reply-body-within =
-    view-within _ _ (tagged replyBranches .codec .laws) (chain-grows word-lengths word-within reply-arm)
+    view-within _ _ (tagged word replyBranches .codec .laws) (chain-grows word-lengths word-within reply-arm)
     (λ x m l u w e s f. omega (arith, reply-default (x .0) (x .1) m l u s))
 
 -- rpc_body: 36
@@ -161,18 +161,18 @@ body-arm (suc zero) = weaken (omega arith) reply-body-within
 body-arm (suc (suc n)) = weaken (omega arith) void-within
 
 body-default : (tag : ℕ) (x : bodyBranches tag .Msg) (m : RpcBody) (l : Way) (u : List Way) → seeBody tag x ≡ means m (l ∷ u)
-    → length (tagged bodyBranches .codec .kind .write (fromBody m)) ≤ 36
+    → length (tagged word bodyBranches .codec .kind .write (fromBody m)) ≤ 36
 unfolding word number opaque auth-flavor opaque-auth call-body
 body-default zero x m l u s = no-default s
 body-default (suc zero) x m l u s = no-default s
 body-default (suc (suc n)) x m l u s =
     let q : call emptyCall ≡ m = cc s in
-    subst (λ z. length (tagged bodyBranches .codec .kind .write (fromBody z)) ≤ 36) q (omega arith)
+    subst (λ z. length (tagged word bodyBranches .codec .kind .write (fromBody z)) ≤ 36) q (omega arith)
 
 pub rpc-body-within : Within 36 (rpc-body .codec .kind)
 unfolding rpc-body
 rpc-body-within =
-    view-within _ _ (tagged bodyBranches .codec .laws) (chain-grows word-lengths word-within body-arm)
+    view-within _ _ (tagged word bodyBranches .codec .laws) (chain-grows word-lengths word-within body-arm)
     (λ x m l u w e s f. omega (arith, body-default (x .0) (x .1) m l u s))
 
 -- rpc_msg: 40

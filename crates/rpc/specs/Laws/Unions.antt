@@ -8,9 +8,9 @@ use native.Mathlib.Omega.{arith}
 use Rattle.xdr.specs.Meaning.Answer.{Answer, took, refused}
 use Rattle.xdr.specs.Meaning.Combinators.{Seen, means, undeclared, first, second, View, meant, look}
 use Rattle.xdr.specs.Meaning.Codecs.{exactView}
-use Rattle.xdr.specs.Meaning.Items.{word, Arm, taggedArm, Kept, Back, union}
+use Rattle.xdr.specs.Meaning.Items.{word}
 use Rattle.xdr.specs.Meaning.Held.{seenAs, lookAt, thenFirst, thenSecond}
-use Rattle.xdr.specs.Meaning.Format.{Format, exactly, plain, Branch, branch, tagged}
+use Rattle.xdr.specs.Meaning.Format.{Format, exactly, plain, Branch, branch, tagged, Kept, Back, union}
 use Rattle.xdr.specs.Meaning.Kind.{Kind, Codec}
 use Rattle.xdr.specs.Meaning.Views.{viewU32, lostU32}
 use Rattle.xdr.specs.Laws.Answers.{on, off}
@@ -23,7 +23,7 @@ use Rattle.xdr.specs.declared.answer.U32Read.the-variants as U32
 
 -- what is to know of a union, once: its tags are those below `tags`, and any other is read as a default
 pub record Union {N T : Type 0} (F : Format N T) (branches : ℕ → Branch) (hold : (tag : ℕ) → branches tag .Has → Seen T) (tags : ℕ) : Type 0 where
-  pub is : (s : List ℕ) (p : ℕ) → F .held .read s p ≡ lookAt (λ y. hold (y .0) (y .1)) p (tagged branches .held .read s p)
+  pub is : (s : List ℕ) (p : ℕ) → F .held .read s p ≡ lookAt (λ y. hold (y .0) (y .1)) p (tagged word branches .held .read s p)
 
 -- the plan of what follows a tag
 abbrev pub shown : {T : Type 0} → ℕ → Seen T → Prog T
@@ -119,24 +119,24 @@ module _ {M N : Type 0} (K : Kind M) (W : View M (K .Good) N) (p : ℕ) where
   look-is (took x n b) = meant-is n b (W .see x)
   look-is (refused q) = refl
 
-module _ (arms : ℕ → Arm) where
+module _ (arms : ℕ → Branch) where
   abbrev pub armBranches : ℕ → Branch
-  armBranches t = branch (exactly (arms t .codec))
+  armBranches t = branch (exactly (arms t .format .codec))
 
-  arm-second : (v : ℕ) (b : Bool) (a : Answer (arms v .Msg)) → second (word .kind) (λ t. arms t .codec .kind) v b a
-      ≡ thenSecond (λ t. arms t .codec) (plain word) (λ s t. plain (arms t .codec)) v b a
+  arm-second : (v : ℕ) (b : Bool) (a : Answer (arms v .Msg)) → second (word .kind) (λ t. arms t .format .codec .kind) v b a
+      ≡ thenSecond (λ t. arms t .format .codec) (plain word) (λ s t. plain (arms t .format .codec)) v b a
   arm-second v b (took y n c) = refl
   arm-second v b (refused q) = refl
 
-  arm-first : (s : List ℕ) (a : Answer ℕ) → first (word .kind) (λ t. arms t .codec .kind) s a
-      ≡ thenFirst (λ t. arms t .codec) (plain word) (λ s t. plain (arms t .codec)) s a
-  arm-first s (took v n b) = arm-second v b (arms v .codec .kind .read s n)
+  arm-first : (s : List ℕ) (a : Answer ℕ) → first (word .kind) (λ t. arms t .format .codec .kind) s a
+      ≡ thenFirst (λ t. arms t .format .codec) (plain word) (λ s t. plain (arms t .format .codec)) s a
+  arm-first s (took v n b) = arm-second v b (arms v .format .codec .kind .read s n)
   arm-first s (refused q) = refl
 
-  module _ {N : Type 0} (see : (tag : ℕ) → arms tag .Msg → Seen N) (to : N → (tag : ℕ) × arms tag .Msg) (kept : Kept arms see to) (back : Back arms see to) where
+  module _ {N : Type 0} (see : (tag : ℕ) → arms tag .Msg → Seen N) (to : N → (tag : ℕ) × arms tag .Msg) (kept : Kept word arms see to) (back : Back word arms see to) where
     pub arms-read : (s : List ℕ) (p : ℕ)
-        → union arms see to kept back .kind .read s p ≡ lookAt (λ y. see (y .0) (y .1)) p (tagged armBranches .held .read s p)
+        → union word arms see to kept back .kind .read s p ≡ lookAt (λ y. see (y .0) (y .1)) p (tagged word armBranches .held .read s p)
     arms-read s p =
-        look-is (taggedArm arms .kind) (exactView (taggedArm arms) (λ y. see (y .0) (y .1)) to (λ y. kept (y .0) (y .1)) back) p
-        (taggedArm arms .kind .read s p)
+        look-is (tagged word arms .codec .kind) (exactView (tagged word arms .codec) (λ y. see (y .0) (y .1)) to (λ y. kept (y .0) (y .1)) back) p
+        (tagged word arms .codec .kind .read s p)
         ∙ ap (lookAt (λ y. see (y .0) (y .1)) p) (arm-first s (word .kind .read s p))

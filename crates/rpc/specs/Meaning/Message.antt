@@ -71,14 +71,14 @@ abbrev pub insideBody : List ℕ → «rpc_body» → Bool
 insideBody s (CALL c) = call-body .held .inside s c
 insideBody s (REPLY r) = reply-body .held .inside s r
 
-abbrev pub bodyChoice : Choice bodyBranches RpcBody «rpc_body»
+abbrev pub bodyChoice : Choice word bodyBranches RpcBody «rpc_body»
 bodyChoice = record { see = seeBody; to = fromBody; hold = holdBody; mean = meanBody; inside = insideBody }
 
-pub body-laws : Lawfully bodyBranches bodyChoice
+pub body-laws : Lawfully word bodyBranches bodyChoice
 unfolding word number opaque pieceHeld auth-flavor opaque-auth call-body
 body-laws = record { kept = kept; back = back; square = square; within = within }
   where
-    kept : (tag : ℕ) (x : bodyBranches tag .Msg) → Exact (tagged bodyBranches .codec .kind .Good) fromBody (tag, x) (seeBody tag x)
+    kept : (tag : ℕ) (x : bodyBranches tag .Msg) → Exact (tagged word bodyBranches .codec .kind .Good) fromBody (tag, x) (seeBody tag x)
     kept zero c = refl
     kept (suc zero) r = refl
     kept (suc (suc n)) u =
@@ -102,7 +102,7 @@ body-laws = record { kept = kept; back = back; square = square; within = within 
     within s (suc (suc n)) u h = simp (nothing-inside s)
 
 unfoldable pub rpc-body : Format RpcBody «rpc_body»
-rpc-body = choice bodyBranches bodyChoice body-laws
+rpc-body = choice word bodyBranches bodyChoice body-laws
 
 unfoldable pub rpc-msg : Format RpcMsg «rpc_msg»
 rpc-msg =

@@ -9,9 +9,9 @@ use Rattle.xdr.specs.Meaning.Answer.{stray-tag}
 use Rattle.xdr.specs.Meaning.Kind.{Codec}
 use Rattle.xdr.specs.Meaning.Combinators.{Seen, means}
 use Rattle.xdr.specs.Meaning.Codecs.{void, _⨾_, mapped}
-use Rattle.xdr.specs.Meaning.Items.{number, word, opaque, Arm, arm, Kept, Back, union}
+use Rattle.xdr.specs.Meaning.Items.{number, word, opaque}
 use Rattle.xdr.specs.Meaning.Held.{mapSeen, Meant}
-use Rattle.xdr.specs.Meaning.Format.{Format, exactly, _⨟_, named, Branch, branch, tagged, Choice, Lawfully, choice}
+use Rattle.xdr.specs.Meaning.Format.{Format, exactly, _⨟_, named, Branch, branch, tagged, Choice, Lawfully, choice, Kept, Back, union}
 use Rattle.xdr.specs.Meaning.Formats.{pieceHeld}
 use Rattle.xdr.specs.Meaning.Combinators.{Exact}
 use Rattle.xdr.specs.Laws.Pieces.{nothing-inside}
@@ -31,11 +31,11 @@ unfoldable pub mismatch-info : Codec «mismatch_info»
 mismatch-info = mapped (word ⨾ word) (λ x. record { low = x .0; high = x .1 }) (λ m. (m .low, m .high)) (λ x. refl) (λ m. refl)
 
 -- accept_body; tolerance 5: a tag above 4 is GARBAGE_ARGS
-abbrev pub acceptArms : ℕ → Arm
-acceptArms zero = arm void
-acceptArms (suc zero) = arm void
-acceptArms (suc (suc zero)) = arm mismatch-info
-acceptArms (suc (suc (suc n))) = arm void
+abbrev pub acceptArms : ℕ → Branch
+acceptArms zero = branch (exactly void)
+acceptArms (suc zero) = branch (exactly void)
+acceptArms (suc (suc zero)) = branch (exactly mismatch-info)
+acceptArms (suc (suc (suc n))) = branch (exactly void)
 
 abbrev pub seeAccept : (tag : ℕ) → acceptArms tag .Msg → Seen «accept_body»
 seeAccept zero u = means SUCCESS []
@@ -52,7 +52,7 @@ fromAccept («PROG_MISMATCH» v) = (2, v)
 fromAccept «PROC_UNAVAIL» = (3, tt)
 fromAccept «GARBAGE_ARGS» = (4, tt)
 
-pub accept-kept : Kept acceptArms seeAccept fromAccept
+pub accept-kept : Kept word acceptArms seeAccept fromAccept
 unfolding word number
 accept-kept zero u = refl
 accept-kept (suc zero) u = refl
@@ -61,7 +61,7 @@ accept-kept (suc (suc (suc zero))) u = refl
 accept-kept (suc (suc (suc (suc zero)))) u = refl
 accept-kept (suc (suc (suc (suc (suc n))))) u = (omega arith, tt)
 
-pub accept-back : Back acceptArms seeAccept fromAccept
+pub accept-back : Back word acceptArms seeAccept fromAccept
 accept-back SUCCESS = refl
 accept-back «PROG_UNAVAIL» = refl
 accept-back («PROG_MISMATCH» v) = refl
@@ -69,7 +69,7 @@ accept-back «PROC_UNAVAIL» = refl
 accept-back «GARBAGE_ARGS» = refl
 
 unfoldable pub accept-body : Codec «accept_body»
-accept-body = union acceptArms seeAccept fromAccept accept-kept accept-back
+accept-body = union word acceptArms seeAccept fromAccept accept-kept accept-back
 
 unfoldable pub accepted-reply : Format AcceptedReply «accepted_reply»
 accepted-reply =
@@ -85,10 +85,10 @@ accepted-reply =
     })
 
 -- rejected_reply; tolerance 6: a tag of 2 or more is RPC_MISMATCH 0, 0
-abbrev pub rejectArms : ℕ → Arm
-rejectArms zero = arm mismatch-info
-rejectArms (suc zero) = arm auth-stat
-rejectArms (suc (suc n)) = arm void
+abbrev pub rejectArms : ℕ → Branch
+rejectArms zero = branch (exactly mismatch-info)
+rejectArms (suc zero) = branch (exactly auth-stat)
+rejectArms (suc (suc n)) = branch (exactly void)
 
 abbrev pub seeReject : (tag : ℕ) → rejectArms tag .Msg → Seen «rejected_reply»
 seeReject zero v = means («RPC_MISMATCH» v) []
@@ -99,18 +99,18 @@ abbrev pub fromReject : «rejected_reply» → (tag : ℕ) × rejectArms tag .Ms
 fromReject («RPC_MISMATCH» v) = (0, v)
 fromReject («AUTH_ERROR» a) = (1, a)
 
-pub reject-kept : Kept rejectArms seeReject fromReject
+pub reject-kept : Kept word rejectArms seeReject fromReject
 unfolding word number mismatch-info
 reject-kept zero v = refl
 reject-kept (suc zero) a = refl
 reject-kept (suc (suc n)) u = (omega arith, (omega arith, omega arith))
 
-pub reject-back : Back rejectArms seeReject fromReject
+pub reject-back : Back word rejectArms seeReject fromReject
 reject-back («RPC_MISMATCH» v) = refl
 reject-back («AUTH_ERROR» a) = refl
 
 unfoldable pub rejected-reply : Codec «rejected_reply»
-rejected-reply = union rejectArms seeReject fromReject reject-kept reject-back
+rejected-reply = union word rejectArms seeReject fromReject reject-kept reject-back
 
 -- reply_body; tolerance 4: a tag of 2 or more is MSG_ACCEPTED, null verifier, SUCCESS
 abbrev pub replyBranches : ℕ → Branch
@@ -141,14 +141,14 @@ abbrev pub insideReply : List ℕ → «reply_body» → Bool
 insideReply s («MSG_ACCEPTED» a) = accepted-reply .held .inside s a
 insideReply s («MSG_DENIED» r) = true
 
-abbrev pub replyChoice : Choice replyBranches ReplyBody «reply_body»
+abbrev pub replyChoice : Choice word replyBranches ReplyBody «reply_body»
 replyChoice = record { see = seeReply; to = fromReply; hold = holdReply; mean = meanReply; inside = insideReply }
 
-pub reply-laws : Lawfully replyBranches replyChoice
+pub reply-laws : Lawfully word replyBranches replyChoice
 unfolding word number opaque pieceHeld auth-flavor opaque-auth accept-body accepted-reply
 reply-laws = record { kept = kept; back = back; square = square; within = within }
   where
-    kept : (tag : ℕ) (x : replyBranches tag .Msg) → Exact (tagged replyBranches .codec .kind .Good) fromReply (tag, x) (seeReply tag x)
+    kept : (tag : ℕ) (x : replyBranches tag .Msg) → Exact (tagged word replyBranches .codec .kind .Good) fromReply (tag, x) (seeReply tag x)
     kept zero a = refl
     kept (suc zero) r = refl
     kept (suc (suc n)) u = let z : 0 < 4294967296 = omega arith in (z, ((z, (z, tt)), (z, tt)))
@@ -170,4 +170,4 @@ reply-laws = record { kept = kept; back = back; square = square; within = within
     within s (suc (suc n)) u h = simp (nothing-inside s)
 
 unfoldable pub reply-body : Format ReplyBody «reply_body»
-reply-body = choice replyBranches replyChoice reply-laws
+reply-body = choice word replyBranches replyChoice reply-laws

@@ -8,7 +8,7 @@ use Prim.Native.Nat.{ℕ}
 use Rattle.xdr.specs.Meaning.Kind.{Codec}
 use Rattle.xdr.specs.Meaning.Combinators.{Seen, means, View}
 use Rattle.xdr.specs.Meaning.Codecs.{void, chain, view, seen, exactView}
-use Rattle.xdr.specs.Meaning.Items.{word, flag}
+use Rattle.xdr.specs.Meaning.Items.{flag}
 use Rattle.xdr.specs.Meaning.Held.{Held, thenFirst, thenMean, thenInside, Holds, lookAt, mapSeen, Meant}
 use Rattle.xdr.specs.Meaning.Combinators.{Exact}
 use Rattle.xdr.specs.Meaning.Shapes.{If, toOption, fromOption}
@@ -117,7 +117,7 @@ module _ {M S : Type 0} (F : Format M S) where
         pieces-hold = λ y. from-to S (y .0) (y .1);
       })
 
--- a union: a tag, and the format that the tag says
+-- a union: a tag of any kind, and the format that the tag says
 pub record Branch : Type 1 where
   pub Msg : Type 0
   pub Has : Type 0
@@ -126,39 +126,51 @@ pub record Branch : Type 1 where
 abbrev pub branch : {M S : Type 0} → Format M S → Branch
 branch {M} {S} F = record { Msg = M; Has = S; format = F }
 
-module _ (branches : ℕ → Branch) where
-  abbrev pub tagged : Format ((tag : ℕ) × branches tag .Msg) ((tag : ℕ) × branches tag .Has)
+module _ {A : Type 0} (tags : Codec A) (branches : A → Branch) where
+  abbrev pub tagged : Format ((tag : A) × branches tag .Msg) ((tag : A) × branches tag .Has)
   tagged =
       record {
-        codec = chain word (λ tag. branches tag .format .codec);
-        held = heldChain (λ tag. branches tag .format .codec) (plain word) (λ s tag. branches tag .format .held);
+        codec = chain tags (λ tag. branches tag .format .codec);
+        held = heldChain (λ tag. branches tag .format .codec) (plain tags) (λ s tag. branches tag .format .held);
       }
 
-  -- what each tag is seen as, in the message and in what is held
+  -- where no branch has pieces: `see` names the message that a tag and what it says are, or the default that a stray tag is read as, or
+  -- says that the tag is undeclared
+  module _ {N : Type 0} (see : (tag : A) → branches tag .Msg → Seen N) (to : N → (tag : A) × branches tag .Msg) where
+    -- what is seen with nothing loose is written so, and a default is in range
+    abbrev pub Kept : Type 0
+    Kept = (tag : A) (x : branches tag .Msg) → Exact (tagged .codec .kind .Good) to (tag, x) (see tag x)
+
+    -- each message is seen as itself in what it is written as
+    abbrev pub Back : Type 0
+    Back = (m : N) → see (to m .0) (to m .1) ≡ means m []
+
+    abbrev pub union : Kept → Back → Codec N
+    union kept back = seen (tagged .codec) (λ y. see (y .0) (y .1)) to (λ y. kept (y .0) (y .1)) back
+
+  -- where one has: what each tag is seen as, in the message and in what is held
   pub record Choice (N T : Type 0) : Type 0 where
-    pub see : (tag : ℕ) → branches tag .Msg → Seen N
-    pub to : N → (tag : ℕ) × branches tag .Msg
-    pub hold : (tag : ℕ) → branches tag .Has → Seen T
+    pub see : (tag : A) → branches tag .Msg → Seen N
+    pub to : N → (tag : A) × branches tag .Msg
+    pub hold : (tag : A) → branches tag .Has → Seen T
     pub mean : List ℕ → T → N
     pub inside : List ℕ → T → Bool
 
   module _ {N T : Type 0} (U : Choice N T) where
     -- the laws of a choice, each by cases on the tag or the message
     pub record Lawfully : Type 0 where
-      -- what is seen with nothing loose is written so, and a default is in range
-      pub kept : (tag : ℕ) (x : branches tag .Msg) → Exact (tagged .codec .kind .Good) (U .to) (tag, x) (U .see tag x)
-      -- what is written is seen as what it is
-      pub back : (m : N) → U .see (U .to m .0) (U .to m .1) ≡ means m []
+      pub kept : Kept (U .see) (U .to)
+      pub back : Back (U .see) (U .to)
       -- what is held means what is seen
-      pub square : (s : List ℕ) (tag : ℕ) (y : branches tag .Has)
+      pub square : (s : List ℕ) (tag : A) (y : branches tag .Has)
           → U .see tag (branches tag .format .held .mean s y) ≡ mapSeen (U .mean s) (U .hold tag y)
-      pub within : (s : List ℕ) (tag : ℕ) (y : branches tag .Has) → branches tag .format .held .inside s y ≡ true
+      pub within : (s : List ℕ) (tag : A) (y : branches tag .Has) → branches tag .format .held .inside s y ≡ true
           → Meant (λ z. U .inside s z ≡ true) (U .hold tag y)
 
     abbrev pub choice : Lawfully → Format N T
     choice L =
         record {
-          codec = seen (tagged .codec) (λ y. U .see (y .0) (y .1)) (U .to) (λ y. L .kept (y .0) (y .1)) (L .back);
+          codec = union (U .see) (U .to) (L .kept) (L .back);
           held =
               heldView (exactView (tagged .codec) (λ y. U .see (y .0) (y .1)) (U .to) (λ y. L .kept (y .0) (y .1)) (L .back)) (tagged .held)
               (record {

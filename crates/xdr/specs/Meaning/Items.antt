@@ -154,28 +154,3 @@ if C false = void
 abbrev pub option : {M : Type 0} → Codec M → Codec (Option M)
 option {M} C =
     mapped (chain flag (if C)) (λ x. toOption M (x .0) (x .1)) (fromOption M) (λ x. from-to M (x .0) (x .1)) (to-from M)
-
--- a union: a tag, and what the tag says. `see` names the message that it is, or the default that a stray tag is read as, or says that the
--- tag is undeclared
-pub record Arm : Type 1 where
-  pub Msg : Type 0
-  pub codec : Codec Msg
-
-abbrev pub arm : {M : Type 0} → Codec M → Arm
-arm {M} C = record { Msg = M; codec = C }
-
-module _ (arms : ℕ → Arm) where
-  abbrev pub taggedArm : Codec ((tag : ℕ) × arms tag .Msg)
-  taggedArm = chain word (λ tag. arms tag .codec)
-
-  module _ {N : Type 0} (see : (tag : ℕ) → arms tag .Msg → Seen N) (to : N → (tag : ℕ) × arms tag .Msg) where
-    -- what is seen with nothing loose is written so, and a default is in range
-    abbrev pub Kept : Type 0
-    Kept = (tag : ℕ) (x : arms tag .Msg) → Exact (taggedArm .kind .Good) to (tag, x) (see tag x)
-
-    -- what is written is seen as what it is
-    abbrev pub Back : Type 0
-    Back = (m : N) → see (to m .0) (to m .1) ≡ means m []
-
-    abbrev pub union : Kept → Back → Codec N
-    union kept back = seen taggedArm (λ y. see (y .0) (y .1)) to (λ y. kept (y .0) (y .1)) back
