@@ -29,4 +29,5 @@ pub write-fattr3-spec : {M : Type 1} → statement M
 write-fattr3-spec =
     tie.close
     (tie.spec
-    (search needs) (search needs) (search needs) returns sub-put-fattr3 part-put-fattr3-start part-put-fattr3-end (search needs) (search needs) returns-2)
+    (search needs) (search needs) (search needs) returns sub-put-fattr3 part-put-fattr3-start part-put-fattr3-end (search needs) (search needs)
+    returns-2)

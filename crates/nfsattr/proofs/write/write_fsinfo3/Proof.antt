@@ -30,4 +30,5 @@ pub write-fsinfo3-spec : {M : Type 1} → statement M
 write-fsinfo3-spec =
     tie.close
     (tie.spec
-    (search needs) (search needs) (search needs) (search needs) returns sub-put-fsinfo3 part-put-fsinfo3-start part-put-fsinfo3-end (search needs) (search needs) returns-2)
+    (search needs) (search needs) (search needs) (search needs) returns sub-put-fsinfo3 part-put-fsinfo3-start part-put-fsinfo3-end (search needs)
+    (search needs) returns-2)

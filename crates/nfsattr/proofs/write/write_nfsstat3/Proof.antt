@@ -7,7 +7,4 @@ returns : tie.Need-returns
 returns c = nfsstat-writes _ _ _ (c .before .before .before .before .number .ensures) (c .before .before .write-u32 .ensures)
 
 pub write-nfsstat3-spec : {M : Type 1} → statement M
-write-nfsstat3-spec =
-    tie.close
-    (tie.spec
-    (search needs) (search needs) (search needs) returns)
+write-nfsstat3-spec = tie.close (tie.spec (search needs) (search needs) (search needs) returns)

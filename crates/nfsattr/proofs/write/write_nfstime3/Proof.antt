@@ -29,4 +29,5 @@ pub write-nfstime3-spec : {M : Type 1} → statement M
 write-nfstime3-spec =
     tie.close
     (tie.spec
-    (search needs) (search needs) (search needs) returns sub-put-nfstime3 part-put-nfstime3-start part-put-nfstime3-end (search needs) (search needs) returns-2)
+    (search needs) (search needs) (search needs) returns sub-put-nfstime3 part-put-nfstime3-start part-put-nfstime3-end (search needs)
+    (search needs) returns-2)

@@ -30,4 +30,5 @@ pub write-post-op-attr-spec : {M : Type 1} → statement M
 write-post-op-attr-spec =
     tie.close
     (tie.spec
-    (search needs) (search needs) (search needs) (search needs) returns sub-put-post-op-attr part-put-post-op-attr-start part-put-post-op-attr-end (search needs) (search needs) returns-2)
+    (search needs) (search needs) (search needs) (search needs) returns sub-put-post-op-attr part-put-post-op-attr-start part-put-post-op-attr-end
+    (search needs) (search needs) returns-2)

@@ -30,4 +30,5 @@ pub write-pre-op-attr-spec : {M : Type 1} → statement M
 write-pre-op-attr-spec =
     tie.close
     (tie.spec
-    (search needs) (search needs) (search needs) (search needs) returns sub-put-pre-op-attr part-put-pre-op-attr-start part-put-pre-op-attr-end (search needs) (search needs) returns-2)
+    (search needs) (search needs) (search needs) (search needs) returns sub-put-pre-op-attr part-put-pre-op-attr-start part-put-pre-op-attr-end
+    (search needs) (search needs) returns-2)

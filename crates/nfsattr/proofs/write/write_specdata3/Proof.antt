@@ -29,4 +29,5 @@ pub write-specdata3-spec : {M : Type 1} → statement M
 write-specdata3-spec =
     tie.close
     (tie.spec
-    (search needs) (search needs) (search needs) returns sub-put-specdata3 part-put-specdata3-start part-put-specdata3-end (search needs) (search needs) returns-2)
+    (search needs) (search needs) (search needs) returns sub-put-specdata3 part-put-specdata3-start part-put-specdata3-end (search needs)
+    (search needs) returns-2)

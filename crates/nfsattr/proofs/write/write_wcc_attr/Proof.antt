@@ -29,4 +29,5 @@ pub write-wcc-attr-spec : {M : Type 1} → statement M
 write-wcc-attr-spec =
     tie.close
     (tie.spec
-    (search needs) (search needs) (search needs) returns sub-put-wcc-attr part-put-wcc-attr-start part-put-wcc-attr-end (search needs) (search needs) returns-2)
+    (search needs) (search needs) (search needs) returns sub-put-wcc-attr part-put-wcc-attr-start part-put-wcc-attr-end (search needs)
+    (search needs) returns-2)

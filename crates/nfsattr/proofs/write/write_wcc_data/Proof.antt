@@ -30,4 +30,5 @@ pub write-wcc-data-spec : {M : Type 1} → statement M
 write-wcc-data-spec =
     tie.close
     (tie.spec
-    (search needs) (search needs) (search needs) (search needs) returns sub-put-wcc-data part-put-wcc-data-start part-put-wcc-data-end (search needs) (search needs) returns-2)
+    (search needs) (search needs) (search needs) (search needs) returns sub-put-wcc-data part-put-wcc-data-start part-put-wcc-data-end
+    (search needs) (search needs) returns-2)

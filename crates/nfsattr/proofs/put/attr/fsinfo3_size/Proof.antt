@@ -11,7 +11,4 @@ returns : tie.Need-returns
 returns c = omega (arith, fsinfo-length (c .before .args .v), c .post-op-attr-size .ensures)
 
 pub fsinfo3-size-spec : {M : Type 1} → statement M
-fsinfo3-size-spec =
-    tie.close
-    (tie.spec
-    (search needs) add-result returns)
+fsinfo3-size-spec = tie.close (tie.spec (search needs) add-result returns)

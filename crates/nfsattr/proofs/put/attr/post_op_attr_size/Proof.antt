@@ -16,7 +16,4 @@ unfolding post-op-attr
 returns-2 c = sym (maybe-length fattr postCases fattr-fixed (some _) (c .enum-told2 .given .1))
 
 pub post-op-attr-size-spec : {M : Type 1} → statement M
-post-op-attr-size-spec =
-    tie.close
-    (tie.spec
-    (search needs) (search needs) (search needs) returns returns-2)
+post-op-attr-size-spec = tie.close (tie.spec (search needs) (search needs) (search needs) returns returns-2)

@@ -16,7 +16,4 @@ unfolding pre-op-attr
 returns-2 c = sym (maybe-length wcc-attr preCases wcc-attr-fixed (some _) (c .enum-told2 .given .1))
 
 pub pre-op-attr-size-spec : {M : Type 1} → statement M
-pre-op-attr-size-spec =
-    tie.close
-    (tie.spec
-    (search needs) (search needs) (search needs) returns returns-2)
+pre-op-attr-size-spec = tie.close (tie.spec (search needs) (search needs) (search needs) returns returns-2)

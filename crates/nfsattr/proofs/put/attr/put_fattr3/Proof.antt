@@ -17,5 +17,5 @@ pub put-fattr3-spec : {M : Type 1} → statement M
 put-fattr3-spec =
     tie.close
     (tie.spec
-    returns (search needs) (search needs) (search needs) (search needs) (search needs) (search needs) (search needs) (search needs)
-    (search needs) (search needs) (search needs) (search needs) (search needs) returns-2)
+    returns (search needs) (search needs) (search needs) (search needs) (search needs) (search needs) (search needs) (search needs) (search needs)
+    (search needs) (search needs) (search needs) (search needs) returns-2)

@@ -21,4 +21,5 @@ pub put-fsinfo3-spec : {M : Type 1} → statement M
 put-fsinfo3-spec =
     tie.close
     (tie.spec
-    (search needs) add-if1 returns (search needs) (search needs) (search needs) (search needs) (search needs) (search needs) (search needs) (search needs) (search needs) returns-2)
+    (search needs) add-if1 returns (search needs) (search needs) (search needs) (search needs) (search needs) (search needs) (search needs)
+    (search needs) (search needs) returns-2)

@@ -11,7 +11,4 @@ unfolding ftype
 returns c = laid-same _ _ _ (ap (word .kind .write) (c .before .before .before .before .number .ensures)) (c .before .before .put-u32 .ensures)
 
 pub put-ftype3-spec : {M : Type 1} → statement M
-put-ftype3-spec =
-    tie.close
-    (tie.spec
-    (search needs) (search needs) (search needs) returns)
+put-ftype3-spec = tie.close (tie.spec (search needs) (search needs) (search needs) returns)

@@ -8,7 +8,4 @@ returns : tie.Need-returns
 returns c = laid-same _ _ _ (nfstime-bytes (c .before .before .before .before .before .args .v)) (c .before .before .put-u32-pair .ensures)
 
 pub put-nfstime3-spec : {M : Type 1} → statement M
-put-nfstime3-spec =
-    tie.close
-    (tie.spec
-    (search needs) (search needs) returns)
+put-nfstime3-spec = tie.close (tie.spec (search needs) (search needs) returns)

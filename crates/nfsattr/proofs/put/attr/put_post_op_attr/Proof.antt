@@ -26,5 +26,5 @@ pub put-post-op-attr-spec : {M : Type 1} → statement M
 put-post-op-attr-spec =
     tie.close
     (tie.spec
-    (search needs) (search needs) (search needs) (search needs) returns (search needs) (search needs) (search needs) (search needs)
-    (search needs) (search needs) (search needs) (search needs) (search needs) returns-2 (search needs) returns-3)
+    (search needs) (search needs) (search needs) (search needs) returns (search needs) (search needs) (search needs) (search needs) (search needs)
+    (search needs) (search needs) (search needs) (search needs) returns-2 (search needs) returns-3)

@@ -8,7 +8,4 @@ returns : tie.Need-returns
 returns c = laid-same _ _ _ (transfer-bytes (c .before .before .before .before .before .args .v)) (c .before .before .put-u32-three .ensures)
 
 pub put-transfer-spec : {M : Type 1} → statement M
-put-transfer-spec =
-    tie.close
-    (tie.spec
-    (search needs) (search needs) returns)
+put-transfer-spec = tie.close (tie.spec (search needs) (search needs) returns)

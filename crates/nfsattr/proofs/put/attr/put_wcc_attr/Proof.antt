@@ -19,4 +19,5 @@ pub put-wcc-attr-spec : {M : Type 1} → statement M
 put-wcc-attr-spec =
     tie.close
     (tie.spec
-    returns (search needs) (search needs) (search needs) (search needs) (search needs) (search needs) (search needs) (search needs) (search needs) returns-2)
+    returns (search needs) (search needs) (search needs) (search needs) (search needs) (search needs) (search needs) (search needs) (search needs)
+    returns-2)

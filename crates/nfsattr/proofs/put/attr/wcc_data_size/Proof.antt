@@ -11,7 +11,4 @@ returns : tie.Need-returns
 returns c = omega (arith, wcc-data-length (c .before .before .args .v), c .before .pre-op-attr-size .ensures, c .post-op-attr-size .ensures)
 
 pub wcc-data-size-spec : {M : Type 1} → statement M
-wcc-data-size-spec =
-    tie.close
-    (tie.spec
-    (search needs) (search needs) add-result returns)
+wcc-data-size-spec = tie.close (tie.spec (search needs) (search needs) add-result returns)

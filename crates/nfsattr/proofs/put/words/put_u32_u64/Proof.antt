@@ -17,4 +17,5 @@ pub put-u32-u64-spec : {M : Type 1} → statement M
 put-u32-u64-spec =
     tie.close
     (tie.spec
-    returns (search needs) (search needs) (search needs) (search needs) (search needs) (search needs) (search needs) (search needs) (search needs) returns-2)
+    returns (search needs) (search needs) (search needs) (search needs) (search needs) (search needs) (search needs) (search needs) (search needs)
+    returns-2)
