@@ -36,3 +36,6 @@ pub mod Owed
 pub mod Plans
 pub mod Tags
 pub mod Writers
+pub mod Records
+pub mod Numbers
+pub mod Lays

@@ -8,31 +8,32 @@ use Rattle.xdr.specs.Meaning.Items.{word, hyper}
 use Rattle.xdr.specs.Meaning.Format.{exactly}
 use Rattle.xdr.specs.Meaning.Formats.{bytes}
 use Rattle.xdr.specs.Laws.Plans.{Planned, plan, at, _then_, _next_, optionally, Step, Loses, step, lost-at, asks}
-use Rattle.nfsattr.specs.Laws.Plans.{Reads, fields, one, optional, still}
+use Rattle.xdr.specs.Laws.Records.{ByPlan, fields, one, still}
+use Rattle.nfsattr.specs.Laws.Plans.{optional}
 use Rattle.nfs.specs.Meaning.Set.{set-mode, modeCases, set-uid, uidCases, set-gid, gidCases, set-size, sizeCases, set-atime, set-mtime, sattr}
 use Rattle.nfs.specs.Meaning.Dir.{nfs-fh, post-op-fh, diropargs, symlinkdata}
 use Rattle.nfs.specs.Meaning.Views.{lostNfsFh3, lostSattr3, lostSetAtime, lostSetGid3, lostSetMode3, lostSetMtime, lostSetSize3, lostSetUid3, viewNfsFh3, viewSattr3, viewSetAtime, viewSetGid3, viewSetMode3, viewSetMtime, viewSetSize3, viewSetUid3}
 
 -- the kinds
-abbrev pub set-mode-reads : Reads set-mode
+abbrev pub set-mode-plan : ByPlan set-mode
 unfolding set-mode
-set-mode-reads = optional word modeCases
+set-mode-plan = optional word modeCases
 
-abbrev pub set-uid-reads : Reads set-uid
+abbrev pub set-uid-plan : ByPlan set-uid
 unfolding set-uid
-set-uid-reads = optional word uidCases
+set-uid-plan = optional word uidCases
 
-abbrev pub set-gid-reads : Reads set-gid
+abbrev pub set-gid-plan : ByPlan set-gid
 unfolding set-gid
-set-gid-reads = optional word gidCases
+set-gid-plan = optional word gidCases
 
-abbrev pub set-size-reads : Reads set-size
+abbrev pub set-size-plan : ByPlan set-size
 unfolding set-size
-set-size-reads = optional hyper sizeCases
+set-size-plan = optional hyper sizeCases
 
-abbrev pub sattr-reads : Reads sattr
+abbrev pub sattr-plan : ByPlan sattr
 unfolding sattr
-sattr-reads = fields (one set-mode next one set-uid next one set-gid next one set-size next one set-atime next one set-mtime) _ _ _ _
+sattr-plan = fields (one set-mode next one set-uid next one set-gid next one set-size next one set-atime next one set-mtime) _ _ _ _
 
 abbrev pub nfs-fh-plan : Planned (nfs-fh .held .read)
 unfolding nfs-fh

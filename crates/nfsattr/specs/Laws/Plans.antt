@@ -1,34 +1,18 @@
 -- How each kind is read: an optional value as a plan, and the steps of a plan for each type of answer.
 -- Assumes nothing.
-use mathlib.Core.Path.{_≡_, refl, sym, ap, _∙_}
-use mathlib.Core.Bool.{Bool, true, false, _&&_, and-true}
+use mathlib.Core.Path.{_≡_, refl, ap}
+use mathlib.Core.Bool.{Bool, true, false, and-true}
 use mathlib.Core.Option.{none, some}
 use mathlib.Core.List.{List}
 use Prim.Native.Nat.{ℕ}
 use Rattle.xdr.specs.Meaning.Answer.{Answer, took, refused}
 use Rattle.xdr.specs.Meaning.Kind.{Codec}
 use Rattle.xdr.specs.Meaning.Items.{word, hyper, word-pair, hyper-pair, flag}
-use Rattle.xdr.specs.Meaning.Codecs.{mapped}
-use Rattle.xdr.specs.Meaning.Format.{exactly}
-use Rattle.xdr.specs.Laws.Plans.{Prog, ask, test, give, run, follow, Plan, at, _next_, plan-is-c, Step, Loses, step, lost-at, asks}
+use Rattle.xdr.specs.Laws.Plans.{Prog, ask, test, give, run, _next_, Step, Loses, step, lost-at, asks}
+use Rattle.xdr.specs.Laws.Records.{ByPlan, fields, one, still}
 use Rattle.nfsattr.specs.Meaning.Attr.{ftype, specdata, nfstime, ids, sizes, times, fattr, wcc-attr, pre-op-attr, preCases, post-op-attr, postCases, wcc-data, transfer, limits, fsinfo}
 use Rattle.nfsattr.specs.Meaning.Cases.{Cases, maybe}
 use Rattle.nfsattr.specs.Meaning.Views.{lostFattr3, lostFtype3, lostIds, lostLimits, lostNfstime3, lostPostOpAttr, lostPreOpAttr, lostSizes, lostSpecdata3, lostTimes, lostTransfer, lostWccAttr, viewFattr3, viewFtype3, viewIds, viewLimits, viewNfstime3, viewPostOpAttr, viewPreOpAttr, viewSizes, viewSpecdata3, viewTimes, viewTransfer, viewWccAttr}
-
--- a codec that is read by a plan
-pub record Reads {T : Type 0} (D : Codec T) : Type 1 where
-  pub by : Prog T
-  pub is : (s : List ℕ) (p : ℕ) → D .kind .read s p ≡ run by s p true
-
-pub reads : {T : Type 0} {D : Codec T} (R : Reads D) (s : List ℕ) (p : ℕ) (z : Answer T) → z ≡ run (R .by) s p true → z ≡ D .kind .read s p
-reads R s p z e = e ∙ sym (R .is s p)
-
--- fields one after another, under the names of a record
-abbrev pub fields : {M N : Type 0} {C : Codec M} → Plan (exactly C) → (f : M → N) (g : N → M) (gf : (x : M) → g (f x) ≡ x) (fg : (y : N) → f (g y) ≡ y) → Reads (mapped C f g gf fg)
-fields P f g gf fg = record { by = P .by (λ y. give (f y)); is = plan-is-c P f g gf fg }
-
-abbrev pub one : {M : Type 0} (C : Codec M) → Plan (exactly C)
-one C = at (exactly C)
 
 -- an optional value: its flag, and the value if that is true
 module _ {M T : Type 0} (C : Codec M) (U : Cases M T) where
@@ -45,61 +29,61 @@ module _ {M T : Type 0} (C : Codec M) (U : Cases M T) where
     flag-is (took false n b) f = rw f (ap (took (U .to none) n) (and-true b))
     flag-is (refused r) f = rw f
 
-  abbrev pub optional : Reads (maybe C U)
+  abbrev pub optional : ByPlan (maybe C U)
   optional = record { by = maybe-by; is = λ s p. flag-is s p (flag .kind .read s p) refl }
 
 -- the kinds
-abbrev pub specdata-reads : Reads specdata
+abbrev pub specdata-plan : ByPlan specdata
 unfolding specdata
-specdata-reads = fields (one word-pair) _ _ _ _
+specdata-plan = fields (one word-pair) _ _ _ _
 
-abbrev pub nfstime-reads : Reads nfstime
+abbrev pub nfstime-plan : ByPlan nfstime
 unfolding nfstime
-nfstime-reads = fields (one word-pair) _ _ _ _
+nfstime-plan = fields (one word-pair) _ _ _ _
 
-abbrev pub ids-reads : Reads ids
+abbrev pub ids-plan : ByPlan ids
 unfolding ids
-ids-reads = fields (one ftype next one word-pair next one word-pair) _ _ _ _
+ids-plan = fields (one ftype next one word-pair next one word-pair) _ _ _ _
 
-abbrev pub sizes-reads : Reads sizes
+abbrev pub sizes-plan : ByPlan sizes
 unfolding sizes
-sizes-reads = fields (one hyper-pair next one specdata next one hyper-pair) _ _ _ _
+sizes-plan = fields (one hyper-pair next one specdata next one hyper-pair) _ _ _ _
 
-abbrev pub times-reads : Reads times
+abbrev pub times-plan : ByPlan times
 unfolding times
-times-reads = fields (one nfstime next one nfstime next one nfstime) _ _ _ _
+times-plan = fields (one nfstime next one nfstime next one nfstime) _ _ _ _
 
-abbrev pub fattr-reads : Reads fattr
+abbrev pub fattr-plan : ByPlan fattr
 unfolding fattr
-fattr-reads = fields (one ids next one sizes next one times) _ _ _ _
+fattr-plan = fields (one ids next one sizes next one times) _ _ _ _
 
-abbrev pub wcc-attr-reads : Reads wcc-attr
+abbrev pub wcc-attr-plan : ByPlan wcc-attr
 unfolding wcc-attr
-wcc-attr-reads = fields (one hyper next one nfstime next one nfstime) _ _ _ _
+wcc-attr-plan = fields (one hyper next one nfstime next one nfstime) _ _ _ _
 
-abbrev pub pre-op-attr-reads : Reads pre-op-attr
+abbrev pub pre-op-attr-plan : ByPlan pre-op-attr
 unfolding pre-op-attr
-pre-op-attr-reads = optional wcc-attr preCases
+pre-op-attr-plan = optional wcc-attr preCases
 
-abbrev pub post-op-attr-reads : Reads post-op-attr
+abbrev pub post-op-attr-plan : ByPlan post-op-attr
 unfolding post-op-attr
-post-op-attr-reads = optional fattr postCases
+post-op-attr-plan = optional fattr postCases
 
-abbrev pub wcc-data-reads : Reads wcc-data
+abbrev pub wcc-data-plan : ByPlan wcc-data
 unfolding wcc-data
-wcc-data-reads = fields (one pre-op-attr next one post-op-attr) _ _ _ _
+wcc-data-plan = fields (one pre-op-attr next one post-op-attr) _ _ _ _
 
-abbrev pub transfer-reads : Reads transfer
+abbrev pub transfer-plan : ByPlan transfer
 unfolding transfer
-transfer-reads = fields (one word next one word-pair) _ _ _ _
+transfer-plan = fields (one word next one word-pair) _ _ _ _
 
-abbrev pub limits-reads : Reads limits
+abbrev pub limits-plan : ByPlan limits
 unfolding limits
-limits-reads = fields (one word next one hyper next one nfstime next one word) _ _ _ _
+limits-plan = fields (one word next one hyper next one nfstime next one word) _ _ _ _
 
-abbrev pub fsinfo-reads : Reads fsinfo
+abbrev pub fsinfo-plan : ByPlan fsinfo
 unfolding fsinfo
-fsinfo-reads = fields (one post-op-attr next one transfer next one transfer next one limits) _ _ _ _
+fsinfo-plan = fields (one post-op-attr next one transfer next one transfer next one limits) _ _ _ _
 
 -- the steps, for each type of answer
 pub step-ftype : Step viewFtype3
@@ -173,9 +157,5 @@ step-limits U = step viewLimits
 
 pub lost-limits : Loses lostLimits
 lost-limits A = lost-at lostLimits
-
--- a value that is always plain leaves the mark as it was
-pub still : {A : Type 0} (u : A) (n : ℕ) (b : Bool) (z : Answer A) → z ≡ took u n b → z ≡ took u n (b && true)
-still u n b z e = e ∙ ap (took u n) (sym (and-true b))
 
 pub ruleset attr-asks = (asks, still, step-ftype, lost-ftype, step-specdata, lost-specdata, step-nfstime, lost-nfstime, step-ids, lost-ids, step-sizes, lost-sizes, step-times, lost-times, step-fattr, lost-fattr, step-wcc-attr, lost-wcc-attr, step-pre-op-attr, lost-pre-op-attr, step-post-op-attr, lost-post-op-attr, step-transfer, lost-transfer, step-limits, lost-limits)

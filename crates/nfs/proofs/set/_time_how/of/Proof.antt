@@ -1,4 +1,4 @@
-use Rattle.nfsattr.specs.Laws.Closed.{found-at, found-none}
+use Rattle.xdr.specs.Laws.Numbers.{found-at, found-none}
 use Rattle.nfs.specs.Meaning.Set.{howNumber, hows}
 use Rattle.nfs.proofs.set._time_how.of.Statement.{statement}
 use Rattle.nfs.proofs.set._time_how.of.Tie as tie

@@ -1,6 +1,7 @@
 use borrow.Author.Needs.{needs}
 use Rattle.nfsattr.specs.Meaning.Attr.{fattr}
-use Rattle.nfsattr.specs.Laws.Plans.{reads, fattr-reads, attr-asks}
+use Rattle.xdr.specs.Laws.Records.{by-plan}
+use Rattle.nfsattr.specs.Laws.Plans.{fattr-plan, attr-asks}
 use Rattle.nfsattr.proofs.inner.attr.fattr3_at.Statement.{statement}
 use Rattle.nfsattr.proofs.inner.attr.fattr3_at.Tie as tie
 
@@ -9,6 +10,6 @@ unfolding fattr
 fattr3-at-spec =
     tie.close
     (tie.spec
-    (search needs) (search needs) (search needs) (search needs) (λ c. search (reads fattr-reads, attr-asks) depth 20) (search needs)
-    (search needs) (search needs) (search needs) (λ c. search (reads fattr-reads, attr-asks) depth 20) (search needs) (search needs)
-    (search needs) (search needs) (λ c. search (reads fattr-reads, attr-asks) depth 20) (λ c. search (reads fattr-reads, attr-asks) depth 20))
+    (search needs) (search needs) (search needs) (search needs) (λ c. search (by-plan fattr-plan, attr-asks) depth 20) (search needs)
+    (search needs) (search needs) (search needs) (λ c. search (by-plan fattr-plan, attr-asks) depth 20) (search needs) (search needs)
+    (search needs) (search needs) (λ c. search (by-plan fattr-plan, attr-asks) depth 20) (λ c. search (by-plan fattr-plan, attr-asks) depth 20))

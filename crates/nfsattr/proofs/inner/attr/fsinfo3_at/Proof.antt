@@ -1,6 +1,7 @@
 use borrow.Author.Needs.{needs}
 use Rattle.nfsattr.specs.Meaning.Attr.{fsinfo}
-use Rattle.nfsattr.specs.Laws.Plans.{reads, fsinfo-reads, attr-asks}
+use Rattle.xdr.specs.Laws.Records.{by-plan}
+use Rattle.nfsattr.specs.Laws.Plans.{fsinfo-plan, attr-asks}
 use Rattle.nfsattr.proofs.inner.attr.fsinfo3_at.Statement.{statement}
 use Rattle.nfsattr.proofs.inner.attr.fsinfo3_at.Tie as tie
 
@@ -9,7 +10,7 @@ unfolding fsinfo
 fsinfo3-at-spec =
     tie.close
     (tie.spec
-    (search needs) (search needs) (search needs) (search needs) (λ c. search (reads fsinfo-reads, attr-asks) depth 20) (search needs)
-    (search needs) (search needs) (search needs) (λ c. search (reads fsinfo-reads, attr-asks) depth 20) (search needs) (search needs)
-    (search needs) (search needs) (λ c. search (reads fsinfo-reads, attr-asks) depth 20) (search needs) (search needs) (search needs)
-    (search needs) (λ c. search (reads fsinfo-reads, attr-asks) depth 20) (λ c. search (reads fsinfo-reads, attr-asks) depth 20))
+    (search needs) (search needs) (search needs) (search needs) (λ c. search (by-plan fsinfo-plan, attr-asks) depth 20) (search needs)
+    (search needs) (search needs) (search needs) (λ c. search (by-plan fsinfo-plan, attr-asks) depth 20) (search needs) (search needs)
+    (search needs) (search needs) (λ c. search (by-plan fsinfo-plan, attr-asks) depth 20) (search needs) (search needs) (search needs)
+    (search needs) (λ c. search (by-plan fsinfo-plan, attr-asks) depth 20) (λ c. search (by-plan fsinfo-plan, attr-asks) depth 20))

@@ -1,6 +1,7 @@
 use borrow.Author.Needs.{needs}
 use Rattle.nfsattr.specs.Meaning.Attr.{limits}
-use Rattle.nfsattr.specs.Laws.Plans.{reads, limits-reads, attr-asks}
+use Rattle.xdr.specs.Laws.Records.{by-plan}
+use Rattle.nfsattr.specs.Laws.Plans.{limits-plan, attr-asks}
 use Rattle.nfsattr.proofs.inner.attr.limits_at.Statement.{statement}
 use Rattle.nfsattr.proofs.inner.attr.limits_at.Tie as tie
 
@@ -9,7 +10,7 @@ unfolding limits
 limits-at-spec =
     tie.close
     (tie.spec
-    (search needs) (search needs) (search needs) (search needs) (λ c. search (reads limits-reads, attr-asks) depth 20) (search needs)
-    (search needs) (search needs) (search needs) (λ c. search (reads limits-reads, attr-asks) depth 20) (search needs) (search needs)
-    (search needs) (search needs) (λ c. search (reads limits-reads, attr-asks) depth 20) (search needs) (search needs) (search needs)
-    (search needs) (λ c. search (reads limits-reads, attr-asks) depth 20) (λ c. search (reads limits-reads, attr-asks) depth 20))
+    (search needs) (search needs) (search needs) (search needs) (λ c. search (by-plan limits-plan, attr-asks) depth 20) (search needs)
+    (search needs) (search needs) (search needs) (λ c. search (by-plan limits-plan, attr-asks) depth 20) (search needs) (search needs)
+    (search needs) (search needs) (λ c. search (by-plan limits-plan, attr-asks) depth 20) (search needs) (search needs) (search needs)
+    (search needs) (λ c. search (by-plan limits-plan, attr-asks) depth 20) (λ c. search (by-plan limits-plan, attr-asks) depth 20))

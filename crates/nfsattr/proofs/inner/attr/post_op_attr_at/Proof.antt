@@ -1,6 +1,7 @@
 use borrow.Author.Needs.{needs}
 use Rattle.nfsattr.specs.Meaning.Attr.{post-op-attr}
-use Rattle.nfsattr.specs.Laws.Plans.{reads, post-op-attr-reads, attr-asks}
+use Rattle.xdr.specs.Laws.Records.{by-plan}
+use Rattle.nfsattr.specs.Laws.Plans.{post-op-attr-plan, attr-asks}
 use Rattle.nfsattr.proofs.inner.attr.post_op_attr_at.Statement.{statement}
 use Rattle.nfsattr.proofs.inner.attr.post_op_attr_at.Tie as tie
 
@@ -9,6 +10,6 @@ unfolding post-op-attr
 post-op-attr-at-spec =
     tie.close
     (tie.spec
-    (search needs) (search needs) (search needs) (search needs) (λ c. search (reads post-op-attr-reads, attr-asks) depth 20)
-    (λ c. search (reads post-op-attr-reads, attr-asks) depth 20) (search needs) (search needs) (search needs) (search needs)
-    (λ c. search (reads post-op-attr-reads, attr-asks) depth 20) (λ c. search (reads post-op-attr-reads, attr-asks) depth 20))
+    (search needs) (search needs) (search needs) (search needs) (λ c. search (by-plan post-op-attr-plan, attr-asks) depth 20)
+    (λ c. search (by-plan post-op-attr-plan, attr-asks) depth 20) (search needs) (search needs) (search needs) (search needs)
+    (λ c. search (by-plan post-op-attr-plan, attr-asks) depth 20) (λ c. search (by-plan post-op-attr-plan, attr-asks) depth 20))

@@ -1,6 +1,7 @@
 use borrow.Author.Needs.{needs}
 use Rattle.nfsattr.specs.Meaning.Attr.{specdata}
-use Rattle.nfsattr.specs.Laws.Plans.{reads, specdata-reads, attr-asks}
+use Rattle.xdr.specs.Laws.Records.{by-plan}
+use Rattle.nfsattr.specs.Laws.Plans.{specdata-plan, attr-asks}
 use Rattle.nfsattr.proofs.inner.attr.specdata3_at.Statement.{statement}
 use Rattle.nfsattr.proofs.inner.attr.specdata3_at.Tie as tie
 
@@ -9,5 +10,5 @@ unfolding specdata
 specdata3-at-spec =
     tie.close
     (tie.spec
-    (search needs) (search needs) (search needs) (search needs) (λ c. search (reads specdata-reads, attr-asks) depth 20)
-    (λ c. search (reads specdata-reads, attr-asks) depth 20))
+    (search needs) (search needs) (search needs) (search needs) (λ c. search (by-plan specdata-plan, attr-asks) depth 20)
+    (λ c. search (by-plan specdata-plan, attr-asks) depth 20))

@@ -1,6 +1,7 @@
 use borrow.Author.Needs.{needs}
 use Rattle.nfsattr.specs.Meaning.Attr.{times}
-use Rattle.nfsattr.specs.Laws.Plans.{reads, times-reads, attr-asks}
+use Rattle.xdr.specs.Laws.Records.{by-plan}
+use Rattle.nfsattr.specs.Laws.Plans.{times-plan, attr-asks}
 use Rattle.nfsattr.proofs.inner.attr.times_at.Statement.{statement}
 use Rattle.nfsattr.proofs.inner.attr.times_at.Tie as tie
 
@@ -9,6 +10,6 @@ unfolding times
 times-at-spec =
     tie.close
     (tie.spec
-    (search needs) (search needs) (search needs) (search needs) (λ c. search (reads times-reads, attr-asks) depth 20) (search needs)
-    (search needs) (search needs) (search needs) (λ c. search (reads times-reads, attr-asks) depth 20) (search needs) (search needs)
-    (search needs) (search needs) (λ c. search (reads times-reads, attr-asks) depth 20) (λ c. search (reads times-reads, attr-asks) depth 20))
+    (search needs) (search needs) (search needs) (search needs) (λ c. search (by-plan times-plan, attr-asks) depth 20) (search needs)
+    (search needs) (search needs) (search needs) (λ c. search (by-plan times-plan, attr-asks) depth 20) (search needs) (search needs)
+    (search needs) (search needs) (λ c. search (by-plan times-plan, attr-asks) depth 20) (λ c. search (by-plan times-plan, attr-asks) depth 20))

@@ -1,6 +1,7 @@
 use borrow.Author.Needs.{needs}
 use Rattle.nfsattr.specs.Meaning.Attr.{transfer}
-use Rattle.nfsattr.specs.Laws.Plans.{reads, transfer-reads, attr-asks}
+use Rattle.xdr.specs.Laws.Records.{by-plan}
+use Rattle.nfsattr.specs.Laws.Plans.{transfer-plan, attr-asks}
 use Rattle.nfsattr.proofs.inner.attr.transfer_at.Statement.{statement}
 use Rattle.nfsattr.proofs.inner.attr.transfer_at.Tie as tie
 
@@ -9,6 +10,6 @@ unfolding transfer
 transfer-at-spec =
     tie.close
     (tie.spec
-    (search needs) (search needs) (search needs) (search needs) (λ c. search (reads transfer-reads, attr-asks) depth 20) (search needs)
-    (search needs) (search needs) (search needs) (λ c. search (reads transfer-reads, attr-asks) depth 20)
-    (λ c. search (reads transfer-reads, attr-asks) depth 20))
+    (search needs) (search needs) (search needs) (search needs) (λ c. search (by-plan transfer-plan, attr-asks) depth 20) (search needs)
+    (search needs) (search needs) (search needs) (λ c. search (by-plan transfer-plan, attr-asks) depth 20)
+    (λ c. search (by-plan transfer-plan, attr-asks) depth 20))

@@ -1,6 +1,7 @@
 use borrow.Author.Needs.{needs}
 use Rattle.nfsattr.specs.Meaning.Attr.{wcc-data}
-use Rattle.nfsattr.specs.Laws.Plans.{reads, wcc-data-reads, attr-asks}
+use Rattle.xdr.specs.Laws.Records.{by-plan}
+use Rattle.nfsattr.specs.Laws.Plans.{wcc-data-plan, attr-asks}
 use Rattle.nfsattr.proofs.inner.attr.wcc_data_at.Statement.{statement}
 use Rattle.nfsattr.proofs.inner.attr.wcc_data_at.Tie as tie
 
@@ -9,6 +10,6 @@ unfolding wcc-data
 wcc-data-at-spec =
     tie.close
     (tie.spec
-    (search needs) (search needs) (search needs) (search needs) (λ c. search (reads wcc-data-reads, attr-asks) depth 20) (search needs)
-    (search needs) (search needs) (search needs) (λ c. search (reads wcc-data-reads, attr-asks) depth 20)
-    (λ c. search (reads wcc-data-reads, attr-asks) depth 20))
+    (search needs) (search needs) (search needs) (search needs) (λ c. search (by-plan wcc-data-plan, attr-asks) depth 20) (search needs)
+    (search needs) (search needs) (search needs) (λ c. search (by-plan wcc-data-plan, attr-asks) depth 20)
+    (λ c. search (by-plan wcc-data-plan, attr-asks) depth 20))
