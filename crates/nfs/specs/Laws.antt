@@ -2,6 +2,8 @@
 pub mod Sizes
 pub mod Closed
 pub mod Read
+pub mod Plans
+pub mod Tags
 pub mod Write
 pub mod Bytes
 pub mod Pieces

@@ -1,9 +1,7 @@
--- Ranges: every value of a declared type means a message in range. `Is the-row m vs` is what owning a parameter m of the type tells: of a
--- struct `p .1 .1` is the fields' own facts, a tuple in their order; of an enum at a constructor `p .1 .1 .1 .1` is those of its fields. A
--- number's `.1` is its range.
+-- Ranges: every value of a declared type means a message in range. `Is the-row m vs` is what owning a parameter m of the type tells: the
+-- ranges of its numbers are fields of it, which `search` finds.
 -- Assumes nothing.
 use mathlib.Core.List.{List}
-use mathlib.Core.Bool.{true, false}
 use native.Mathlib.Omega.{arith}
 use mir.Val.{Val}
 use denote.Laws.{Is}
@@ -41,48 +39,39 @@ ftype-good NF3LNK = word-good _ (omega arith)
 ftype-good NF3SOCK = word-good _ (omega arith)
 ftype-good NF3FIFO = word-good _ (omega arith)
 
+-- the numbers of the source, each in its range
+pub ruleset goods = (word-good, hyper-good, word-pair-good, hyper-pair-good, flag-good, ftype-good)
+
 pub specdata-good : (m : specdata3) {vs : List Val} → Is specdata3·.the-row m vs → specdata .kind .Good m
 unfolding specdata
-specdata-good m p =
-    let f = p .1 .1 in
-    word-pair-good _ _ (f .0 .1) (f .1 .0 .1)
+specdata-good m p = search goods
 
 pub nfstime-good : (m : nfstime3) {vs : List Val} → Is nfstime3·.the-row m vs → nfstime .kind .Good m
 unfolding nfstime
-nfstime-good m p =
-    let f = p .1 .1 in
-    word-pair-good _ _ (f .0 .1) (f .1 .0 .1)
+nfstime-good m p = search goods
 
 pub fattr-good : (m : fattr3) {vs : List Val} → Is fattr3·.the-row m vs → fattr .kind .Good m
 unfolding fattr ids sizes times
-fattr-good m p =
-    let f = p .1 .1 in
-    ((ftype-good (m .ftype), (word-pair-good _ _ (f .1 .0 .1) (f .1 .1 .0 .1), word-pair-good _ _ (f .1 .1 .1 .0 .1) (f .1 .1 .1 .1 .0 .1))), ((hyper-pair-good _ _ (f .1 .1 .1 .1 .1 .0 .1) (f .1 .1 .1 .1 .1 .1 .0 .1), (specdata-good (m .rdev) (f .1 .1 .1 .1 .1 .1 .1 .0), hyper-pair-good _ _ (f .1 .1 .1 .1 .1 .1 .1 .1 .0 .1) (f .1 .1 .1 .1 .1 .1 .1 .1 .1 .0 .1))), (nfstime-good (m .atime) (f .1 .1 .1 .1 .1 .1 .1 .1 .1 .1 .0), (nfstime-good (m .mtime) (f .1 .1 .1 .1 .1 .1 .1 .1 .1 .1 .1 .0), nfstime-good (m .ctime) (f .1 .1 .1 .1 .1 .1 .1 .1 .1 .1 .1 .1 .0)))))
+fattr-good m p = search (goods, specdata-good, nfstime-good)
 
 pub wcc-attr-good : (m : «wcc_attr») {vs : List Val} → Is wcc-attr·.the-row m vs → wcc-attr .kind .Good m
 unfolding wcc-attr
-wcc-attr-good m p =
-    let f = p .1 .1 in
-    (hyper-good _ (f .0 .1), (nfstime-good (m .mtime) (f .1 .0), nfstime-good (m .ctime) (f .1 .1 .0)))
+wcc-attr-good m p = search (goods, nfstime-good)
 
 pub pre-op-attr-good : (m : «pre_op_attr») {vs : List Val} → Is pre-op-attr·.the-row m vs → pre-op-attr .kind .Good m
 unfolding pre-op-attr
-pre-op-attr-good pre.Void p = (flag-good false, tt)
-pre-op-attr-good (pre.attributes v) p = (flag-good true, wcc-attr-good v (p .1 .1 .1 .1 .0))
+pre-op-attr-good pre.Void p = search goods
+pre-op-attr-good (pre.attributes v) p = search (goods, wcc-attr-good)
 
 pub post-op-attr-good : (m : «post_op_attr») {vs : List Val} → Is post-op-attr·.the-row m vs → post-op-attr .kind .Good m
 unfolding post-op-attr
-post-op-attr-good post.Void p = (flag-good false, tt)
-post-op-attr-good (post.attributes v) p = (flag-good true, fattr-good v (p .1 .1 .1 .1 .0))
+post-op-attr-good post.Void p = search goods
+post-op-attr-good (post.attributes v) p = search (goods, fattr-good)
 
 pub wcc-data-good : (m : «wcc_data») {vs : List Val} → Is wcc-data·.the-row m vs → wcc-data .kind .Good m
 unfolding wcc-data
-wcc-data-good m p =
-    let f = p .1 .1 in
-    (pre-op-attr-good (m .before) (f .0), post-op-attr-good (m .after) (f .1 .0))
+wcc-data-good m p = search (pre-op-attr-good, post-op-attr-good)
 
 pub fsinfo-good : (m : fsinfo3) {vs : List Val} → Is fsinfo3·.the-row m vs → fsinfo .kind .Good m
 unfolding fsinfo transfer limits
-fsinfo-good m p =
-    let f = p .1 .1 in
-    (post-op-attr-good (m .«obj_attributes») (f .0), ((word-good _ (f .1 .0 .1), word-pair-good _ _ (f .1 .1 .0 .1) (f .1 .1 .1 .0 .1)), ((word-good _ (f .1 .1 .1 .1 .0 .1), word-pair-good _ _ (f .1 .1 .1 .1 .1 .0 .1) (f .1 .1 .1 .1 .1 .1 .0 .1)), (word-good _ (f .1 .1 .1 .1 .1 .1 .1 .0 .1), (hyper-good _ (f .1 .1 .1 .1 .1 .1 .1 .1 .0 .1), (nfstime-good (m .«time_delta») (f .1 .1 .1 .1 .1 .1 .1 .1 .1 .0), word-good _ (f .1 .1 .1 .1 .1 .1 .1 .1 .1 .1 .0 .1)))))))
+fsinfo-good m p = search (goods, nfstime-good, post-op-attr-good)

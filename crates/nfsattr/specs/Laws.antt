@@ -4,6 +4,7 @@ pub mod Words
 pub mod Lent
 pub mod Closed
 pub mod Read
+pub mod Plans
 pub mod Write
 pub mod Bytes
 pub mod Promises

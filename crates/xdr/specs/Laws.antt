@@ -38,3 +38,6 @@ pub mod Tags
 pub mod Writers
 pub mod Lengths
 pub mod Faults
+pub mod Records
+pub mod Numbers
+pub mod Lays

@@ -3,19 +3,20 @@
 use mathlib.Core.Path.{_≡_, refl, sym, ap, _∙_}
 use mathlib.Core.Option.{none, some}
 use mathlib.Core.List.{_++_, append-assoc}
-use Prim.Native.Nat.{_+_}
+use Prim.Native.Nat.{ℕ, _+_, _≤_}
 use native.Mathlib.Omega.{arith}
 use lib.ListN.{length, length-append}
+use mir.Syntax.{w64}
+use mir.Val.{Fits}
+use Rattle.xdr.specs.Meaning.Answer.{most}
 use Rattle.xdr.specs.Meaning.Items.{word, hyper, word-pair, hyper-pair}
-use Rattle.nfsattr.specs.Meaning.Attr.{ftype, specdata, nfstime, ids, sizes, times, fattr, wcc-attr, pre-op-attr, preCases, post-op-attr, postCases, wcc-data, transfer, limits, fsinfo}
+use Rattle.nfsattr.specs.Meaning.Attr.{ftype, ftypeNumber, specdata, nfstime, ids, sizes, times, fattr, wcc-attr, pre-op-attr, preCases, post-op-attr, postCases, wcc-data, transfer, limits, fsinfo}
 use Rattle.nfsattr.specs.Laws.Sizes.{fattr-fixed, wcc-attr-fixed}
-use Rattle.nfsattr.specs.Laws.Words.{bounds-length}
-use Rattle.nfsattr.specs.Laws.Write.{Between, maybe-length, maybe-between}
+use Rattle.nfsattr.specs.Laws.Words.{bounds-size}
+use Rattle.nfsattr.specs.Laws.Write.{Between, Optional, maybe-length, maybe-between}
+use Rattle.nfsattr.specs.declared.attr.ftype3.{ftype3}
 use Rattle.nfsattr.specs.declared.attr.specdata3.{specdata3}
 use Rattle.nfsattr.specs.declared.attr.nfstime3.{nfstime3}
-use Rattle.nfsattr.specs.declared.inner.attr.Ids.{Ids}
-use Rattle.nfsattr.specs.declared.inner.attr.Sizes.{Sizes}
-use Rattle.nfsattr.specs.declared.inner.attr.Times.{Times}
 use Rattle.nfsattr.specs.declared.attr.wcc_attr.{«wcc_attr»}
 use Rattle.nfsattr.specs.declared.attr.wcc_data.{«wcc_data»}
 use Rattle.nfsattr.specs.declared.inner.attr.Transfer.{Transfer}
@@ -25,6 +26,10 @@ use Rattle.nfsattr.specs.declared.attr.fsinfo3.{fsinfo3}
 use Rattle.nfsattr.specs.declared.attr.pre_op_attr.{«pre_op_attr»}
 use Rattle.nfsattr.specs.declared.attr.post_op_attr.{«post_op_attr»}
 use Rattle.nfsattr.specs.declared.attr.post_op_attr.the-variants as post
+
+pub ftype-bytes : (n : ℕ) (a : ftype3) → n ≡ ftypeNumber a → word .kind .write n ≡ ftype .kind .write a
+unfolding ftype
+ftype-bytes n a e = ap (word .kind .write) e
 
 pub specdata-bytes : (m : specdata3)
     → word-pair .kind .write (m .specdata1, m .specdata2) ≡ specdata .kind .write m
@@ -36,20 +41,23 @@ pub nfstime-bytes : (m : nfstime3)
 unfolding nfstime
 nfstime-bytes m = refl
 
-pub ids-bytes : (m : Ids)
-    → (ftype .kind .write (m .ftype) ++ word-pair .kind .write (m .mode, m .nlink)) ++ word-pair .kind .write (m .uid, m .gid) ≡ ids .kind .write m
+pub ids-bytes : (t : ftype3) (mode nlink uid gid : ℕ)
+    → (ftype .kind .write t ++ word-pair .kind .write (mode, nlink)) ++ word-pair .kind .write (uid, gid)
+    ≡ ids .kind .write (record { ftype = t; mode = mode; nlink = nlink; uid = uid; gid = gid })
 unfolding ids
-ids-bytes m = simp append-assoc
+ids-bytes t mode nlink uid gid = simp append-assoc
 
-pub sizes-bytes : (m : Sizes)
-    → (hyper-pair .kind .write (m .size, m .used) ++ specdata .kind .write (m .rdev)) ++ hyper-pair .kind .write (m .fsid, m .fileid) ≡ sizes .kind .write m
+pub sizes-bytes : (size used fsid fileid : ℕ) (rdev : specdata3)
+    → (hyper-pair .kind .write (size, used) ++ specdata .kind .write rdev) ++ hyper-pair .kind .write (fsid, fileid)
+    ≡ sizes .kind .write (record { size = size; used = used; rdev = rdev; fsid = fsid; fileid = fileid })
 unfolding sizes
-sizes-bytes m = simp append-assoc
+sizes-bytes size used fsid fileid rdev = simp append-assoc
 
-pub times-bytes : (m : Times)
-    → nfstime .kind .write (m .atime) ++ (nfstime .kind .write (m .mtime) ++ nfstime .kind .write (m .ctime)) ≡ times .kind .write m
+pub times-bytes : (atime mtime ctime : nfstime3)
+    → nfstime .kind .write atime ++ (nfstime .kind .write mtime ++ nfstime .kind .write ctime)
+    ≡ times .kind .write (record { atime = atime; mtime = mtime; ctime = ctime })
 unfolding times
-times-bytes m = refl
+times-bytes atime mtime ctime = refl
 
 pub wcc-attr-bytes : (m : «wcc_attr»)
     → hyper .kind .write (m .size) ++ (nfstime .kind .write (m .mtime) ++ nfstime .kind .write (m .ctime)) ≡ wcc-attr .kind .write m
@@ -83,6 +91,15 @@ pub fsinfo-bytes : (m : fsinfo3)
 unfolding fsinfo
 fsinfo-bytes m = simp append-assoc
 
+-- optional values
+pub pre-optional : Optional wcc-attr preCases pre-op-attr
+unfolding pre-op-attr
+pre-optional = record { is = refl }
+
+pub post-optional : Optional fattr postCases post-op-attr
+unfolding post-op-attr
+post-optional = record { is = refl }
+
 -- ranges
 pub pre-op-attr-between : (v : «pre_op_attr») → Between 4 28 (length (pre-op-attr .kind .write v))
 unfolding pre-op-attr
@@ -96,6 +113,9 @@ pub wcc-data-length : (m : «wcc_data»)
     → length (wcc-data .kind .write m) ≡ length (pre-op-attr .kind .write (m .before)) + length (post-op-attr .kind .write (m .after))
 wcc-data-length m = ap length (sym (wcc-data-bytes m)) ∙ length-append (pre-op-attr .kind .write (m .before)) (post-op-attr .kind .write (m .after))
 
+pub wcc-data-size : (n k : ℕ) (m : «wcc_data») → n ≡ length (pre-op-attr .kind .write (m .before)) → k ≡ length (post-op-attr .kind .write (m .after)) → n + k ≡ length (wcc-data .kind .write m)
+wcc-data-size n k m e f = omega (arith, wcc-data-length m)
+
 pub wcc-data-between : (m : «wcc_data») → Between 8 116 (length (wcc-data .kind .write m))
 wcc-data-between m =
     let a = pre-op-attr-between (m .before) in
@@ -104,7 +124,30 @@ wcc-data-between m =
 
 pub fsinfo-length : (m : fsinfo3) → length (fsinfo .kind .write m) ≡ length (post-op-attr .kind .write (m .«obj_attributes»)) + 48
 fsinfo-length m =
-    ap length (sym (fsinfo-bytes m)) ∙ length-append (post-op-attr .kind .write (m .«obj_attributes»)) _ ∙ ap (λ k. length (post-op-attr .kind .write (m .«obj_attributes»)) + k) (bounds-length _ _ _)
+    ap length (sym (fsinfo-bytes m)) ∙ length-append (post-op-attr .kind .write (m .«obj_attributes»)) _ ∙ ap (λ k. length (post-op-attr .kind .write (m .«obj_attributes»)) + k) (sym (bounds-size _ _ _))
+
+pub fsinfo-size : (n : ℕ) (m : fsinfo3) → n ≡ length (post-op-attr .kind .write (m .«obj_attributes»)) → n + 48 ≡ length (fsinfo .kind .write m)
+fsinfo-size n m e = omega (arith, fsinfo-length m)
+
+-- each is far below the limit
+pub pre-op-attr-small : (v : «pre_op_attr») → length (pre-op-attr .kind .write v) ≤ most
+pre-op-attr-small v = omega (arith, pre-op-attr-between v)
+
+pub post-op-attr-small : (v : «post_op_attr») → length (post-op-attr .kind .write v) ≤ most
+post-op-attr-small v = omega (arith, post-op-attr-between v)
+
+pub wcc-data-small : (v : «wcc_data») → length (wcc-data .kind .write v) ≤ most
+wcc-data-small v = omega (arith, wcc-data-between v)
+
+pub fsinfo-small : (v : fsinfo3) → length (fsinfo .kind .write v) ≤ most
+fsinfo-small v = omega (arith, fsinfo-length v, post-op-attr-between (v .«obj_attributes»))
+
+-- and sums of sizes do not wrap
+pub wcc-data-fits : (n k : ℕ) (v : «pre_op_attr») (w : «post_op_attr») → n ≡ length (pre-op-attr .kind .write v) → k ≡ length (post-op-attr .kind .write w) → Fits w64 (n + k)
+wcc-data-fits n k v w e f = omega (arith, pre-op-attr-small v, post-op-attr-small w)
+
+pub fsinfo-fits : (n : ℕ) (w : «post_op_attr») → n ≡ length (post-op-attr .kind .write w) → Fits w64 (n + 48)
+fsinfo-fits n w e = omega (arith, post-op-attr-small w)
 
 -- fsinfo3 is 52 bytes without attributes, and 136 with them
 pub fsinfo-void : (m : fsinfo3) → m .«obj_attributes» ≡ post.Void → length (fsinfo .kind .write m) ≡ 52

@@ -16,8 +16,10 @@ use Rattle.xdr.specs.Meaning.Combinators.{among}
 use Rattle.xdr.specs.Meaning.Held.{mapSeen}
 use Rattle.nfsattr.specs.Meaning.Stat.{failNumber, failures, statNumber, statuses}
 use Rattle.nfsattr.specs.Meaning.Cases.{Cases, maybe}
-use Rattle.nfsattr.specs.declared.stat.nfsfail3.{nfsfail3}
-use Rattle.nfsattr.specs.declared.stat.nfsstat3.the-variants.{«NFS3_OK», Failed}
+use Rattle.nfsattr.specs.Meaning.Views.{foundFail}
+use Rattle.nfsattr.specs.declared.stat.FailFound.{FailFound}
+use Rattle.nfsattr.specs.declared.stat.nfsstat3.{nfsstat3}
+use Rattle.nfsattr.specs.declared.stat.nfsstat3.the-variants.{Failed}
 use Rattle.xdr.specs.declared.refusal.Refusal.{Refusal}
 
 -- a list of values under another name
@@ -31,11 +33,10 @@ among-map f number [] v = refl
 among-map f number (a ∷ l) v = map-first f a (eqb v (number (f a))) (among (λ a. number (f a)) l v) (among-map f number l v)
 
 -- a status, by its failure
-pub stat-ok : {v : ℕ} → v ≡ 0 → means «NFS3_OK» [] ≡ among statNumber statuses v
-stat-ok e = rw e
-
-pub stat-failed : {v : ℕ} {x : Seen nfsfail3} → (v ≡ 0 → ⊥) → among failNumber failures v ≡ x → mapSeen Failed x ≡ among statNumber statuses v
-stat-failed {v} {x} h e = sym (rw (ne-eqb v 0 h) (among-map Failed statNumber failures v ∙ ap (mapSeen Failed) e))
+pub stat-failed : (v : ℕ) (r t : FailFound) (y : Seen nfsstat3) → (v ≡ 0 → ⊥) → foundFail r ≡ among failNumber failures v → r ≡ t → y ≡ mapSeen Failed (foundFail t)
+    → y ≡ among statNumber statuses v
+stat-failed v r t y h e f g =
+    g ∙ sym (rw (ne-eqb v 0 h) (among-map Failed statNumber failures v ∙ ap (mapSeen Failed) (sym e ∙ ap foundFail f)))
 
 -- a flag that was tested
 module _ (s : List ℕ) (p : ℕ) where

@@ -1,6 +1,6 @@
 -- Items that stand together, as their writers lay them.
 -- Assumes nothing.
-use mathlib.Core.Path.{_≡_, refl}
+use mathlib.Core.Path.{_≡_, refl, sym}
 use mathlib.Core.Bool.{true}
 use mathlib.Core.List.{_++_}
 use Prim.Native.Nat.{ℕ}
@@ -13,20 +13,20 @@ use Rattle.nfsattr.specs.declared.attr.nfstime3.{nfstime3}
 use Rattle.nfsattr.specs.declared.inner.attr.Transfer.{Transfer}
 use Rattle.nfsattr.specs.declared.inner.attr.Limits.{Limits}
 
-pub three-length : (a b c : ℕ) → length (word .kind .write a ++ word-pair .kind .write (b, c)) ≡ 12
-three-length a b c = pair-fixed word-fixed word-pair-fixed .writes (a, (b, c))
+pub three-size : (a b c : ℕ) → 12 ≡ length (word .kind .write a ++ word-pair .kind .write (b, c))
+three-size a b c = sym (pair-fixed word-fixed word-pair-fixed .writes (a, (b, c)))
 
-pub word-hyper-length : (a b : ℕ) → length (word .kind .write a ++ hyper .kind .write b) ≡ 12
-word-hyper-length a b = pair-fixed word-fixed hyper-fixed .writes (a, b)
+pub word-hyper-size : (a b : ℕ) → 12 ≡ length (word .kind .write a ++ hyper .kind .write b)
+word-hyper-size a b = sym (pair-fixed word-fixed hyper-fixed .writes (a, b))
 
-pub two-times-length : (a b : nfstime3) → length (nfstime .kind .write a ++ nfstime .kind .write b) ≡ 16
-two-times-length a b = pair-fixed nfstime-fixed nfstime-fixed .writes (a, b)
+pub two-times-size : (a b : nfstime3) → 16 ≡ length (nfstime .kind .write a ++ nfstime .kind .write b)
+two-times-size a b = sym (pair-fixed nfstime-fixed nfstime-fixed .writes (a, b))
 
-pub transfers-length : (a b : Transfer) → length (transfer .kind .write a ++ transfer .kind .write b) ≡ 24
-transfers-length a b = pair-fixed transfer-fixed transfer-fixed .writes (a, b)
+pub transfers-size : (a b : Transfer) → 24 ≡ length (transfer .kind .write a ++ transfer .kind .write b)
+transfers-size a b = sym (pair-fixed transfer-fixed transfer-fixed .writes (a, b))
 
-pub bounds-length : (a b : Transfer) (m : Limits) → length ((transfer .kind .write a ++ transfer .kind .write b) ++ limits .kind .write m) ≡ 48
-bounds-length a b m = pair-fixed (pair-fixed transfer-fixed transfer-fixed) limits-fixed .writes ((a, b), m)
+pub bounds-size : (a b : Transfer) (m : Limits) → 48 ≡ length ((transfer .kind .write a ++ transfer .kind .write b) ++ limits .kind .write m)
+bounds-size a b m = sym (pair-fixed (pair-fixed transfer-fixed transfer-fixed) limits-fixed .writes ((a, b), m))
 
 -- a true flag is the word 1
 pub flag-word : (x : ℕ) → word-pair .kind .write (1, x) ≡ flag .kind .write true ++ word .kind .write x

@@ -50,3 +50,21 @@ module _ {M T : Type 0} (C : Codec M) (U : Cases M T) where
 
     pub maybe-between : (v : T) → Between 4 (4 + k) (length (maybe C U .kind .write v))
     maybe-between v = rw (maybe-length (U .from v) (sym (U .to-from v))) (between (U .from v))
+
+-- a kind that is an optional value: what its writer and its size come to, by the case that was told
+pub record Optional {M T : Type 0} (C : Codec M) (U : Cases M T) (D : Codec T) : Type 1 where
+  pub is : D ≡ maybe C U
+
+module _ {M T : Type 0} {C : Codec M} {U : Cases M T} {D : Codec T} (O : Optional C U D) (v : T) where
+  pub none-bytes : v ≡ U .to none → flag .kind .write false ≡ D .kind .write v
+  none-bytes e = rw (O .is) (maybe-bytes C U none e)
+
+  pub some-bytes : (x : M) → v ≡ U .to (some x) → flag .kind .write true ++ C .kind .write x ≡ D .kind .write v
+  some-bytes x e = rw (O .is) (maybe-bytes C U (some x) e)
+
+  pub none-size : v ≡ U .to none → 4 ≡ length (D .kind .write v)
+  none-size e = sym (flag-length false) ∙ ap length (none-bytes e)
+
+module _ {M T : Type 0} {k : ℕ} {C : Codec M} {U : Cases M T} {D : Codec T} (O : Optional C U D) (F : Fixed k C) (v : T) where
+  pub some-size : (x : M) → v ≡ U .to (some x) → 4 + k ≡ length (D .kind .write v)
+  some-size x e = rw (O .is) (sym (maybe-length C U F (some x) e))

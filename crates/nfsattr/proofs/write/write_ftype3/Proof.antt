@@ -3,11 +3,5 @@ use Rattle.nfsattr.specs.Laws.Closed.{ftype-writes}
 use Rattle.nfsattr.proofs.write.write_ftype3.Statement.{statement}
 use Rattle.nfsattr.proofs.write.write_ftype3.Tie as tie
 
-returns : tie.Need-returns
-returns c = ftype-writes _ _ _ (c .before .before .before .before .number .ensures) (c .before .before .write-u32 .ensures)
-
 pub write-ftype3-spec : {M : Type 1} → statement M
-write-ftype3-spec =
-    tie.close
-    (tie.spec
-    (search needs) (search needs) (search needs) returns)
+write-ftype3-spec = tie.close (tie.spec (search needs) (search needs) (search needs) (λ c. search ftype-writes))

@@ -1,27 +1,15 @@
 use borrow.Author.Needs.{needs}
-use mathlib.Core.Path.{refl}
-use Rattle.xdr.specs.Laws.Answers.{on, off}
-use Rattle.xdr.specs.Meaning.Views.{lostPiece, viewPiece}
-use Rattle.nfs.specs.Meaning.Views.{lostSattr3, viewSattr3}
+use Rattle.xdr.specs.Laws.Plans.{planned}
 use Rattle.nfs.specs.Meaning.Dir.{symlinkdata}
+use Rattle.nfs.specs.Laws.Plans.{symlinkdata-plan, file-asks}
 use Rattle.nfs.proofs.inner.dir.symlinkdata3_at.Statement.{statement}
 use Rattle.nfs.proofs.inner.dir.symlinkdata3_at.Tie as tie
 
-returns : tie.Need-returns
-unfolding symlinkdata
-returns c = rw (off viewSattr3 lostSattr3 (c .before .before .before .sattr3-at .ensures) (c .before .enum-told .given .1) (c .refusal .ensures) refl)
-
-returns-2 : tie.Need-returns-2
-unfolding symlinkdata
-returns-2 c = rw (on viewSattr3 (c .before .before .before .before .before .before .before .sattr3-at .ensures) (c .before .before .before .before .before .r1 .given .1), off viewPiece lostPiece (c .before .before .before .opaque-at .ensures) (c .before .enum-told2 .given .1) (c .refusal2 .ensures) refl)
-
-returns-3 : tie.Need-returns-3
-unfolding symlinkdata
-returns-3 c = rw (on viewSattr3 (c .before .before .before .before .before .before .before .sattr3-at .ensures) (c .before .before .before .before .before .r1 .given .1), on viewPiece (c .before .before .before .opaque-at .ensures) (c .before .r2 .given .1))
-
 pub symlinkdata3-at-spec : {M : Type 1} → statement M
+unfolding symlinkdata
 symlinkdata3-at-spec =
     tie.close
     (tie.spec
-    (search needs) (search needs) (search needs) (search needs) returns (search needs) (search needs) (search needs) (search needs)
-    returns-2 returns-3)
+    (search needs) (search needs) (search needs) (search needs) (λ c. search (planned symlinkdata-plan, file-asks) depth 20) (search needs)
+    (search needs) (search needs) (search needs) (λ c. search (planned symlinkdata-plan, file-asks) depth 20)
+    (λ c. search (planned symlinkdata-plan, file-asks) depth 20))

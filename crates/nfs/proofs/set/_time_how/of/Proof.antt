@@ -1,21 +1,11 @@
-use borrow.Author.Tests.{ne-eqb}
+use Rattle.xdr.specs.Laws.Numbers.{found-at, found-none}
+use Rattle.nfs.specs.Meaning.Set.{howNumber, hows}
 use Rattle.nfs.proofs.set._time_how.of.Statement.{statement}
 use Rattle.nfs.proofs.set._time_how.of.Tie as tie
-
-returns : tie.Need-returns
-returns c = rw (c .match .keys1)
-
-returns-2 : tie.Need-returns-2
-returns-2 c = rw (c .match .keys2)
-
-returns-3 : tie.Need-returns-3
-returns-3 c = rw (c .match .keys3)
-
-returns-4 : tie.Need-returns-4
-returns-4 c = rw (ne-eqb _ _ (c .match .rest .0 .0 .1), ne-eqb _ _ (c .match .rest .0 .1), ne-eqb _ _ (c .match .rest .1))
 
 pub of-spec : {M : Type 1} → statement M
 of-spec =
     tie.close
     (tie.spec
-    returns returns-2 returns-3 returns-4)
+    (λ c. search (found-at howNumber hows)) (λ c. search (found-at howNumber hows)) (λ c. search (found-at howNumber hows))
+    (λ c. found-none howNumber hows _ _ (c .match .rest)))

@@ -1,33 +1,12 @@
-use borrow.Author.Tests.{ne-eqb}
+use Rattle.nfsattr.specs.Meaning.Attr.{ftypeNumber, ftypes}
+use Rattle.xdr.specs.Laws.Numbers.{found-at, found-none}
 use Rattle.nfsattr.proofs.attr.ftype3.of.Statement.{statement}
 use Rattle.nfsattr.proofs.attr.ftype3.of.Tie as tie
-
-returns : tie.Need-returns
-returns c = rw (c .match .keys1)
-
-returns-2 : tie.Need-returns-2
-returns-2 c = rw (c .match .keys2)
-
-returns-3 : tie.Need-returns-3
-returns-3 c = rw (c .match .keys3)
-
-returns-4 : tie.Need-returns-4
-returns-4 c = rw (c .match .keys4)
-
-returns-5 : tie.Need-returns-5
-returns-5 c = rw (c .match .keys5)
-
-returns-6 : tie.Need-returns-6
-returns-6 c = rw (c .match .keys6)
-
-returns-7 : tie.Need-returns-7
-returns-7 c = rw (c .match .keys7)
-
-returns-8 : tie.Need-returns-8
-returns-8 c = rw (ne-eqb _ _ (c .match .rest .0 .0 .0 .0 .0 .0 .1), ne-eqb _ _ (c .match .rest .0 .0 .0 .0 .0 .1), ne-eqb _ _ (c .match .rest .0 .0 .0 .0 .1), ne-eqb _ _ (c .match .rest .0 .0 .0 .1), ne-eqb _ _ (c .match .rest .0 .0 .1), ne-eqb _ _ (c .match .rest .0 .1), ne-eqb _ _ (c .match .rest .1))
 
 pub of-spec : {M : Type 1} → statement M
 of-spec =
     tie.close
     (tie.spec
-    returns returns-2 returns-3 returns-4 returns-5 returns-6 returns-7 returns-8)
+    (λ c. search (found-at ftypeNumber ftypes)) (λ c. search (found-at ftypeNumber ftypes)) (λ c. search (found-at ftypeNumber ftypes))
+    (λ c. search (found-at ftypeNumber ftypes)) (λ c. search (found-at ftypeNumber ftypes)) (λ c. search (found-at ftypeNumber ftypes))
+    (λ c. search (found-at ftypeNumber ftypes)) (λ c. found-none ftypeNumber ftypes _ _ (c .match .rest)))

@@ -1,21 +1,14 @@
 use borrow.Author.Needs.{needs}
-use mathlib.Core.Path.{refl}
-use Rattle.xdr.specs.Laws.Answers.{on, off}
-use Rattle.xdr.specs.Meaning.Views.{lostU32Pair, viewU32Pair}
 use Rattle.nfsattr.specs.Meaning.Attr.{nfstime}
+use Rattle.xdr.specs.Laws.Records.{by-plan}
+use Rattle.nfsattr.specs.Laws.Plans.{nfstime-plan, attr-asks}
 use Rattle.nfsattr.proofs.inner.attr.nfstime3_at.Statement.{statement}
 use Rattle.nfsattr.proofs.inner.attr.nfstime3_at.Tie as tie
 
-returns : tie.Need-returns
-unfolding nfstime
-returns c = rw (off viewU32Pair lostU32Pair (c .before .before .before .u32-pair-at .ensures) (c .before .enum-told .given .1) (c .refusal .ensures) refl)
-
-returns-2 : tie.Need-returns-2
-unfolding nfstime
-returns-2 c = rw (on viewU32Pair (c .before .before .before .u32-pair-at .ensures) (c .before .r1 .given .1))
-
 pub nfstime3-at-spec : {M : Type 1} → statement M
+unfolding nfstime
 nfstime3-at-spec =
     tie.close
     (tie.spec
-    (search needs) (search needs) (search needs) (search needs) returns returns-2)
+    (search needs) (search needs) (search needs) (search needs) (λ c. search (by-plan nfstime-plan, attr-asks) depth 20)
+    (λ c. search (by-plan nfstime-plan, attr-asks) depth 20))

@@ -1,20 +1,13 @@
 use borrow.Author.Needs.{needs}
-use native.Mathlib.Omega.{arith}
-use Rattle.xdr.specs.Laws.Write.{laid-short}
-use Rattle.nfsattr.specs.Laws.Lent.{laid-two}
-use Rattle.xdr.specs.Laws.Fixed.{word-fixed, word-pair-fixed}
-use Rattle.nfsattr.specs.Laws.Words.{three-length}
+use Rattle.xdr.specs.Laws.Fixed.{word-fixed}
+use Rattle.nfsattr.specs.Laws.Words.{three-size}
+use Rattle.xdr.specs.Laws.Lays.{lays, size-is}
 use Rattle.nfsattr.proofs.put.words.put_u32_three.Statement.{statement}
 use Rattle.nfsattr.proofs.put.words.put_u32_three.Tie as tie
-
-returns : tie.Need-returns
-returns c = laid-short _ _ (omega (arith, three-length (c .before .before .args .first) (c .before .before .args .second) (c .before .before .args .third)))
-
-returns-2 : tie.Need-returns-2
-returns-2 c = laid-two _ _ _ {i = 4} {j = 8} (c .before .before .before .before .before .before .before .before .if1 .left) (word-fixed .writes _) (word-pair-fixed .writes _) (c .before .before .before .before .before .before .put-u32 .ensures) (c .before .before .put-u32-pair .ensures)
 
 pub put-u32-three-spec : {M : Type 1} → statement M
 put-u32-three-spec =
     tie.close
     (tie.spec
-    returns (search needs) (search needs) (search needs) (search needs) (search needs) (search needs) (search needs) (search needs) (search needs) returns-2)
+    (λ c. search (lays, three-size)) (search needs) (search needs) (search needs) (search needs) (search needs) (search needs) (search needs)
+    (search needs) (search needs) (λ c. search (lays, three-size, size-is word-fixed)))

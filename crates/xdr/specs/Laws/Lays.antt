@@ -1,0 +1,82 @@
+-- What a writer of bytes leaves, in the shape of its goals, so that `search` closes each: the facts are those of its tests and of its calls.
+-- Assumes nothing.
+use mathlib.Core.Path.{_≡_, refl, sym, ap, subst, _∙_}
+use mathlib.Core.Bool.{Bool}
+use mathlib.Core.List.{List, [], _++_}
+use Prim.Native.Nat.{ℕ, _+_, _-_, _≤_, _<_}
+use native.Mathlib.Omega.{arith}
+use lib.ListN.{length, length-append}
+use borrow.Author.Needs.{needs}
+use borrow.Rule.Slice.PartMut.{midOf, putMid}
+use Rattle.xdr.specs.Meaning.Answer.{most}
+use Rattle.xdr.specs.Meaning.Kind.{Codec}
+use Rattle.xdr.specs.Meaning.Format.{exactly}
+use Rattle.xdr.specs.Meaning.Order.{roomed}
+use Rattle.xdr.specs.Meaning.Public.{Writes, laid}
+use Rattle.xdr.specs.Meaning.Views.{viewWrote}
+use Rattle.xdr.specs.Meaning.Items.{flag}
+use Rattle.xdr.specs.Laws.Padding.{flag-length}
+use Rattle.xdr.specs.Laws.Fixed.{Fixed}
+use Rattle.xdr.specs.Laws.Write.{laid-short, laid-is, laid-same, lent, lent-first}
+use Rattle.xdr.specs.Laws.Writers.{room-place, plain-off, plain-on}
+use Rattle.xdr.specs.declared.answer.Wrote.{Wrote}
+use Rattle.xdr.specs.declared.answer.Wrote.the-variants as wrote
+use Rattle.xdr.specs.declared.refusal.Refusal.{Refusal}
+
+-- what a writer leaves that was lent the tail of ys from n on, and left zs there
+abbrev pub after : ℕ → List ℕ → List ℕ → List ℕ
+after n ys zs = putMid n (length ys - n) ys zs
+
+abbrev pub tailOf : ℕ → List ℕ → List ℕ
+tailOf n ys = midOf n (length ys - n) ys
+
+-- there is no room for the n bytes
+pub lay-short : (n : ℕ) (bs o : List ℕ) → length o < n → n ≡ length bs → o ≡ laid bs o
+lay-short n bs o h e = laid-short bs o (omega arith)
+
+-- one call, which lays the same bytes
+pub lay-one : (a bs o z : List ℕ) → z ≡ laid a o → a ≡ bs → z ≡ laid bs o
+lay-one a bs o z f e = laid-same a bs o e f
+
+-- two and three calls, each lent the tail from its place on
+module _ (n i : ℕ) (bs o a b y z : List ℕ) where
+  pub lay-two : y ≡ laid a (tailOf 0 o) → z ≡ laid b (tailOf i (after 0 o y)) → a ++ b ≡ bs → i ≡ length a → n ≤ length o → n ≡ length bs
+      → after i (after 0 o y) z ≡ laid bs o
+  lay-two e f g k h l =
+      let s : length a + length b ≡ length bs = sym (length-append a b) ∙ ap length g in
+      laid-same (a ++ b) bs o g (laid-is {n = i + length b} (omega arith) (lent b (lent-first a (omega arith) (sym k) e) (omega arith) refl f))
+
+  module _ (j : ℕ) (c w : List ℕ) where
+    pub lay-three : y ≡ laid a (tailOf 0 o) → z ≡ laid b (tailOf i (after 0 o y)) → w ≡ laid c (tailOf j (after i (after 0 o y) z)) → (a ++ b) ++ c ≡ bs
+        → i ≡ length a → j ≡ i + length b → n ≤ length o → n ≡ length bs → after j (after i (after 0 o y) z) w ≡ laid bs o
+    lay-three e f d g k m h l =
+        let s : length a + length b + length c ≡ length bs = sym (length-append (a ++ b) c ∙ ap (λ x. x + length c) (length-append a b)) ∙ ap length g in
+        subst (λ j. w ≡ laid c (tailOf j (after i (after 0 o y) z)) → after j (after i (after 0 o y) z) w ≡ laid bs o) (sym m)
+        (λ d.
+        laid-same ((a ++ b) ++ c) bs o g
+        (laid-is {n = i + length b + length c} (omega arith) (lent c (lent b (lent-first a (omega arith) (sym k) e) (omega arith) refl f) (omega arith) refl d)))
+        d
+
+-- there is room from a place on
+pub ruleset rooms = (needs, room-place)
+
+pub flag-size : (v : Bool) → 4 ≡ length (flag .kind .write v)
+flag-size v = sym (flag-length v)
+
+pub ruleset lays = (needs, lay-short, lay-one, lay-two, lay-three, flag-size)
+
+-- a kind of a fixed size
+module _ {M : Type 0} {k : ℕ} {C : Codec M} (F : Fixed k C) where
+  pub size-is : (m : M) → k ≡ length (C .kind .write m)
+  size-is m = sym (F .writes m)
+
+  pub size-behind : (i j : ℕ) (m : M) → j ≡ i + k → j ≡ i + length (C .kind .write m)
+  size-behind i j m e = e ∙ ap (λ n. i + n) (size-is m)
+
+  module _ (x : M) (at : ℕ) (o : List ℕ) (w : Wrote) where
+    pub fixed-off : (q : Refusal) → viewWrote w ≡ roomed (length o) at k → w ≡ wrote.Refused q → k ≤ most → Writes (exactly C) [] x at o (viewWrote w) o
+    fixed-off q e f s = plain-off C (λ x. omega (arith, F .writes x)) x at o w k q (size-is x) e f
+
+    pub fixed-on : (n : ℕ) (zs : List ℕ) → viewWrote w ≡ roomed (length o) at k → w ≡ wrote.Done n → k ≤ most → C .kind .Good x → zs ≡ laid (C .kind .write x) (tailOf at o)
+        → Writes (exactly C) [] x at o (viewWrote w) (after at o zs)
+    fixed-on n zs e f s g z = plain-on C (λ x. omega (arith, F .writes x)) x at o w k n zs (size-is x) e f g z
