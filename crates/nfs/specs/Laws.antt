@@ -7,6 +7,5 @@ pub mod Tags
 pub mod Write
 pub mod Bytes
 pub mod Pieces
-pub mod Promises
 pub mod Lengths
 pub mod One

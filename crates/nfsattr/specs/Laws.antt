@@ -7,6 +7,5 @@ pub mod Read
 pub mod Plans
 pub mod Write
 pub mod Bytes
-pub mod Promises
 pub mod Lengths
 pub mod One

@@ -1,5 +1,4 @@
 -- What follows: the promise for each kind, how long each is written, the bytes of the replies that are made, and facts that proofs cite.
-pub mod Promises
 pub mod One
 pub mod Makers
 pub mod Lengths
@@ -14,3 +13,4 @@ pub mod Unions
 pub mod Plans
 pub mod Putting
 pub mod UnixKept
+pub mod Stray

@@ -1,5 +1,6 @@
--- Two laws of each kind of the table: two answers that its public reader's contract permits are one, in the code's own types; and a
--- rewriting is never longer than the larger of 40 bytes and the bytes read.
+-- Laws of each kind of the table: demands 2 and 3, of readings, of a public reader's answers and of what a public writer wrote; that two
+-- answers which a public reader's contract permits are one, in the code's own types; and that a rewriting is never longer than the larger of
+-- 40 bytes and the bytes read.
 -- Assumes nothing.
 use mathlib.Core.Path.{_≡_}
 use mathlib.Core.List.{List, [], _∷_}
@@ -11,6 +12,7 @@ use Rattle.xdr.specs.Meaning.Format.{Format, Branch}
 use Rattle.xdr.specs.Meaning.Public.{Answers, Took, rewritten}
 use Rattle.xdr.specs.Laws.Lengths.{Within, weaken, answer-no-longer}
 use Rattle.xdr.specs.Laws.One.{Told, one-read}
+use Rattle.xdr.specs.Laws.Owed.{Owed, owed}
 use Rattle.door.specs.Meaning.Kinds.{kinds}
 use Rattle.xdr.specs.Meaning.Views.{viewBool, viewI32, viewI64, viewU32, viewU64, viewPiece}
 use Rattle.rpc.specs.Meaning.Views.{viewMsgType, viewReplyStat, viewAcceptStat, viewRejectStat, viewAuthStat, viewAuthFlavor, viewAuthUnix, viewOpaqueAuth, viewRpcMsg, viewRpcBody, viewCallBody, viewReplyBody, viewAcceptedReply, viewAcceptBody, viewRejectedReply, viewMismatchInfo}
@@ -24,6 +26,18 @@ use Rattle.xdr.specs.Laws.Lengths.{flag-within, int-within, long-within, word-w
 use Rattle.rpc.specs.Laws.Lengths.{msg-type-within, reply-stat-within, accept-stat-within, reject-stat-within, auth-stat-within, auth-flavor-within, auth-unix-within, opaque-auth-within, rpc-msg-within, rpc-body-within, call-body-within, reply-body-within, accepted-reply-within, accept-body-within, rejected-reply-within, mismatch-info-within}
 use Rattle.nfsattr.specs.Laws.Lengths.{nfsstat-within, ftype-within, specdata-within, nfstime-within, fattr-within, fsinfo-within, wcc-attr-within, pre-op-attr-within, post-op-attr-within, wcc-data-within}
 use Rattle.nfs.specs.Laws.Lengths.{time-how-within, nfs-fh-within, post-op-fh-within, set-mode-within, set-uid-within, set-gid-within, set-size-within, set-atime-within, set-mtime-within, sattr-within, diropargs-within, symlinkdata-within}
+
+-- demands 2 and 3, for any format, and so for these
+abbrev pub EachOwed : List Branch → Type 0
+EachOwed [] = Unit {0}
+EachOwed (b ∷ l) = Owed (b .format) × EachOwed l
+
+each-owed : (l : List Branch) → EachOwed l
+each-owed [] = tt
+each-owed (b ∷ l) = (owed (b .format), each-owed l)
+
+pub every-owed : EachOwed kinds
+every-owed = each-owed kinds
 
 -- a type of answers, and what each says
 pub record Reader {M S : Type 0} (F : Format M S) : Type 1 where
@@ -39,55 +53,148 @@ Readers [] = Unit {1}
 Readers (b ∷ l) = Reader (b .format) × Readers l
 
 abbrev pub readers : Readers kinds
-readers =
-    (by viewBool bool-told,
-    (by viewI32 i32-told,
-    (by viewI64 i64-told,
-    (by viewU32 u32-told,
-    (by viewU64 u64-told,
-    (by viewU64 u64-told,
-    (by viewPiece piece-told,
-    (by viewPiece piece-told,
-    (by viewPiece piece-told,
-    (by viewMsgType msg-type-told,
-    (by viewReplyStat reply-stat-told,
-    (by viewAcceptStat accept-stat-told,
-    (by viewRejectStat reject-stat-told,
-    (by viewAuthStat auth-stat-told,
-    (by viewAuthFlavor auth-flavor-told,
-    (by viewTimeHow time-how-told,
-    (by viewNfsstat3 nfsstat3-told,
-    (by viewFtype3 ftype3-told,
-    (by viewAuthUnix auth-unix-told,
-    (by viewOpaqueAuth opaque-auth-told,
-    (by viewRpcMsg rpc-msg-told,
-    (by viewRpcBody rpc-body-told,
-    (by viewCallBody call-body-told,
-    (by viewReplyBody reply-body-told,
-    (by viewAcceptedReply accepted-reply-told,
-    (by viewAcceptBody accept-body-told,
-    (by viewRejectedReply rejected-reply-told,
-    (by viewMismatchInfo mismatch-info-told,
-    (by viewSpecdata3 specdata3-told,
-    (by viewNfsFh3 nfs-fh3-told,
-    (by viewNfstime3 nfstime3-told,
-    (by viewFattr3 fattr3-told,
-    (by viewFsinfo3 fsinfo3-told,
-    (by viewWccAttr wcc-attr-told,
-    (by viewPreOpAttr pre-op-attr-told,
-    (by viewPostOpAttr post-op-attr-told,
-    (by viewWccData wcc-data-told,
-    (by viewPostOpFh3 post-op-fh3-told,
-    (by viewSetMode3 set-mode3-told,
-    (by viewSetUid3 set-uid3-told,
-    (by viewSetGid3 set-gid3-told,
-    (by viewSetSize3 set-size3-told,
-    (by viewSetAtime set-atime-told,
-    (by viewSetMtime set-mtime-told,
-    (by viewSattr3 sattr3-told,
-    (by viewDiropargs3 diropargs3-told,
-    (by viewSymlinkdata3 symlinkdata3-told,
-    tt)))))))))))))))))))))))))))))))))))))))))))))))
+readers = (
+  by viewBool bool-told,
+  (
+    by viewI32 i32-told,
+    (
+      by viewI64 i64-told,
+      (
+        by viewU32 u32-told,
+        (
+          by viewU64 u64-told,
+          (
+            by viewU64 u64-told,
+            (
+              by viewPiece piece-told,
+              (
+                by viewPiece piece-told,
+                (
+                  by viewPiece piece-told,
+                  (
+                    by viewMsgType msg-type-told,
+                    (
+                      by viewReplyStat reply-stat-told,
+                      (
+                        by viewAcceptStat accept-stat-told,
+                        (
+                          by viewRejectStat reject-stat-told,
+                          (
+                            by viewAuthStat auth-stat-told,
+                            (
+                              by viewAuthFlavor auth-flavor-told,
+                              (
+                                by viewTimeHow time-how-told,
+                                (
+                                  by viewNfsstat3 nfsstat3-told,
+                                  (
+                                    by viewFtype3 ftype3-told,
+                                    (
+                                      by viewAuthUnix auth-unix-told,
+                                      (
+                                        by viewOpaqueAuth opaque-auth-told,
+                                        (
+                                          by viewRpcMsg rpc-msg-told,
+                                          (
+                                            by viewRpcBody rpc-body-told,
+                                            (
+                                              by viewCallBody call-body-told,
+                                              (
+                                                by viewReplyBody reply-body-told,
+                                                (
+                                                  by viewAcceptedReply accepted-reply-told,
+                                                  (
+                                                    by viewAcceptBody accept-body-told,
+                                                    (
+                                                      by viewRejectedReply rejected-reply-told,
+                                                      (
+                                                        by viewMismatchInfo mismatch-info-told,
+                                                        (
+                                                          by viewSpecdata3 specdata3-told,
+                                                          (
+                                                            by viewNfsFh3 nfs-fh3-told,
+                                                            (
+                                                              by viewNfstime3 nfstime3-told,
+                                                              (
+                                                                by viewFattr3 fattr3-told,
+                                                                (
+                                                                  by viewFsinfo3 fsinfo3-told,
+                                                                  (
+                                                                    by viewWccAttr wcc-attr-told,
+                                                                    (
+                                                                      by viewPreOpAttr pre-op-attr-told,
+                                                                      (
+                                                                        by viewPostOpAttr post-op-attr-told,
+                                                                        (
+                                                                          by viewWccData wcc-data-told,
+                                                                          (
+                                                                            by viewPostOpFh3 post-op-fh3-told,
+                                                                            (
+                                                                              by viewSetMode3 set-mode3-told,
+                                                                              (
+                                                                                by viewSetUid3 set-uid3-told,
+                                                                                (
+                                                                                  by viewSetGid3 set-gid3-told,
+                                                                                  (
+                                                                                    by viewSetSize3 set-size3-told,
+                                                                                    (
+                                                                                      by viewSetAtime set-atime-told,
+                                                                                      (
+                                                                                        by viewSetMtime set-mtime-told,
+                                                                                        (
+                                                                                          by viewSattr3 sattr3-told,
+                                                                                          (
+                                                                                            by viewDiropargs3 diropargs3-told,
+                                                                                            (
+                                                                                              by viewSymlinkdata3 symlinkdata3-told,
+                                                                                              tt,
+                                                                                            ),
+                                                                                          ),
+                                                                                        ),
+                                                                                      ),
+                                                                                    ),
+                                                                                  ),
+                                                                                ),
+                                                                              ),
+                                                                            ),
+                                                                          ),
+                                                                        ),
+                                                                      ),
+                                                                    ),
+                                                                  ),
+                                                                ),
+                                                              ),
+                                                            ),
+                                                          ),
+                                                        ),
+                                                      ),
+                                                    ),
+                                                  ),
+                                                ),
+                                              ),
+                                            ),
+                                          ),
+                                        ),
+                                      ),
+                                    ),
+                                  ),
+                                ),
+                              ),
+                            ),
+                          ),
+                        ),
+                      ),
+                    ),
+                  ),
+                ),
+              ),
+            ),
+          ),
+        ),
+      ),
+    ),
+  ),
+)
 
 abbrev pub EachOne : (l : List Branch) → Readers l → Type 0
 EachOne [] r = Unit {0}
@@ -108,55 +215,148 @@ EachWithin [] = Unit {0}
 EachWithin (b ∷ l) = Within 40 (b .format .codec .kind) × EachWithin l
 
 every-within : EachWithin kinds
-every-within =
-    (weaken (omega arith) flag-within,
-    (weaken (omega arith) int-within,
-    (weaken (omega arith) long-within,
-    (weaken (omega arith) word-within,
-    (weaken (omega arith) hyper-within,
-    (weaken (omega arith) eight-within,
-    (weaken (omega arith) opaque-within,
-    (weaken (omega arith) opaque-within,
-    (weaken (omega arith) words-within,
-    (weaken (omega arith) msg-type-within,
-    (weaken (omega arith) reply-stat-within,
-    (weaken (omega arith) accept-stat-within,
-    (weaken (omega arith) reject-stat-within,
-    (weaken (omega arith) auth-stat-within,
-    (weaken (omega arith) auth-flavor-within,
-    (weaken (omega arith) time-how-within,
-    (weaken (omega arith) nfsstat-within,
-    (weaken (omega arith) ftype-within,
-    (weaken (omega arith) auth-unix-within,
-    (weaken (omega arith) opaque-auth-within,
-    (rpc-msg-within,
-    (weaken (omega arith) rpc-body-within,
-    (weaken (omega arith) call-body-within,
-    (weaken (omega arith) reply-body-within,
-    (weaken (omega arith) accepted-reply-within,
-    (weaken (omega arith) accept-body-within,
-    (weaken (omega arith) rejected-reply-within,
-    (weaken (omega arith) mismatch-info-within,
-    (weaken (omega arith) specdata-within,
-    (weaken (omega arith) nfs-fh-within,
-    (weaken (omega arith) nfstime-within,
-    (weaken (omega arith) fattr-within,
-    (weaken (omega arith) fsinfo-within,
-    (weaken (omega arith) wcc-attr-within,
-    (weaken (omega arith) pre-op-attr-within,
-    (weaken (omega arith) post-op-attr-within,
-    (weaken (omega arith) wcc-data-within,
-    (weaken (omega arith) post-op-fh-within,
-    (weaken (omega arith) set-mode-within,
-    (weaken (omega arith) set-uid-within,
-    (weaken (omega arith) set-gid-within,
-    (weaken (omega arith) set-size-within,
-    (weaken (omega arith) set-atime-within,
-    (weaken (omega arith) set-mtime-within,
-    (weaken (omega arith) sattr-within,
-    (weaken (omega arith) diropargs-within,
-    (weaken (omega arith) symlinkdata-within,
-    tt)))))))))))))))))))))))))))))))))))))))))))))))
+every-within = (
+  weaken (omega arith) flag-within,
+  (
+    weaken (omega arith) int-within,
+    (
+      weaken (omega arith) long-within,
+      (
+        weaken (omega arith) word-within,
+        (
+          weaken (omega arith) hyper-within,
+          (
+            weaken (omega arith) eight-within,
+            (
+              weaken (omega arith) opaque-within,
+              (
+                weaken (omega arith) opaque-within,
+                (
+                  weaken (omega arith) words-within,
+                  (
+                    weaken (omega arith) msg-type-within,
+                    (
+                      weaken (omega arith) reply-stat-within,
+                      (
+                        weaken (omega arith) accept-stat-within,
+                        (
+                          weaken (omega arith) reject-stat-within,
+                          (
+                            weaken (omega arith) auth-stat-within,
+                            (
+                              weaken (omega arith) auth-flavor-within,
+                              (
+                                weaken (omega arith) time-how-within,
+                                (
+                                  weaken (omega arith) nfsstat-within,
+                                  (
+                                    weaken (omega arith) ftype-within,
+                                    (
+                                      weaken (omega arith) auth-unix-within,
+                                      (
+                                        weaken (omega arith) opaque-auth-within,
+                                        (
+                                          rpc-msg-within,
+                                          (
+                                            weaken (omega arith) rpc-body-within,
+                                            (
+                                              weaken (omega arith) call-body-within,
+                                              (
+                                                weaken (omega arith) reply-body-within,
+                                                (
+                                                  weaken (omega arith) accepted-reply-within,
+                                                  (
+                                                    weaken (omega arith) accept-body-within,
+                                                    (
+                                                      weaken (omega arith) rejected-reply-within,
+                                                      (
+                                                        weaken (omega arith) mismatch-info-within,
+                                                        (
+                                                          weaken (omega arith) specdata-within,
+                                                          (
+                                                            weaken (omega arith) nfs-fh-within,
+                                                            (
+                                                              weaken (omega arith) nfstime-within,
+                                                              (
+                                                                weaken (omega arith) fattr-within,
+                                                                (
+                                                                  weaken (omega arith) fsinfo-within,
+                                                                  (
+                                                                    weaken (omega arith) wcc-attr-within,
+                                                                    (
+                                                                      weaken (omega arith) pre-op-attr-within,
+                                                                      (
+                                                                        weaken (omega arith) post-op-attr-within,
+                                                                        (
+                                                                          weaken (omega arith) wcc-data-within,
+                                                                          (
+                                                                            weaken (omega arith) post-op-fh-within,
+                                                                            (
+                                                                              weaken (omega arith) set-mode-within,
+                                                                              (
+                                                                                weaken (omega arith) set-uid-within,
+                                                                                (
+                                                                                  weaken (omega arith) set-gid-within,
+                                                                                  (
+                                                                                    weaken (omega arith) set-size-within,
+                                                                                    (
+                                                                                      weaken (omega arith) set-atime-within,
+                                                                                      (
+                                                                                        weaken (omega arith) set-mtime-within,
+                                                                                        (
+                                                                                          weaken (omega arith) sattr-within,
+                                                                                          (
+                                                                                            weaken (omega arith) diropargs-within,
+                                                                                            (
+                                                                                              weaken (omega arith) symlinkdata-within,
+                                                                                              tt,
+                                                                                            ),
+                                                                                          ),
+                                                                                        ),
+                                                                                      ),
+                                                                                    ),
+                                                                                  ),
+                                                                                ),
+                                                                              ),
+                                                                            ),
+                                                                          ),
+                                                                        ),
+                                                                      ),
+                                                                    ),
+                                                                  ),
+                                                                ),
+                                                              ),
+                                                            ),
+                                                          ),
+                                                        ),
+                                                      ),
+                                                    ),
+                                                  ),
+                                                ),
+                                              ),
+                                            ),
+                                          ),
+                                        ),
+                                      ),
+                                    ),
+                                  ),
+                                ),
+                              ),
+                            ),
+                          ),
+                        ),
+                      ),
+                    ),
+                  ),
+                ),
+              ),
+            ),
+          ),
+        ),
+      ),
+    ),
+  ),
+)
 
 abbrev pub EachShort : List Branch → Type 0
 EachShort [] = Unit {0}

@@ -31,7 +31,6 @@ pub mod Answers
 pub mod Closed
 pub mod Fixed
 pub mod One
-pub mod Kept
 pub mod Owed
 pub mod Plans
 pub mod Tags
