@@ -1,8 +1,9 @@
 // What SETATTR, CREATE, MKDIR, SYMLINK and MKNOD set (RFC 1813, section 2.6).
 ghost use mathlib.Core.Path.{_≡_};
-ghost use Rattle.nfs.specs.Meaning.Set.{howNumber, hows};
+ghost use Rattle.nfs.specs.Meaning.Set.{howNumber, hows, time-how};
 ghost use Rattle.nfs.specs.Meaning.Views.{foundHow};
 ghost use Rattle.xdr.specs.Meaning.Combinators.{among};
+ghost use Rattle.xdr.specs.Meaning.Sizes.{OfSize};
 use nfsattr::attr::gid3;
 use nfsattr::attr::mode3;
 use nfsattr::attr::nfstime3;
@@ -23,6 +24,13 @@ pub enum HowFound {
 
 impl _time_how {
     pub const SIZE: usize = 4;
+
+    // The contract holds the constant to the bytes that every _time_how has.
+    pub fn size() -> usize
+        ensures { λ r. ⌜ OfSize r time-how ⌝ }
+    {
+        _time_how::SIZE
+    }
 
     pub fn number(self) -> u32
         ensures { λ r. ⌜ r ≡ howNumber self ⌝ }

@@ -4,3 +4,4 @@ pub mod Cases
 pub mod Stat
 pub mod Attr
 pub mod Views
+pub mod Sizes

@@ -8,6 +8,7 @@ pub mod attr;
 pub mod inner;
 pub mod put;
 mod read;
+pub mod sizes;
 pub mod stat;
 mod write;
 
@@ -51,6 +52,8 @@ pub use read::read_pre_op_attr;
 pub use read::read_specdata3;
 pub use read::read_wcc_attr;
 pub use read::read_wcc_data;
+pub use sizes::FixedSizes;
+pub use sizes::fixed_sizes;
 pub use stat::nfsfail3;
 pub use stat::nfsstat3;
 pub use write::write_fattr3;

@@ -1,6 +1,8 @@
 // Replies (RFC 5531, section 9): accepted, perhaps with an error, or denied, with the reason.
 ghost use mathlib.Core.Path.{_≡_};
 ghost use Rattle.rpc.specs.Meaning.Closed.{replyStatNumber, acceptStatNumber, rejectStatNumber};
+ghost use Rattle.rpc.specs.Meaning.Reply.{mismatch-info};
+ghost use Rattle.xdr.specs.Meaning.Sizes.{OfSize};
 use crate::auth::auth_stat;
 use crate::auth::opaque_auth;
 
@@ -32,6 +34,13 @@ pub struct mismatch_info {
 // What is written of a mismatch_info is always this long.
 impl mismatch_info {
     pub const SIZE: usize = 8;
+
+    // The contract holds the constant to the bytes that every mismatch_info has.
+    pub fn size() -> usize
+        ensures { λ r. ⌜ OfSize r mismatch-info ⌝ }
+    {
+        mismatch_info::SIZE
+    }
 }
 
 // The results of a call that succeeded come behind SUCCESS.

@@ -13,6 +13,7 @@ pub mod Held
 pub mod Format
 pub mod Pieces
 pub mod Formats
+pub mod Sizes
 pub mod Order
 pub mod Public
 pub mod Views

@@ -8,6 +8,7 @@ use native.Mathlib.Omega.{arith}
 use lib.ListN.{length, length-append}
 use Rattle.xdr.specs.Meaning.Answer.{Answer, took, refused}
 use Rattle.xdr.specs.Meaning.Kind.{Codec}
+use Rattle.xdr.specs.Meaning.Sizes.{OfSize}
 use Rattle.xdr.specs.Meaning.Combinators.{Seen, means, undeclared, second, first, meant, look}
 use Rattle.xdr.specs.Meaning.Codecs.{_⨾_, seen, exactView}
 use Rattle.xdr.specs.Meaning.Items.{word, hyper, word-pair, hyper-pair}
@@ -81,3 +82,7 @@ module _ {M N : Type 0} {k : ℕ} {C : Codec M} (F : Fixed k C) (see : M → See
 
   pub seen-fixed : Fixed k (seen C see to exact see-to)
   seen-fixed = record { reads = λ s p e. seen-looked s p (C .kind .read s p) refl e; writes = λ m. F .writes (to m) }
+
+-- such a kind is of that size
+pub of-size : {M : Type 0} {k : ℕ} {C : Codec M} → Fixed k C → OfSize k C
+of-size F = record { reads = λ s p e. F .reads s p e .next; writes = F .writes }
