@@ -7,4 +7,5 @@ pub mod Tags
 pub mod Write
 pub mod Bytes
 pub mod Pieces
+pub mod Writers
 pub mod Promises
