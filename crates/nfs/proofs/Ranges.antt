@@ -1,6 +1,5 @@
--- Ranges: every value of a declared type means a message in range. `Is the-row m vs` is what owning a parameter m of the type tells: of a
--- struct `p .1 .1` is the fields' own facts, a tuple in their order; of an enum at a constructor `p .1 .1 .1 .1` is those of its fields. A
--- number's `.1` is its range.
+-- Ranges: every value of a declared type means a message in range. `Is the-row m vs` is what owning a parameter m of the type tells: the
+-- ranges of its numbers are fields of it, which `search` finds.
 -- Assumes nothing.
 use mathlib.Core.List.{List}
 use mathlib.Core.Bool.{true, false}
@@ -13,7 +12,7 @@ use Rattle.xdr.specs.Meaning.Answer.{most}
 use Rattle.xdr.specs.Meaning.Bytes.{Bytes}
 use Rattle.xdr.specs.Meaning.Formats.{pieceHeld}
 use Rattle.xdr.specs.Laws.Pieces.{piece-good}
-use Rattle.xdr.specs.Laws.Ranges.{word-good, hyper-good, flag-good}
+use Rattle.xdr.specs.Laws.Ranges.{word-good, flag-good}
 use Rattle.nfs.specs.Meaning.Set.{set-mode, set-uid, set-gid, set-size, set-time, set-atime, set-mtime, sattr}
 use Rattle.nfs.specs.Meaning.Dir.{nfs-fh, post-op-fh, diropargs, symlinkdata}
 use Rattle.nfs.specs.declared.set.set_mode3.{«set_mode3»}
@@ -34,7 +33,7 @@ use Rattle.nfs.specs.declared.set.set_gid3.the-variants as gid
 use Rattle.nfs.specs.declared.set.set_size3.the-variants as size
 use Rattle.nfs.specs.declared.set.set_atime.the-variants as atime
 use Rattle.nfs.specs.declared.set.set_mtime.the-variants as mtime
-use Rattle.nfsattr.proofs.Ranges.{nfstime-good}
+use Rattle.nfsattr.proofs.Ranges.{goods, nfstime-good}
 use Rattle.nfs.proofs.set.set_mode3 as set-mode3·
 use Rattle.nfs.proofs.set.set_uid3 as set-uid3·
 use Rattle.nfs.proofs.set.set_gid3 as set-gid3·
@@ -46,41 +45,39 @@ use Rattle.nfs.proofs.dir.symlinkdata3 as symlinkdata3·
 
 pub set-mode-good : (m : «set_mode3») {vs : List Val} → Is set-mode3·.the-row m vs → set-mode .kind .Good m
 unfolding set-mode
-set-mode-good mode.Void p = (flag-good false, tt)
-set-mode-good (mode.mode v) p = (flag-good true, word-good _ (p .1 .1 .1 .1 .0 .1))
+set-mode-good mode.Void p = search goods
+set-mode-good (mode.mode v) p = search goods
 
 pub set-uid-good : (m : «set_uid3») {vs : List Val} → Is set-uid3·.the-row m vs → set-uid .kind .Good m
 unfolding set-uid
-set-uid-good uid.Void p = (flag-good false, tt)
-set-uid-good (uid.uid v) p = (flag-good true, word-good _ (p .1 .1 .1 .1 .0 .1))
+set-uid-good uid.Void p = search goods
+set-uid-good (uid.uid v) p = search goods
 
 pub set-gid-good : (m : «set_gid3») {vs : List Val} → Is set-gid3·.the-row m vs → set-gid .kind .Good m
 unfolding set-gid
-set-gid-good gid.Void p = (flag-good false, tt)
-set-gid-good (gid.gid v) p = (flag-good true, word-good _ (p .1 .1 .1 .1 .0 .1))
+set-gid-good gid.Void p = search goods
+set-gid-good (gid.gid v) p = search goods
 
 pub set-size-good : (m : «set_size3») {vs : List Val} → Is set-size3·.the-row m vs → set-size .kind .Good m
 unfolding set-size
-set-size-good size.Void p = (flag-good false, tt)
-set-size-good (size.size v) p = (flag-good true, hyper-good _ (p .1 .1 .1 .1 .0 .1))
+set-size-good size.Void p = search goods
+set-size-good (size.size v) p = search goods
 
 pub set-atime-good : (m : «set_atime») {vs : List Val} → Is set-atime·.the-row m vs → set-atime .kind .Good m
 unfolding set-atime set-time
 set-atime-good atime.«DONT_CHANGE» p = (word-good 0 (omega arith), tt)
 set-atime-good atime.«SET_TO_SERVER_TIME» p = (word-good 1 (omega arith), tt)
-set-atime-good (atime.«SET_TO_CLIENT_TIME» v) p = (word-good 2 (omega arith), nfstime-good v (p .1 .1 .1 .1 .0))
+set-atime-good (atime.«SET_TO_CLIENT_TIME» v) p = (word-good 2 (omega arith), search nfstime-good)
 
 pub set-mtime-good : (m : «set_mtime») {vs : List Val} → Is set-mtime·.the-row m vs → set-mtime .kind .Good m
 unfolding set-mtime set-time
 set-mtime-good mtime.«DONT_CHANGE» p = (word-good 0 (omega arith), tt)
 set-mtime-good mtime.«SET_TO_SERVER_TIME» p = (word-good 1 (omega arith), tt)
-set-mtime-good (mtime.«SET_TO_CLIENT_TIME» v) p = (word-good 2 (omega arith), nfstime-good v (p .1 .1 .1 .1 .0))
+set-mtime-good (mtime.«SET_TO_CLIENT_TIME» v) p = (word-good 2 (omega arith), search nfstime-good)
 
 pub sattr-good : (m : sattr3) {vs : List Val} → Is sattr3·.the-row m vs → sattr .kind .Good m
 unfolding sattr
-sattr-good m p =
-    let f = p .1 .1 in
-    (set-mode-good (m .mode) (f .0), (set-uid-good (m .uid) (f .1 .0), (set-gid-good (m .gid) (f .1 .1 .0), (set-size-good (m .size) (f .1 .1 .1 .0), (set-atime-good (m .atime) (f .1 .1 .1 .1 .0), set-mtime-good (m .mtime) (f .1 .1 .1 .1 .1 .0))))))
+sattr-good m p = search (set-mode-good, set-uid-good, set-gid-good, set-size-good, set-atime-good, set-mtime-good)
 
 -- with pieces of a source of bytes that is not too long
 module _ (s : List ℕ) (h : Bytes s) (k : length s ≤ most) where
@@ -99,4 +96,4 @@ module _ (s : List ℕ) (h : Bytes s) (k : length s ≤ most) where
 
   pub link-good : (m : symlinkdata3) {vs : List Val} → Is symlinkdata3·.the-row m vs → symlinkdata .codec .kind .Good (symlinkdata .held .mean s m)
   unfolding symlinkdata pieceHeld
-  link-good m p = (sattr-good (m .«symlink_attributes») (p .1 .1 .0), piece-good s (m .«symlink_data») h k)
+  link-good m p = (search sattr-good, piece-good s (m .«symlink_data») h k)

@@ -9,3 +9,4 @@ pub mod Bytes
 pub mod Pieces
 pub mod Lengths
 pub mod One
+pub mod Writers

@@ -2,14 +2,15 @@
 -- Assumes nothing.
 use mathlib.Core.Path.{_≡_, refl, sym, ap, _∙_}
 use mathlib.Core.List.{List, _++_, append-assoc}
-use Prim.Native.Nat.{ℕ, _+_}
+use Prim.Native.Nat.{ℕ, _+_, _≤_}
 use native.Mathlib.Omega.{arith}
 use lib.ListN.{length, length-append}
+use Rattle.xdr.specs.Meaning.Answer.{most}
 use Rattle.xdr.specs.Meaning.Items.{word, hyper}
 use Rattle.nfs.specs.Meaning.Set.{set-mode, modeCases, set-uid, uidCases, set-gid, gidCases, set-size, sizeCases, set-atime, atimeCases, set-mtime, mtimeCases, sattr}
 use Rattle.xdr.specs.Laws.Fixed.{word-fixed, hyper-fixed}
-use Rattle.nfsattr.specs.Laws.Write.{Between, maybe-between}
-use Rattle.nfs.specs.Laws.Write.{time-between}
+use Rattle.nfsattr.specs.Laws.Write.{Between, Optional, maybe-between}
+use Rattle.nfs.specs.Laws.Write.{Timed, time-between}
 use Rattle.nfs.specs.declared.set.sattr3.{sattr3}
 use Rattle.nfs.specs.declared.set.set_mode3.{«set_mode3»}
 use Rattle.nfs.specs.declared.set.set_uid3.{«set_uid3»}
@@ -18,6 +19,32 @@ use Rattle.nfs.specs.declared.set.set_size3.{«set_size3»}
 use Rattle.nfs.specs.declared.set.set_atime.{«set_atime»}
 use Rattle.nfs.specs.declared.set.set_mtime.{«set_mtime»}
 
+-- each case, under the names of its type
+pub set-mode-optional : Optional word modeCases set-mode
+unfolding set-mode
+set-mode-optional = record { is = refl }
+
+pub set-uid-optional : Optional word uidCases set-uid
+unfolding set-uid
+set-uid-optional = record { is = refl }
+
+pub set-gid-optional : Optional word gidCases set-gid
+unfolding set-gid
+set-gid-optional = record { is = refl }
+
+pub set-size-optional : Optional hyper sizeCases set-size
+unfolding set-size
+set-size-optional = record { is = refl }
+
+pub set-atime-timed : Timed atimeCases set-atime
+unfolding set-atime
+set-atime-timed = record { is = refl }
+
+pub set-mtime-timed : Timed mtimeCases set-mtime
+unfolding set-mtime
+set-mtime-timed = record { is = refl }
+
+-- ranges
 pub set-mode-between : (v : «set_mode3») → Between 4 8 (length (set-mode .kind .write v))
 unfolding set-mode
 set-mode-between v = maybe-between word modeCases word-fixed v
@@ -42,6 +69,25 @@ pub set-mtime-between : (v : «set_mtime») → Between 4 12 (length (set-mtime 
 unfolding set-mtime
 set-mtime-between v = time-between mtimeCases v
 
+-- each is far below the limit
+pub set-mode-small : (v : «set_mode3») → length (set-mode .kind .write v) ≤ most
+set-mode-small v = omega (arith, set-mode-between v)
+
+pub set-uid-small : (v : «set_uid3») → length (set-uid .kind .write v) ≤ most
+set-uid-small v = omega (arith, set-uid-between v)
+
+pub set-gid-small : (v : «set_gid3») → length (set-gid .kind .write v) ≤ most
+set-gid-small v = omega (arith, set-gid-between v)
+
+pub set-size-small : (v : «set_size3») → length (set-size .kind .write v) ≤ most
+set-size-small v = omega (arith, set-size-between v)
+
+pub set-atime-small : (v : «set_atime») → length (set-atime .kind .write v) ≤ most
+set-atime-small v = omega (arith, set-atime-between v)
+
+pub set-mtime-small : (v : «set_mtime») → length (set-mtime .kind .write v) ≤ most
+set-mtime-small v = omega (arith, set-mtime-between v)
+
 -- sattr3, in two halves
 module _ (mode : «set_mode3») (uid : «set_uid3») (gid : «set_gid3») where
   unfoldable pub ownerBytes : List ℕ
@@ -61,6 +107,12 @@ module _ (mode : «set_mode3») (uid : «set_uid3») (gid : «set_gid3») where
       let b = set-uid-between uid in
       let c = set-gid-between gid in
       record { least = omega (arith, owner-length); greatest = omega (arith, owner-length) }
+
+  pub owner-size : (a b c : ℕ) → a ≡ length (set-mode .kind .write mode) → b ≡ length (set-uid .kind .write uid) → c ≡ length (set-gid .kind .write gid) → a + b + c ≡ length ownerBytes
+  owner-size a b c e f g = omega (arith, owner-length)
+
+  pub owner-small : length ownerBytes ≤ most
+  owner-small = omega (arith, owner-between)
 
 module _ (size : «set_size3») (atime : «set_atime») (mtime : «set_mtime») where
   unfoldable pub changeBytes : List ℕ
@@ -82,6 +134,13 @@ module _ (size : «set_size3») (atime : «set_atime») (mtime : «set_mtime») 
       let c = set-mtime-between mtime in
       record { least = omega (arith, change-length); greatest = omega (arith, change-length) }
 
+  pub change-size : (a b c : ℕ) → a ≡ length (set-size .kind .write size) → b ≡ length (set-atime .kind .write atime) → c ≡ length (set-mtime .kind .write mtime)
+      → a + b + c ≡ length changeBytes
+  change-size a b c e f g = omega (arith, change-length)
+
+  pub change-small : length changeBytes ≤ most
+  change-small = omega (arith, change-between)
+
 pub sattr-bytes : (m : sattr3) → ownerBytes (m .mode) (m .uid) (m .gid) ++ changeBytes (m .size) (m .atime) (m .mtime) ≡ sattr .kind .write m
 unfolding sattr ownerBytes changeBytes
 sattr-bytes m = simp append-assoc
@@ -96,3 +155,10 @@ sattr-between m =
     let a = owner-between (m .mode) (m .uid) (m .gid) in
     let b = change-between (m .size) (m .atime) (m .mtime) in
     record { least = omega (arith, sattr-length m); greatest = omega (arith, sattr-length m) }
+
+pub sattr-size : (a b : ℕ) (m : sattr3) → a ≡ length (ownerBytes (m .mode) (m .uid) (m .gid)) → b ≡ length (changeBytes (m .size) (m .atime) (m .mtime))
+    → a + b ≡ length (sattr .kind .write m)
+sattr-size a b m e f = omega (arith, sattr-length m)
+
+pub sattr-small : (m : sattr3) → length (sattr .kind .write m) ≤ most
+sattr-small m = omega (arith, sattr-between m)

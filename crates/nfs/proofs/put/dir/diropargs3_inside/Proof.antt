@@ -3,11 +3,5 @@ use Rattle.nfs.specs.Laws.Pieces.{entry-inside}
 use Rattle.nfs.proofs.put.dir.diropargs3_inside.Statement.{statement}
 use Rattle.nfs.proofs.put.dir.diropargs3_inside.Tie as tie
 
-returns : tie.Need-returns
-returns c = entry-inside _ _ (c .before .inside .ensures) (c .inside2 .ensures)
-
 pub diropargs3-inside-spec : {M : Type 1} → statement M
-diropargs3-inside-spec =
-    tie.close
-    (tie.spec
-    (search needs) (search needs) returns)
+diropargs3-inside-spec = tie.close (tie.spec (search needs) (search needs) (λ c. search entry-inside))

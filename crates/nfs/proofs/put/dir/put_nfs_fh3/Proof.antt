@@ -3,11 +3,5 @@ use Rattle.nfs.specs.Laws.Pieces.{handle-laid}
 use Rattle.nfs.proofs.put.dir.put_nfs_fh3.Statement.{statement}
 use Rattle.nfs.proofs.put.dir.put_nfs_fh3.Tie as tie
 
-returns : tie.Need-returns
-returns c = handle-laid _ _ _ (c .before .before .put-opaque .ensures)
-
 pub put-nfs-fh3-spec : {M : Type 1} → statement M
-put-nfs-fh3-spec =
-    tie.close
-    (tie.spec
-    (search needs) (search needs) returns)
+put-nfs-fh3-spec = tie.close (tie.spec (search needs) (search needs) (λ c. search handle-laid))

@@ -1,26 +1,14 @@
 use borrow.Author.Needs.{needs}
-use mathlib.Core.Path.{_∙_}
-use Rattle.xdr.specs.Laws.Write.{laid-same}
-use Rattle.nfs.specs.Meaning.Set.{set-atime, atimeCases, dont-change, server-time, client-time}
-use Rattle.nfsattr.specs.Laws.Words.{tag-time}
-use Rattle.nfs.specs.Laws.Write.{time-bytes}
+use Rattle.xdr.specs.Laws.Lays.{lays}
+use Rattle.nfs.specs.Laws.Write.{dont-bytes, server-bytes, client-bytes}
+use Rattle.nfs.specs.Laws.Bytes.{set-atime-timed}
 use Rattle.nfs.proofs.put.set.put_set_atime.Statement.{statement}
 use Rattle.nfs.proofs.put.set.put_set_atime.Tie as tie
-
-returns : tie.Need-returns
-unfolding set-atime
-returns c = laid-same _ _ _ (time-bytes atimeCases dont-change (c .before .before .before .before .enum-told .given .1)) (c .before .before .put-u32 .ensures)
-
-returns-2 : tie.Need-returns-2
-unfolding set-atime
-returns-2 c = laid-same _ _ _ (time-bytes atimeCases server-time (c .before .before .before .before .enum-told2 .given .1)) (c .before .before .put-u322 .ensures)
-
-returns-3 : tie.Need-returns-3
-unfolding set-atime
-returns-3 c = laid-same _ _ _ (tag-time 2 _ ∙ time-bytes atimeCases (client-time _) (c .before .before .before .before .before .v .given .1)) (c .before .before .put-u32-three .ensures)
 
 pub put-set-atime-spec : {M : Type 1} → statement M
 put-set-atime-spec =
     tie.close
     (tie.spec
-    (search needs) (search needs) (search needs) (search needs) (search needs) (search needs) (search needs) returns (search needs) returns-2 (search needs) returns-3)
+    (search needs) (search needs) (search needs) (search needs) (search needs) (search needs) (search needs)
+    (λ c. search (lays, dont-bytes set-atime-timed)) (search needs) (λ c. search (lays, server-bytes set-atime-timed)) (search needs)
+    (λ c. search (lays, client-bytes set-atime-timed)))

@@ -1,23 +1,12 @@
 use borrow.Author.Needs.{needs}
-use mathlib.Core.Path.{sym}
-use mathlib.Core.Option.{none, some}
-use Rattle.xdr.specs.Meaning.Items.{word}
-use Rattle.nfs.specs.Meaning.Set.{set-mode, modeCases}
 use Rattle.xdr.specs.Laws.Fixed.{word-fixed}
-use Rattle.nfsattr.specs.Laws.Write.{maybe-length}
+use Rattle.nfsattr.specs.Laws.Write.{none-size, some-size}
+use Rattle.nfs.specs.Laws.Bytes.{set-mode-optional}
 use Rattle.nfs.proofs.put.set.set_mode3_size.Statement.{statement}
 use Rattle.nfs.proofs.put.set.set_mode3_size.Tie as tie
-
-returns : tie.Need-returns
-unfolding set-mode
-returns c = sym (maybe-length word modeCases word-fixed none (c .enum-told .given .1))
-
-returns-2 : tie.Need-returns-2
-unfolding set-mode
-returns-2 c = sym (maybe-length word modeCases word-fixed (some _) (c .enum-told2 .given .1))
 
 pub set-mode3-size-spec : {M : Type 1} → statement M
 set-mode3-size-spec =
     tie.close
     (tie.spec
-    (search needs) (search needs) returns returns-2)
+    (search needs) (search needs) (λ c. search (none-size set-mode-optional)) (λ c. search (some-size set-mode-optional word-fixed)))

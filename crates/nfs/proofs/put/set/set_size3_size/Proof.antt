@@ -1,23 +1,12 @@
 use borrow.Author.Needs.{needs}
-use mathlib.Core.Path.{sym}
-use mathlib.Core.Option.{none, some}
-use Rattle.xdr.specs.Meaning.Items.{hyper}
-use Rattle.nfs.specs.Meaning.Set.{set-size, sizeCases}
 use Rattle.xdr.specs.Laws.Fixed.{hyper-fixed}
-use Rattle.nfsattr.specs.Laws.Write.{maybe-length}
+use Rattle.nfsattr.specs.Laws.Write.{none-size, some-size}
+use Rattle.nfs.specs.Laws.Bytes.{set-size-optional}
 use Rattle.nfs.proofs.put.set.set_size3_size.Statement.{statement}
 use Rattle.nfs.proofs.put.set.set_size3_size.Tie as tie
-
-returns : tie.Need-returns
-unfolding set-size
-returns c = sym (maybe-length hyper sizeCases hyper-fixed none (c .enum-told .given .1))
-
-returns-2 : tie.Need-returns-2
-unfolding set-size
-returns-2 c = sym (maybe-length hyper sizeCases hyper-fixed (some _) (c .enum-told2 .given .1))
 
 pub set-size3-size-spec : {M : Type 1} → statement M
 set-size3-size-spec =
     tie.close
     (tie.spec
-    (search needs) (search needs) returns returns-2)
+    (search needs) (search needs) (λ c. search (none-size set-size-optional)) (λ c. search (some-size set-size-optional hyper-fixed)))
