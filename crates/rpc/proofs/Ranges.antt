@@ -2,7 +2,7 @@
 -- `Is the-row m vs` is what owning a parameter m of the type tells: of a struct `p .1 .1` is the fields' own facts, a tuple in their order;
 -- of an enum at a constructor `p .1 .1 .1 .1` is those of its fields. A number's `.1` is its range.
 -- Assumes nothing.
-use mathlib.Core.Path.{_≡_, sym, _∙_}
+use mathlib.Core.Path.{_≡_}
 use mathlib.Core.Bool.{true}
 use mathlib.Core.List.{List}
 use Prim.Native.Nat.{ℕ, _≤_}
@@ -22,8 +22,8 @@ use Rattle.rpc.specs.Meaning.Closed.{msg-type, reply-stat, accept-stat, 
 use Rattle.rpc.specs.Meaning.Auth.{opaque-auth, auth-unix}
 use Rattle.rpc.specs.Meaning.Reply.{mismatch-info, accept-body, accepted-reply, rejected-reply, reply-body}
 use Rattle.rpc.specs.Meaning.Message.{call-body, rpc-body, rpc-msg}
-use Rattle.rpc.specs.Laws.Putting.{putting}
-use Rattle.rpc.specs.Laws.Sizes.{unix-fields, sizes}
+use Rattle.xdr.specs.Laws.Putting.{putting}
+use Rattle.rpc.specs.Laws.Sizes.{sizes}
 use Rattle.rpc.specs.declared.message.msg_type.{«msg_type»}
 use Rattle.rpc.specs.declared.message.msg_type.the-variants as msgType
 use Rattle.rpc.specs.declared.reply.reply_stat.{«reply_stat»}
@@ -160,7 +160,7 @@ module _ (s : List ℕ) (h : Bytes s) (k : length s ≤ most) where
             f .1 .1 .0 .1,
             (
               f .1 .1 .1 .0 .1,
-              words-good s (m .gids) h k (and-right (isInside s (m .machinename)) (areInside s (m .gids)) (sym (unix-fields s m) ∙ i)),
+              words-good s (m .gids) h k (and-right (isInside s (m .machinename)) (areInside s (m .gids)) i),
             ),
           ),
         ),

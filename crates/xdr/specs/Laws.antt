@@ -36,3 +36,7 @@ pub mod Owed
 pub mod Plans
 pub mod Tags
 pub mod Writers
+pub mod Pairs
+pub mod Keys
+pub mod Unions
+pub mod Putting

@@ -1,9 +1,8 @@
 -- Two answers that a reader's contract permits are equal, places included: an answer is told by what it says.
 -- Assumes nothing.
-use mathlib.Core.Path.{_≡_, refl, sym, ap, _∙_}
+use mathlib.Core.Path.{_≡_}
 use mathlib.Core.List.{List}
 use Prim.Native.Nat.{ℕ}
-use Rattle.xdr.specs.Meaning.Answer.{Answer, took, refused}
 use Rattle.xdr.specs.Meaning.Format.{exactly}
 use Rattle.xdr.specs.Meaning.Public.{Answers}
 use Rattle.xdr.specs.Laws.One.{Told, one-read}
@@ -15,52 +14,36 @@ use Rattle.rpc.specs.Meaning.Message.{call-body, rpc-body, rpc-msg}
 use Rattle.rpc.specs.Meaning.Views as views
 use Rattle.rpc.specs.Laws.UnixIn.{in-one}
 use Rattle.xdr.specs.declared.piece.Piece.{Piece}
-use Rattle.rpc.specs.declared.message.msg_type.{«msg_type»}
 use Rattle.rpc.specs.declared.answer.MsgTypeRead.{MsgTypeRead}
 use Rattle.rpc.specs.declared.answer.MsgTypeRead.the-variants as MsgType
-use Rattle.rpc.specs.declared.reply.reply_stat.{«reply_stat»}
 use Rattle.rpc.specs.declared.answer.ReplyStatRead.{ReplyStatRead}
 use Rattle.rpc.specs.declared.answer.ReplyStatRead.the-variants as ReplyStat
-use Rattle.rpc.specs.declared.reply.accept_stat.{«accept_stat»}
 use Rattle.rpc.specs.declared.answer.AcceptStatRead.{AcceptStatRead}
 use Rattle.rpc.specs.declared.answer.AcceptStatRead.the-variants as AcceptStat
-use Rattle.rpc.specs.declared.reply.reject_stat.{«reject_stat»}
 use Rattle.rpc.specs.declared.answer.RejectStatRead.{RejectStatRead}
 use Rattle.rpc.specs.declared.answer.RejectStatRead.the-variants as RejectStat
-use Rattle.rpc.specs.declared.auth.auth_flavor.{«auth_flavor»}
 use Rattle.rpc.specs.declared.answer.AuthFlavorRead.{AuthFlavorRead}
 use Rattle.rpc.specs.declared.answer.AuthFlavorRead.the-variants as AuthFlavor
-use Rattle.rpc.specs.declared.auth.auth_stat.{«auth_stat»}
 use Rattle.rpc.specs.declared.answer.AuthStatRead.{AuthStatRead}
 use Rattle.rpc.specs.declared.answer.AuthStatRead.the-variants as AuthStat
-use Rattle.rpc.specs.declared.auth.opaque_auth.{«opaque_auth»}
 use Rattle.rpc.specs.declared.answer.OpaqueAuthRead.{OpaqueAuthRead}
 use Rattle.rpc.specs.declared.answer.OpaqueAuthRead.the-variants as OpaqueAuth
-use Rattle.rpc.specs.declared.auth.auth_unix.{«auth_unix»}
 use Rattle.rpc.specs.declared.answer.AuthUnixRead.{AuthUnixRead}
 use Rattle.rpc.specs.declared.answer.AuthUnixRead.the-variants as AuthUnix
-use Rattle.rpc.specs.declared.reply.mismatch_info.{«mismatch_info»}
 use Rattle.rpc.specs.declared.answer.MismatchInfoRead.{MismatchInfoRead}
 use Rattle.rpc.specs.declared.answer.MismatchInfoRead.the-variants as MismatchInfo
-use Rattle.rpc.specs.declared.message.call_body.{«call_body»}
 use Rattle.rpc.specs.declared.answer.CallBodyRead.{CallBodyRead}
 use Rattle.rpc.specs.declared.answer.CallBodyRead.the-variants as CallBody
-use Rattle.rpc.specs.declared.reply.accept_body.{«accept_body»}
 use Rattle.rpc.specs.declared.answer.AcceptBodyRead.{AcceptBodyRead}
 use Rattle.rpc.specs.declared.answer.AcceptBodyRead.the-variants as AcceptBody
-use Rattle.rpc.specs.declared.reply.accepted_reply.{«accepted_reply»}
 use Rattle.rpc.specs.declared.answer.AcceptedReplyRead.{AcceptedReplyRead}
 use Rattle.rpc.specs.declared.answer.AcceptedReplyRead.the-variants as AcceptedReply
-use Rattle.rpc.specs.declared.reply.rejected_reply.{«rejected_reply»}
 use Rattle.rpc.specs.declared.answer.RejectedReplyRead.{RejectedReplyRead}
 use Rattle.rpc.specs.declared.answer.RejectedReplyRead.the-variants as RejectedReply
-use Rattle.rpc.specs.declared.reply.reply_body.{«reply_body»}
 use Rattle.rpc.specs.declared.answer.ReplyBodyRead.{ReplyBodyRead}
 use Rattle.rpc.specs.declared.answer.ReplyBodyRead.the-variants as ReplyBody
-use Rattle.rpc.specs.declared.message.rpc_body.{«rpc_body»}
 use Rattle.rpc.specs.declared.answer.RpcBodyRead.{RpcBodyRead}
 use Rattle.rpc.specs.declared.answer.RpcBodyRead.the-variants as RpcBody
-use Rattle.rpc.specs.declared.message.rpc_msg.{«rpc_msg»}
 use Rattle.rpc.specs.declared.answer.RpcMsgRead.{RpcMsgRead}
 use Rattle.rpc.specs.declared.answer.RpcMsgRead.the-variants as RpcMsg
 

@@ -1,5 +1,5 @@
 use borrow.Author.Needs.{needs}
-use Rattle.rpc.specs.Laws.Pairs.{step-words}
+use Rattle.xdr.specs.Laws.Pairs.{step-words}
 use Rattle.rpc.specs.Laws.Plans.{inner}
 use Rattle.rpc.proofs.inner.auth_unix_at.Statement.{statement}
 use Rattle.rpc.proofs.inner.auth_unix_at.Tie as tie
