@@ -2,7 +2,7 @@
 -- `Is the-row m vs` is what owning a parameter m of the type tells: of a struct `p .1 .1` is the fields' own facts, a tuple in their order;
 -- of an enum at a constructor `p .1 .1 .1 .1` is those of its fields. A number's `.1` is its range.
 -- Assumes nothing.
-use mathlib.Core.Path.{_≡_, sym, _∙_}
+use mathlib.Core.Path.{_≡_}
 use mathlib.Core.Bool.{true}
 use mathlib.Core.List.{List}
 use Prim.Native.Nat.{ℕ, _≤_}
@@ -18,20 +18,12 @@ use Rattle.xdr.specs.Meaning.Pieces.{isInside, areInside}
 use Rattle.xdr.specs.Laws.Marks.{and-right}
 use Rattle.xdr.specs.Laws.Pieces.{piece-good}
 use Rattle.xdr.specs.Laws.Words.{words-good}
-use Rattle.rpc.specs.Meaning.Closed.{msg-type, reply-stat, accept-stat, reject-stat, auth-flavor, auth-stat}
+use Rattle.rpc.specs.Meaning.Closed.{auth-flavor, auth-stat}
 use Rattle.rpc.specs.Meaning.Auth.{opaque-auth, auth-unix}
 use Rattle.rpc.specs.Meaning.Reply.{mismatch-info, accept-body, accepted-reply, rejected-reply, reply-body}
 use Rattle.rpc.specs.Meaning.Message.{call-body, rpc-body, rpc-msg}
-use Rattle.rpc.specs.Laws.Putting.{putting}
-use Rattle.rpc.specs.Laws.Sizes.{unix-fields, sizes}
-use Rattle.rpc.specs.declared.message.msg_type.{«msg_type»}
-use Rattle.rpc.specs.declared.message.msg_type.the-variants as msgType
-use Rattle.rpc.specs.declared.reply.reply_stat.{«reply_stat»}
-use Rattle.rpc.specs.declared.reply.reply_stat.the-variants as replyStat
-use Rattle.rpc.specs.declared.reply.accept_stat.{«accept_stat»}
-use Rattle.rpc.specs.declared.reply.accept_stat.the-variants as acceptStat
-use Rattle.rpc.specs.declared.reply.reject_stat.{«reject_stat»}
-use Rattle.rpc.specs.declared.reply.reject_stat.the-variants as rejectStat
+use Rattle.xdr.specs.Laws.Putting.{putting}
+use Rattle.rpc.specs.Laws.Sizes.{sizes}
 use Rattle.rpc.specs.declared.auth.auth_flavor.{«auth_flavor»}
 use Rattle.rpc.specs.declared.auth.auth_flavor.the-variants as flavor
 use Rattle.rpc.specs.declared.auth.auth_stat.{«auth_stat»}
@@ -61,29 +53,6 @@ use Rattle.rpc.proofs.message.rpc_body as RpcBody
 use Rattle.rpc.proofs.message.rpc_msg as RpcMsg
 
 -- with no number of the source in them
-pub msg-type-good : (a : «msg_type») → msg-type .kind .Good a
-unfolding msg-type word number
-msg-type-good msgType.CALL = omega arith
-msg-type-good msgType.REPLY = omega arith
-
-pub reply-stat-good : (a : «reply_stat») → reply-stat .kind .Good a
-unfolding reply-stat word number
-reply-stat-good replyStat.«MSG_ACCEPTED» = omega arith
-reply-stat-good replyStat.«MSG_DENIED» = omega arith
-
-pub accept-stat-good : (a : «accept_stat») → accept-stat .kind .Good a
-unfolding accept-stat word number
-accept-stat-good acceptStat.SUCCESS = omega arith
-accept-stat-good acceptStat.«PROG_UNAVAIL» = omega arith
-accept-stat-good acceptStat.«PROG_MISMATCH» = omega arith
-accept-stat-good acceptStat.«PROC_UNAVAIL» = omega arith
-accept-stat-good acceptStat.«GARBAGE_ARGS» = omega arith
-
-pub reject-stat-good : (a : «reject_stat») → reject-stat .kind .Good a
-unfolding reject-stat word number
-reject-stat-good rejectStat.«RPC_MISMATCH» = omega arith
-reject-stat-good rejectStat.«AUTH_ERROR» = omega arith
-
 pub auth-flavor-good : (a : «auth_flavor») → auth-flavor .kind .Good a
 unfolding auth-flavor word number
 auth-flavor-good flavor.«AUTH_NULL» = omega arith
@@ -160,7 +129,7 @@ module _ (s : List ℕ) (h : Bytes s) (k : length s ≤ most) where
             f .1 .1 .0 .1,
             (
               f .1 .1 .1 .0 .1,
-              words-good s (m .gids) h k (and-right (isInside s (m .machinename)) (areInside s (m .gids)) (sym (unix-fields s m) ∙ i)),
+              words-good s (m .gids) h k (and-right (isInside s (m .machinename)) (areInside s (m .gids)) i),
             ),
           ),
         ),

@@ -7,10 +7,6 @@ pub mod UnixIn
 pub mod Tags
 pub mod Puts
 pub mod Closed
-pub mod Pairs
-pub mod Keys
-pub mod Unions
 pub mod Plans
-pub mod Putting
 pub mod UnixKept
 pub mod Stray

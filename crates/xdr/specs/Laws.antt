@@ -40,3 +40,7 @@ pub mod Faults
 pub mod Records
 pub mod Numbers
 pub mod Lays
+pub mod Pairs
+pub mod Keys
+pub mod Unions
+pub mod Putting

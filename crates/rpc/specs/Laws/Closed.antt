@@ -1,7 +1,7 @@
 -- The closed enumerations by their numbers, for the laws of reading and writing them.
 -- Assumes nothing.
 use mathlib.Core.Path.{refl}
-use Rattle.rpc.specs.Laws.Keys.{Numbered, key-writes}
+use Rattle.xdr.specs.Laws.Keys.{Numbered, key-writes}
 use Rattle.rpc.specs.Meaning.Closed.{msg-type, msgTypeNumber, msgTypes, each-msg-type, reply-stat, replyStatNumber, replyStats, each-reply-stat, accept-stat, acceptStatNumber, acceptStats, each-accept-stat, reject-stat, rejectStatNumber, rejectStats, each-reject-stat, auth-flavor, flavorNumber, flavors, each-auth-flavor, auth-stat, authStatNumber, authStats, each-auth-stat}
 
 pub msg-type-numbered : Numbered msg-type msgTypeNumber msgTypes

@@ -9,10 +9,10 @@ use Rattle.xdr.specs.Meaning.Items.{word, word-pair}
 use Rattle.xdr.specs.Meaning.Format.{exactly}
 use Rattle.xdr.specs.Meaning.Formats.{bytes, wordList}
 use Rattle.xdr.specs.Laws.Plans.{Prog, ask, give, run, planned, plan, planned-as, at, _then_, asks, Step, Loses, step, lost-at}
-use Rattle.rpc.specs.Laws.Pairs.{two-words, words-then}
-use Rattle.rpc.specs.Laws.Keys.{keys}
+use Rattle.xdr.specs.Laws.Pairs.{two-words, words-then}
+use Rattle.xdr.specs.Laws.Keys.{keys}
 use Rattle.rpc.specs.Laws.Closed.{numbers}
-use Rattle.rpc.specs.Laws.Unions.{Union, armBranches, arms-read, unions}
+use Rattle.xdr.specs.Laws.Unions.{Union, armBranches, arms-read, unions}
 use Rattle.rpc.specs.Meaning.Closed.{auth-flavor}
 use Rattle.rpc.specs.Meaning.Auth.{opaque-auth, auth-unix}
 use Rattle.rpc.specs.Meaning.Reply.{mismatch-info, acceptArms, seeAccept, fromAccept, accept-kept, accept-back, accept-body, accepted-reply, rejectArms, seeReject, fromReject, reject-kept, reject-back, rejected-reply, replyBranches, holdReply, reply-body}

@@ -15,11 +15,12 @@ use Rattle.xdr.specs.Meaning.Public.{output, laid, laidOf}
 use Rattle.xdr.specs.Laws.Lists.{known-bytes}
 use Rattle.xdr.specs.Laws.Padding.{word-length, word-pair-length, word-pair-bytes}
 use Rattle.xdr.specs.Laws.Write.{Put, Ready, put-same, put-laid, field, lent, lent-of}
+use Rattle.xdr.specs.Laws.Writers.{bytes-sized}
 use Rattle.rpc.specs.Meaning.Closed.{flavorNumber, authStatNumber}
 use Rattle.rpc.specs.Meaning.Auth.{opaque-auth, auth-unix}
 use Rattle.rpc.specs.Meaning.Reply.{mismatch-info, accept-body, accepted-reply, rejected-reply, reply-body}
 use Rattle.rpc.specs.Meaning.Message.{call-body, rpc-body, rpc-msg}
-use Rattle.rpc.specs.Laws.Sizes.{authSize, auth-written, auth-body, body-size, unixSize, unix-written, unix-name, unix-gids, name-size, gids-size, callSize, call-written, call-cred, call-verf, info-written, acceptTag, acceptSize, acceptWritten, accept-is, acceptedSize, accepted-written, accepted-verf, rejectSize, rejectWritten, reject-is, replySize, replyWritten, reply-is, reply-accepted, bodySize, bodyWritten, body-is, body-call, body-reply, msgSize, msg-written, msg-body}
+use Rattle.rpc.specs.Laws.Sizes.{authSize, auth-written, auth-body, unixSize, unix-written, unix-name, unix-gids, gids-size, callSize, call-written, call-cred, call-verf, info-written, acceptTag, acceptSize, acceptWritten, accept-is, acceptedSize, accepted-written, accepted-verf, rejectSize, rejectWritten, reject-is, replySize, replyWritten, reply-is, reply-accepted, bodySize, bodyWritten, body-is, body-call, body-reply, msgSize, msg-written, msg-body}
 use Rattle.rpc.specs.declared.auth.auth_stat.{«auth_stat»}
 use Rattle.rpc.specs.declared.auth.opaque_auth.{«opaque_auth»}
 use Rattle.rpc.specs.declared.auth.auth_unix.{«auth_unix»}
@@ -116,7 +117,7 @@ module _ (xs ys : List ℕ) where
           → Put xs (backAt 4 ys zs) (authSize m) (output opaque-auth s m)
       auth-put m v r h e f g =
           put-same (ap (λ n. word .kind .write n ++ output bytes s (m .body)) e ∙ auth-written s m)
-          (lent-of bytes s (m .body) (auth-body s m r) (put-laid (word-length v) (omega arith) f) h (body-size s m r) g)
+          (lent-of bytes s (m .body) (auth-body s m r) (put-laid (word-length v) (omega arith) f) h (bytes-sized s (m .body) (auth-body s m r)) g)
 
       pub accepted-put : (m : «accepted_reply») (n : ℕ) → acceptedSize m ≤ length xs → n ≡ authSize (m .verf)
           → Put xs ys (authSize (m .verf)) (output opaque-auth s (m .verf))
@@ -140,7 +141,7 @@ module _ (xs y₁ z₁ z₂ z₃ s : List ℕ) (n : ℕ) where
       → Put xs (backAt (4 + n + 8) y₃ z₃) (unixSize m) (output auth-unix s m)
   unix-put m given r h e a b c d =
       let f₁ = put-laid (word-length (m .stamp)) (omega arith) a in
-      let f₂ = lent-of bytes s (m .machinename) (unix-name s m r) f₁ (omega arith) (name-size s m r) b in
+      let f₂ = lent-of bytes s (m .machinename) (unix-name s m r) f₁ (omega arith) (bytes-sized s (m .machinename) (unix-name s m r)) b in
       let f₃ = lent _ (put-sized (ap (λ k. 4 + k) (sym e)) f₂) (omega arith) (word-pair-length (m .uid) (m .gid)) c in
       let f₄ = lent-of wordList s (m .gids) (unix-gids s m r) f₃ (omega arith) (gids-size s (known-bytes s given) m r) d in
       put-sized (omega arith) (put-same (unix-written s m) f₄)

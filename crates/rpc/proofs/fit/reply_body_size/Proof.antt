@@ -5,4 +5,8 @@ use Rattle.rpc.proofs.fit.reply_body_size.Statement.{statement}
 use Rattle.rpc.proofs.fit.reply_body_size.Tie as tie
 
 pub reply-body-size-spec : {M : Type 1} → statement M
-reply-body-size-spec = tie.close (tie.spec (search needs) (search needs) (search needs) (search needs) (search needs) (search needs) (λ c. omega (arith, same-size replySize)) (λ c. omega (arith, same-size replySize)))
+reply-body-size-spec =
+    tie.close
+    (tie.spec
+    (search needs) (search needs) (search needs) (search needs) (search needs) (search needs) (λ c. omega (arith, same-size replySize))
+    (λ c. omega (arith, same-size replySize)))

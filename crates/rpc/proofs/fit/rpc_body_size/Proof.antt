@@ -5,4 +5,8 @@ use Rattle.rpc.proofs.fit.rpc_body_size.Statement.{statement}
 use Rattle.rpc.proofs.fit.rpc_body_size.Tie as tie
 
 pub rpc-body-size-spec : {M : Type 1} → statement M
-rpc-body-size-spec = tie.close (tie.spec (search needs) (search needs) (search needs) (search needs) (search needs) (search needs) (λ c. omega (arith, same-size bodySize)) (λ c. omega (arith, same-size bodySize)))
+rpc-body-size-spec =
+    tie.close
+    (tie.spec
+    (search needs) (search needs) (search needs) (search needs) (search needs) (search needs) (λ c. omega (arith, same-size bodySize))
+    (λ c. omega (arith, same-size bodySize)))

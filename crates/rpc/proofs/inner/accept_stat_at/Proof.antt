@@ -4,4 +4,9 @@ use Rattle.rpc.proofs.inner.accept_stat_at.Statement.{statement}
 use Rattle.rpc.proofs.inner.accept_stat_at.Tie as tie
 
 pub accept-stat-at-spec : {M : Type 1} → statement M
-accept-stat-at-spec = tie.close (tie.spec (search needs) (search needs) (search needs) (search needs) (λ c. search inner depth 20) (λ c. search inner depth 20) (λ c. search inner depth 20) (λ c. search inner depth 20) (λ c. search inner depth 20) (λ c. search inner depth 20) (λ c. search inner depth 20))
+accept-stat-at-spec =
+    tie.close
+    (tie.spec
+    (search needs) (search needs) (search needs) (search needs) (λ c. search inner depth 20) (λ c. search inner depth 20)
+    (λ c. search inner depth 20) (λ c. search inner depth 20) (λ c. search inner depth 20) (λ c. search inner depth 20)
+    (λ c. search inner depth 20))

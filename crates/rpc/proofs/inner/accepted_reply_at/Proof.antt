@@ -4,4 +4,8 @@ use Rattle.rpc.proofs.inner.accepted_reply_at.Statement.{statement}
 use Rattle.rpc.proofs.inner.accepted_reply_at.Tie as tie
 
 pub accepted-reply-at-spec : {M : Type 1} → statement M
-accepted-reply-at-spec = tie.close (tie.spec (search needs) (search needs) (search needs) (search needs) (λ c. search inner depth 20) (search needs) (search needs) (search needs) (search needs) (λ c. search inner depth 20) (λ c. search inner depth 20))
+accepted-reply-at-spec =
+    tie.close
+    (tie.spec
+    (search needs) (search needs) (search needs) (search needs) (λ c. search inner depth 20) (search needs) (search needs) (search needs)
+    (search needs) (λ c. search inner depth 20) (λ c. search inner depth 20))

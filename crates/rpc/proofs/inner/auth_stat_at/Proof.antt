@@ -4,4 +4,9 @@ use Rattle.rpc.proofs.inner.auth_stat_at.Statement.{statement}
 use Rattle.rpc.proofs.inner.auth_stat_at.Tie as tie
 
 pub auth-stat-at-spec : {M : Type 1} → statement M
-auth-stat-at-spec = tie.close (tie.spec (search needs) (search needs) (search needs) (search needs) (λ c. search inner depth 20) (λ c. search inner depth 20) (λ c. search inner depth 20) (λ c. search inner depth 20) (λ c. search inner depth 20) (λ c. search inner depth 20) (λ c. search inner depth 20))
+auth-stat-at-spec =
+    tie.close
+    (tie.spec
+    (search needs) (search needs) (search needs) (search needs) (λ c. search inner depth 20) (λ c. search inner depth 20)
+    (λ c. search inner depth 20) (λ c. search inner depth 20) (λ c. search inner depth 20) (λ c. search inner depth 20)
+    (λ c. search inner depth 20))

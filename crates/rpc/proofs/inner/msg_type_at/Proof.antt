@@ -4,4 +4,8 @@ use Rattle.rpc.proofs.inner.msg_type_at.Statement.{statement}
 use Rattle.rpc.proofs.inner.msg_type_at.Tie as tie
 
 pub msg-type-at-spec : {M : Type 1} → statement M
-msg-type-at-spec = tie.close (tie.spec (search needs) (search needs) (search needs) (search needs) (λ c. search inner depth 20) (λ c. search inner depth 20) (λ c. search inner depth 20) (λ c. search inner depth 20))
+msg-type-at-spec =
+    tie.close
+    (tie.spec
+    (search needs) (search needs) (search needs) (search needs) (λ c. search inner depth 20) (λ c. search inner depth 20)
+    (λ c. search inner depth 20) (λ c. search inner depth 20))

@@ -4,4 +4,9 @@ use Rattle.rpc.proofs.inner.rejected_reply_at.Statement.{statement}
 use Rattle.rpc.proofs.inner.rejected_reply_at.Tie as tie
 
 pub rejected-reply-at-spec : {M : Type 1} → statement M
-rejected-reply-at-spec = tie.close (tie.spec (search needs) (search needs) (search needs) (search needs) (λ c. search inner depth 20) (search needs) (search needs) (search needs) (search needs) (λ c. search inner depth 20) (λ c. search inner depth 20) (search needs) (search needs) (search needs) (search needs) (λ c. search inner depth 20) (λ c. search inner depth 20) (λ c. search inner depth 20))
+rejected-reply-at-spec =
+    tie.close
+    (tie.spec
+    (search needs) (search needs) (search needs) (search needs) (λ c. search inner depth 20) (search needs) (search needs) (search needs)
+    (search needs) (λ c. search inner depth 20) (λ c. search inner depth 20) (search needs) (search needs) (search needs) (search needs)
+    (λ c. search inner depth 20) (λ c. search inner depth 20) (λ c. search inner depth 20))

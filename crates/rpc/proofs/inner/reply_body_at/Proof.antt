@@ -4,4 +4,9 @@ use Rattle.rpc.proofs.inner.reply_body_at.Statement.{statement}
 use Rattle.rpc.proofs.inner.reply_body_at.Tie as tie
 
 pub reply-body-at-spec : {M : Type 1} → statement M
-reply-body-at-spec = tie.close (tie.spec (search needs) (search needs) (search needs) (search needs) (λ c. search inner depth 20) (search needs) (search needs) (search needs) (search needs) (λ c. search inner depth 20) (λ c. search inner depth 20) (search needs) (search needs) (search needs) (search needs) (λ c. search inner depth 20) (λ c. search inner depth 20) (search needs) (λ c. search inner depth 20))
+reply-body-at-spec =
+    tie.close
+    (tie.spec
+    (search needs) (search needs) (search needs) (search needs) (λ c. search inner depth 20) (search needs) (search needs) (search needs)
+    (search needs) (λ c. search inner depth 20) (λ c. search inner depth 20) (search needs) (search needs) (search needs) (search needs)
+    (λ c. search inner depth 20) (λ c. search inner depth 20) (search needs) (λ c. search inner depth 20))

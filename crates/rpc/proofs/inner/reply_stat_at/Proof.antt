@@ -4,4 +4,8 @@ use Rattle.rpc.proofs.inner.reply_stat_at.Statement.{statement}
 use Rattle.rpc.proofs.inner.reply_stat_at.Tie as tie
 
 pub reply-stat-at-spec : {M : Type 1} → statement M
-reply-stat-at-spec = tie.close (tie.spec (search needs) (search needs) (search needs) (search needs) (λ c. search inner depth 20) (λ c. search inner depth 20) (λ c. search inner depth 20) (λ c. search inner depth 20))
+reply-stat-at-spec =
+    tie.close
+    (tie.spec
+    (search needs) (search needs) (search needs) (search needs) (λ c. search inner depth 20) (λ c. search inner depth 20)
+    (λ c. search inner depth 20) (λ c. search inner depth 20))

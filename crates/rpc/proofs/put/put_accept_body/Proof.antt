@@ -21,4 +21,9 @@ bare «PROC_UNAVAIL» h = record { four = refl; tag = refl }
 bare «GARBAGE_ARGS» h = record { four = refl; tag = refl }
 
 pub put-accept-body-spec : {M : Type 1} → statement M
-put-accept-body-spec = tie.close (tie.spec (search needs) (search needs) (search needs) (search needs) (λ c. search (puts, bare)) (λ c. omega (arith, same-size acceptSize)) (λ c. omega (arith, same-size acceptSize)) (search needs) (λ c κs. simp (length-take, length-drop) (omega (arith, same-size acceptSize))) (search needs) (λ c. search puts))
+put-accept-body-spec =
+    tie.close
+    (tie.spec
+    (search needs) (search needs) (search needs) (search needs) (λ c. search (puts, bare)) (λ c. omega (arith, same-size acceptSize))
+    (λ c. omega (arith, same-size acceptSize)) (search needs)
+    (λ c κs. simp (length-take, length-drop) (omega (arith, same-size acceptSize))) (search needs) (λ c. search puts))

@@ -7,4 +7,9 @@ use Rattle.rpc.proofs.put.put_rejected_reply.Statement.{statement}
 use Rattle.rpc.proofs.put.put_rejected_reply.Tie as tie
 
 pub put-rejected-reply-spec : {M : Type 1} → statement M
-put-rejected-reply-spec = tie.close (tie.spec (search needs) (search needs) (λ c. omega (arith, same-size rejectSize)) (λ c. omega (arith, same-size rejectSize)) (search needs) (λ c κs. simp (length-take, length-drop) (omega (arith, same-size rejectSize))) (search needs) (search needs) (search needs) (search needs) (λ c. search puts) (search needs) (λ c. search puts))
+put-rejected-reply-spec =
+    tie.close
+    (tie.spec
+    (search needs) (search needs) (λ c. omega (arith, same-size rejectSize)) (λ c. omega (arith, same-size rejectSize)) (search needs)
+    (λ c κs. simp (length-take, length-drop) (omega (arith, same-size rejectSize))) (search needs) (search needs) (search needs)
+    (search needs) (λ c. search puts) (search needs) (λ c. search puts))

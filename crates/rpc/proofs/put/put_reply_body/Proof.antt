@@ -7,4 +7,11 @@ use Rattle.rpc.proofs.put.put_reply_body.Statement.{statement}
 use Rattle.rpc.proofs.put.put_reply_body.Tie as tie
 
 pub put-reply-body-spec : {M : Type 1} → statement M
-put-reply-body-spec = tie.close (tie.spec (search needs) (search needs) (λ c. omega (arith, same-size replySize)) (λ c. omega (arith, same-size replySize)) (search needs) (λ c κs. (search readies, simp (length-take, length-drop) (omega (arith, same-size replySize)))) (search needs) (search needs) (λ c. omega (arith, same-size replySize)) (λ c. omega (arith, same-size replySize)) (search needs) (λ c κs. simp (length-take, length-drop) (omega (arith, same-size replySize))) (search needs) (λ c. search puts) (search needs) (λ c. search puts))
+put-reply-body-spec =
+    tie.close
+    (tie.spec
+    (search needs) (search needs) (λ c. omega (arith, same-size replySize)) (λ c. omega (arith, same-size replySize)) (search needs)
+    (λ c κs. (search readies, simp (length-take, length-drop) (omega (arith, same-size replySize)))) (search needs) (search needs)
+    (λ c. omega (arith, same-size replySize)) (λ c. omega (arith, same-size replySize)) (search needs)
+    (λ c κs. simp (length-take, length-drop) (omega (arith, same-size replySize))) (search needs) (λ c. search puts) (search needs)
+    (λ c. search puts))

@@ -7,4 +7,11 @@ use Rattle.rpc.proofs.put.put_rpc_body.Statement.{statement}
 use Rattle.rpc.proofs.put.put_rpc_body.Tie as tie
 
 pub put-rpc-body-spec : {M : Type 1} → statement M
-put-rpc-body-spec = tie.close (tie.spec (search needs) (search needs) (λ c. omega (arith, same-size bodySize)) (λ c. omega (arith, same-size bodySize)) (search needs) (λ c κs. (search readies, simp (length-take, length-drop) (omega (arith, same-size bodySize)))) (search needs) (search needs) (λ c. omega (arith, same-size bodySize)) (λ c. omega (arith, same-size bodySize)) (search needs) (λ c κs. (search readies, simp (length-take, length-drop) (omega (arith, same-size bodySize)))) (search needs) (λ c. search puts) (search needs) (λ c. search puts))
+put-rpc-body-spec =
+    tie.close
+    (tie.spec
+    (search needs) (search needs) (λ c. omega (arith, same-size bodySize)) (λ c. omega (arith, same-size bodySize)) (search needs)
+    (λ c κs. (search readies, simp (length-take, length-drop) (omega (arith, same-size bodySize)))) (search needs) (search needs)
+    (λ c. omega (arith, same-size bodySize)) (λ c. omega (arith, same-size bodySize)) (search needs)
+    (λ c κs. (search readies, simp (length-take, length-drop) (omega (arith, same-size bodySize)))) (search needs) (λ c. search puts)
+    (search needs) (λ c. search puts))

@@ -4,4 +4,8 @@ use Rattle.rpc.proofs.write.write_accepted_reply.Statement.{statement}
 use Rattle.rpc.proofs.write.write_accepted_reply.Tie as tie
 
 pub write-accepted-reply-spec : {M : Type 1} → statement M
-write-accepted-reply-spec = tie.close (tie.spec (search needs) (search needs) (search needs) (search needs) (search needs) (λ c. search writes) (λ c. search writes) (λ c. search writes) (search needs) (λ c κs. search writes) (search needs) (λ c. search writes))
+write-accepted-reply-spec =
+    tie.close
+    (tie.spec
+    (search needs) (search needs) (search needs) (search needs) (search needs) (λ c. search writes) (λ c. search writes)
+    (λ c. search writes) (search needs) (λ c κs. search writes) (search needs) (λ c. search writes))

@@ -4,4 +4,8 @@ use Rattle.rpc.proofs.write.write_mismatch_info.Statement.{statement}
 use Rattle.rpc.proofs.write.write_mismatch_info.Tie as tie
 
 pub write-mismatch-info-spec : {M : Type 1} → statement M
-write-mismatch-info-spec = tie.close (tie.spec (search needs) (search needs) (search needs) (λ c. search writes) (λ c. search writes) (λ c. search writes) (search needs) (λ c κs. search writes) (search needs) (λ c. search writes))
+write-mismatch-info-spec =
+    tie.close
+    (tie.spec
+    (search needs) (search needs) (search needs) (λ c. search writes) (λ c. search writes) (λ c. search writes) (search needs)
+    (λ c κs. search writes) (search needs) (λ c. search writes))

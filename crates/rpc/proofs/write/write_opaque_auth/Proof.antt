@@ -4,4 +4,8 @@ use Rattle.rpc.proofs.write.write_opaque_auth.Statement.{statement}
 use Rattle.rpc.proofs.write.write_opaque_auth.Tie as tie
 
 pub write-opaque-auth-spec : {M : Type 1} → statement M
-write-opaque-auth-spec = tie.close (tie.spec (search needs) (search needs) (search needs) (search needs) (search needs) (λ c. search writes) (λ c. search writes) (λ c. search writes) (search needs) (λ c κs. search writes) (search needs) (λ c. search writes))
+write-opaque-auth-spec =
+    tie.close
+    (tie.spec
+    (search needs) (search needs) (search needs) (search needs) (search needs) (λ c. search writes) (λ c. search writes)
+    (λ c. search writes) (search needs) (λ c κs. search writes) (search needs) (λ c. search writes))

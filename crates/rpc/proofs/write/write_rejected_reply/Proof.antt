@@ -4,4 +4,8 @@ use Rattle.rpc.proofs.write.write_rejected_reply.Statement.{statement}
 use Rattle.rpc.proofs.write.write_rejected_reply.Tie as tie
 
 pub write-rejected-reply-spec : {M : Type 1} → statement M
-write-rejected-reply-spec = tie.close (tie.spec (search needs) (search needs) (search needs) (search needs) (λ c. search writes) (λ c. search writes) (λ c. search writes) (search needs) (λ c κs. search writes) (search needs) (λ c. search writes))
+write-rejected-reply-spec =
+    tie.close
+    (tie.spec
+    (search needs) (search needs) (search needs) (search needs) (λ c. search writes) (λ c. search writes) (λ c. search writes)
+    (search needs) (λ c κs. search writes) (search needs) (λ c. search writes))

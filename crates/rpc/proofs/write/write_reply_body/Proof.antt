@@ -4,4 +4,8 @@ use Rattle.rpc.proofs.write.write_reply_body.Statement.{statement}
 use Rattle.rpc.proofs.write.write_reply_body.Tie as tie
 
 pub write-reply-body-spec : {M : Type 1} → statement M
-write-reply-body-spec = tie.close (tie.spec (search needs) (search needs) (search needs) (search needs) (search needs) (λ c. search writes) (λ c. search writes) (λ c. search writes) (search needs) (λ c κs. search writes) (search needs) (λ c. search writes))
+write-reply-body-spec =
+    tie.close
+    (tie.spec
+    (search needs) (search needs) (search needs) (search needs) (search needs) (λ c. search writes) (λ c. search writes)
+    (λ c. search writes) (search needs) (λ c κs. search writes) (search needs) (λ c. search writes))

@@ -5,21 +5,21 @@ use mathlib.Core.Bool.{Bool, true, false, _&&_}
 use mathlib.Core.List.{List, [], _∷_}
 use Prim.Native.Nat.{ℕ, zero, suc, _+_, _-_, _≤_}
 use native.Mathlib.Omega.{arith}
 use Rattle.xdr.specs.Meaning.Answer.{Answer, took, refused}
 use Rattle.xdr.specs.Meaning.Combinators.{Seen, means, undeclared, first, second, View, meant, look}
 use Rattle.xdr.specs.Meaning.Codecs.{exactView}
 use Rattle.xdr.specs.Meaning.Items.{word}
 use Rattle.xdr.specs.Meaning.Held.{seenAs, lookAt, thenFirst, thenSecond}
 use Rattle.xdr.specs.Meaning.Format.{Format, exactly, plain, Branch, branch, tagged, Kept, Back, union}
 use Rattle.xdr.specs.Meaning.Kind.{Kind, Codec}
 use Rattle.xdr.specs.Meaning.Views.{viewU32, lostU32}
 use Rattle.xdr.specs.Laws.Answers.{on, off}
 use Rattle.xdr.specs.Laws.Plans.{Prog, ask, give, follow, run}
-use Rattle.rpc.specs.Laws.Keys.{Rest}
+use Rattle.xdr.specs.Laws.Keys.{Rest}
 use Rattle.xdr.specs.declared.refusal.Refusal.{Refusal}
 use Rattle.xdr.specs.declared.refusal.Refusal.the-variants.{Undeclared}
 use Rattle.xdr.specs.declared.answer.U32Read.{U32Read}
 use Rattle.xdr.specs.declared.answer.U32Read.the-variants as U32
 
 -- what is to know of a union, once: its tags are those below `tags`, and any other is read as a default
 pub record Union {N T : Type 0} (F : Format N T) (branches : ℕ → Branch) (hold : (tag : ℕ) → branches tag .Has → Seen T) (tags : ℕ) : Type 0 where

@@ -12,28 +12,27 @@ use borrow.Author.Tests.{leb-true}
 use borrow.Rule.Slice.PartMut.{midOf, putMid}
 use mir.Syntax.{w8}
 use mir.Val.{Fits}
 use Rattle.xdr.specs.Meaning.Bytes.{Bytes}
-use Rattle.xdr.specs.Meaning.Answer.{most, Written, done, unwritten}
+use Rattle.xdr.specs.Meaning.Answer.{most, done, unwritten}
 use Rattle.xdr.specs.Meaning.Kind.{Codec}
 use Rattle.xdr.specs.Meaning.Order.{placing}
 use Rattle.xdr.specs.Meaning.Format.{Format, exactly}
 use Rattle.xdr.specs.Meaning.Public.{output, Writes}
 use Rattle.xdr.specs.Meaning.Views.{viewWrote}
 use Rattle.xdr.specs.Laws.Lists.{known-bytes}
 use Rattle.xdr.specs.Laws.Write.{Put, Ready, room-at}
-use Rattle.xdr.specs.Laws.Placing as P
-use Rattle.xdr.specs.Laws.Placing.{placing-as, refuses, ready}
+use Rattle.xdr.specs.Laws.Placing.{placing-as, refuses, ready, wrote}
 use Rattle.xdr.specs.declared.answer.Wrote.{Wrote}
-use Rattle.xdr.specs.declared.answer.Wrote.the-variants as wrote
+use Rattle.xdr.specs.declared.answer.Wrote.the-variants as W
 use Rattle.xdr.specs.declared.refusal.Refusal.{Refusal}
 use Rattle.xdr.specs.declared.refusal.Refusal.the-variants.{NoRoom, PastEnd, TooLong, Outside}
 
 -- how long a kind is written, once
 pub record Sized {M S : Type 0} (F : Format M S) (size : S → ℕ) : Type 0 where
   pub long : (s : List ℕ) (x : S) → Bytes s → Ready F s x → length (output F s x) ≡ size x
 
 -- there is a place, by lengths alone
-module _ (source : ℕ) (i : Bool) (m len at : ℕ) (w : Wrote) (k : ℕ) (e : viewWrote w ≡ placing source i m len at) (f : w ≡ wrote.Done k) where
+module _ (source : ℕ) (i : Bool) (m len at : ℕ) (w : Wrote) (k : ℕ) (e : viewWrote w ≡ placing source i m len at) (f : w ≡ W.Done k) where
   record Placed : Type 0 where
     pub starts : at ≤ len
     pub short : source ≤ most
@@ -62,39 +61,39 @@ module _ (source : ℕ) (i : Bool) (m len at : ℕ) (w : Wrote) (k : ℕ) (e : v
   place-at = placed .starts
 
 module _ (source : ℕ) (i : Bool) (m at : ℕ) (o : List ℕ) (w : Wrote) (k n : ℕ) where
-  pub place-room : viewWrote w ≡ placing source i m (length o) at → w ≡ wrote.Done k → m ≡ n → n ≤ length (midOf at (length o - at) o)
+  pub place-room : viewWrote w ≡ placing source i m (length o) at → w ≡ W.Done k → m ≡ n → n ≤ length (midOf at (length o - at) o)
   place-room e f g = room-at o at n (omega (arith, placed source i m (length o) at w k e f .ends))
 
 module _ {M S : Type 0} {F : Format M S} (s : List ℕ) (x : S) (i : Bool) (m len at : ℕ) (w : Wrote) (k : ℕ) where
-  pub place-ready : viewWrote w ≡ placing (length s) i m len at → w ≡ wrote.Done k → i ≡ F .held .inside s x → Ready F s x
+  pub place-ready : viewWrote w ≡ placing (length s) i m len at → w ≡ W.Done k → i ≡ F .held .inside s x → Ready F s x
   place-ready e f g = let d = placed (length s) i m len at w k e f in record { short = d .short; inside = sym g ∙ d .inside }
 
 -- what the writer leaves
 module _ {M S : Type 0} {F : Format M S} (size : S → ℕ) (Z : Sized F size) (s : List ℕ) (x : S) (at : ℕ) (o : List ℕ) (w : Wrote) (i : Bool) (m : ℕ) where
   pub put-off : (q : Refusal) → viewWrote w ≡ placing (length s) i m (length o) at → i ≡ F .held .inside s x → m ≡ size x
-      → ((j : ℕ) → Fits w8 (getD s j 0)) → w ≡ wrote.Refused q → Writes F s x at o (viewWrote w) o
+      → ((j : ℕ) → Fits w8 (getD s j 0)) → w ≡ W.Refused q → Writes F s x at o (viewWrote w) o
   put-off q e f g given h = refuses F s x (Z .long s x (known-bytes s given)) at o (placing-as (length s) (length o) at e f g) (ap viewWrote h)
 
   pub put-on : (k : ℕ) (zs : List ℕ) → viewWrote w ≡ placing (length s) i m (length o) at → i ≡ F .held .inside s x → m ≡ size x
-      → ((j : ℕ) → Fits w8 (getD s j 0)) → w ≡ wrote.Done k → Put (midOf at (length o - at) o) zs (size x) (output F s x)
+      → ((j : ℕ) → Fits w8 (getD s j 0)) → w ≡ W.Done k → Put (midOf at (length o - at) o) zs (size x) (output F s x)
       → (Bytes s → length s ≤ most → F .held .inside s x ≡ true → F .codec .kind .Good (F .held .mean s x))
       → Writes F s x at o (viewWrote w) (putMid at (length o - at) o zs)
   put-on k zs e f g given h p good =
       let b = known-bytes s given in
       let a = placing-as (length s) (length o) at e f g in
       let r = ready F s x (Z .long s x b) at o a (ap viewWrote h) in
-      P.wrote F s x (Z .long s x b) at o a (ap viewWrote h) (good b (r .short) (r .inside)) p
+      wrote F s x (Z .long s x b) at o a (ap viewWrote h) (good b (r .short) (r .inside)) p
 
 -- the same of a kind with no pieces
 module _ {M : Type 0} {C : Codec M} (size : M → ℕ) (Z : Sized (exactly C) size) (x : M) (at : ℕ) (o : List ℕ) (w : Wrote) (m : ℕ) where
-  pub plain-put-off : (q : Refusal) → viewWrote w ≡ placing 0 true m (length o) at → m ≡ size x → w ≡ wrote.Refused q
+  pub plain-put-off : (q : Refusal) → viewWrote w ≡ placing 0 true m (length o) at → m ≡ size x → w ≡ W.Refused q
       → Writes (exactly C) [] x at o (viewWrote w) o
   plain-put-off q e g h = refuses (exactly C) [] x (Z .long [] x tt) at o (placing-as 0 (length o) at e refl g) (ap viewWrote h)
 
-  pub plain-put-on : (k : ℕ) (zs : List ℕ) → viewWrote w ≡ placing 0 true m (length o) at → m ≡ size x → w ≡ wrote.Done k
+  pub plain-put-on : (k : ℕ) (zs : List ℕ) → viewWrote w ≡ placing 0 true m (length o) at → m ≡ size x → w ≡ W.Done k
       → Put (midOf at (length o - at) o) zs (size x) (C .kind .write x) → C .kind .Good x
       → Writes (exactly C) [] x at o (viewWrote w) (putMid at (length o - at) o zs)
   plain-put-on k zs e g h p good =
-      P.wrote (exactly C) [] x (Z .long [] x tt) at o (placing-as 0 (length o) at e refl g) (ap viewWrote h) good p
+      wrote (exactly C) [] x (Z .long [] x tt) at o (placing-as 0 (length o) at e refl g) (ap viewWrote h) good p
 
 pub ruleset putting = (place-at, place-room, place-ready, put-off, put-on, plain-put-off, plain-put-on)

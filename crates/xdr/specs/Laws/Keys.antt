@@ -4,20 +4,22 @@ use mathlib.Core.Path.{_≡_, refl, ap, subst, _∙_}
 use mathlib.Core.Bool.{true}
 use mathlib.Core.List.{List, [], _∷_, map}
 use Prim.Native.Nat.{ℕ}
+use lib.ListN.{length}
 use borrow.Author.Tests.{ne-eqb}
 use Rattle.xdr.specs.Meaning.Answer.{took, refused, Written}
 use Rattle.xdr.specs.Meaning.Combinators.{means, undeclared, among}
 use Rattle.xdr.specs.Meaning.Items.{word, closed}
 use Rattle.xdr.specs.Meaning.Kind.{Codec}
 use Rattle.xdr.specs.Meaning.Format.{exactly}
 use Rattle.xdr.specs.Meaning.Public.{Writes}
 use Rattle.xdr.specs.Meaning.Views.{viewU32, lostU32}
 use Rattle.xdr.specs.Laws.Answers.{on, off}
+use Rattle.xdr.specs.Laws.Padding.{word-length}
 use Rattle.xdr.specs.Laws.Closed.{closed-refused, closed-undeclared, closed-took, by-number}
 use Rattle.xdr.specs.declared.refusal.Refusal.{Refusal}
 use Rattle.xdr.specs.declared.refusal.Refusal.the-variants.{Undeclared}
 use Rattle.xdr.specs.declared.answer.U32Read.{U32Read}
 use Rattle.xdr.specs.declared.answer.U32Read.the-variants as U32
 
 -- v is none of the keys: what the last arm of a match on v is handed, as it is handed
 abbrev pub Rest : Type 0 → List ℕ → ℕ → Type 0
@@ -56,9 +58,12 @@ module _ {A : Type 0} {C : Codec A} (number : A → ℕ) (values : List A) (E : 
           → took a n true ≡ C .kind .read s p
       key-is k a e f g h = closed-took number values (E .each) s p (on viewU32 e f) (ap (among number values) g ∙ h) ∙ same
 
-  -- it is written as the word of its number
+  -- it is written as the word of its number, in 4 bytes
   pub key-writes : (a : A) (v at : ℕ) (o : List ℕ) (w : Written) (o′ : List ℕ) → v ≡ number a → Writes (exactly word) [] v at o w o′
       → Writes (exactly C) [] a at o w o′
   key-writes a v at o w o′ e f = subst (λ D. Writes (exactly D) [] a at o w o′) (E .is) (by-number number values (E .each) a at o e f)
+
+  pub key-length : (a : A) → length (C .kind .write a) ≡ 4
+  key-length a = subst (λ D. length (D .kind .write a) ≡ 4) (E .is) (word-length (number a))
 
 pub ruleset keys = (key-lost, key-rest, key-is)
