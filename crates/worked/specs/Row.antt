@@ -16,6 +16,8 @@ rewritten F (refused r) = []
 pub data Row : Type 1 where
   -- bytes read from place 0: the answer, and the rewriting
   reading : {M S : Type 0} → Format M S → List ℕ → Answer M → List ℕ → Row
+  -- bytes read from a place on: the answer with what the code holds, so with the places of its pieces in the whole message
+  holding : {M S : Type 0} → Format M S → List ℕ → ℕ → Answer S → Row
   -- a value without pieces, and the bytes that it is written as
   writing : {M S : Type 0} → Format M S → S → List ℕ → Row
   -- a stream fed to a fresh assembler of a capacity with a record buffer: where it then stands
@@ -23,6 +25,7 @@ pub data Row : Type 1 where
 
 abbrev pub Right : Row → Type 0
 Right (reading F s a w) = (opened s 0 (F .codec .kind .read s 0) ≡ a) × (rewritten F a ≡ w)
+Right (holding F s p a) = opened s p (F .held .read s p) ≡ a
 Right (writing F x w) = output F [] x ≡ w
 Right (feeding c run d n) = feedOf (fresh c) run d ≡ n
 

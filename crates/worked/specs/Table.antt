@@ -7,13 +7,14 @@ use lib.IntN.{negsuc}
 use Rattle.xdr.specs.Meaning.Answer.{took, refused}
 use Rattle.xdr.specs.Meaning.Items.{flag, int}
 use Rattle.xdr.specs.Meaning.Format.{exactly}
-use Rattle.xdr.specs.Meaning.Formats.{bytes}
+use Rattle.xdr.specs.Meaning.Formats.{bytes, wordList}
 use Rattle.rpc.specs.Meaning.Messages.{RpcMsg, call, reply, accepted}
 use Rattle.rpc.specs.Meaning.Message.{rpc-msg}
 use Rattle.rpc.specs.Meaning.Makers.{versMismatch}
 use Rattle.rpc.specs.declared.auth.auth_flavor.the-variants.{«AUTH_NULL»}
 use Rattle.rpc.specs.declared.reply.accept_body.the-variants.{«GARBAGE_ARGS»}
 use Rattle.nfs.specs.Meaning.Set.{set-atime, sattr}
+use Rattle.nfs.specs.Meaning.Dir.{diropargs}
 use Rattle.nfs.specs.declared.set.set_mode3.the-variants as mode
 use Rattle.nfs.specs.declared.set.set_uid3.the-variants as uid
 use Rattle.nfs.specs.declared.set.set_gid3.the-variants as gid
@@ -22,7 +23,7 @@ use Rattle.nfs.specs.declared.set.set_atime.the-variants as atime
 use Rattle.nfs.specs.declared.set.set_mtime.the-variants as mtime
 use Rattle.rpcwire.specs.Meaning.Stream.{stand, more, complete, fresh, inFragment, halted}
 use Rattle.rpcwire.specs.Meaning.Stream as stream
-use Rattle.worked.specs.Row.{Row, reading, writing, feeding}
+use Rattle.worked.specs.Row.{Row, reading, holding, writing, feeding}
 use Rattle.xdr.specs.declared.refusal.Refusal.the-variants.{Ended, Undeclared, Overrun}
 
 abbrev hello : List ℕ
@@ -66,6 +67,13 @@ rows =
     ∷ reading bytes (0 ∷ 0 ∷ 0 ∷ 0 ∷ []) (took [] 4 true) (0 ∷ 0 ∷ 0 ∷ 0 ∷ [])
     -- a pad byte is missing
     ∷ reading bytes (0 ∷ 0 ∷ 0 ∷ 1 ∷ 0xAA ∷ 0 ∷ 0 ∷ []) (refused (Ended 0)) []
+    -- two words, and where they lie: the count of the piece is in words
+    ∷ reading wordList (0 ∷ 0 ∷ 0 ∷ 2 ∷ 0 ∷ 0 ∷ 0 ∷ 7 ∷ 0xFF ∷ 0xFF ∷ 0xFF ∷ 0xFF ∷ []) (took (7 ∷ 4294967295 ∷ []) 12 true)
+    (0 ∷ 0 ∷ 0 ∷ 2 ∷ 0 ∷ 0 ∷ 0 ∷ 7 ∷ 0xFF ∷ 0xFF ∷ 0xFF ∷ 0xFF ∷ [])
+    ∷ holding wordList (0 ∷ 0 ∷ 0 ∷ 2 ∷ 0 ∷ 0 ∷ 0 ∷ 7 ∷ 0xFF ∷ 0xFF ∷ 0xFF ∷ 0xFF ∷ []) 0 (took (record { at = 4; count = 2 }) 12 true)
+    -- a handle of one byte and a name of two, behind a word that belongs to something else
+    ∷ holding diropargs (9 ∷ 9 ∷ 9 ∷ 9 ∷ 0 ∷ 0 ∷ 0 ∷ 1 ∷ 0xAA ∷ 0 ∷ 0 ∷ 0 ∷ 0 ∷ 0 ∷ 0 ∷ 2 ∷ 0x68 ∷ 0x69 ∷ 0 ∷ 0 ∷ []) 4
+    (took (record { dir = record { «data» = record { at = 8; count = 1 } }; name = record { at = 16; count = 2 } }) 20 true)
     -- two's complement: -1, and the least number
     ∷ reading (exactly int) (0xFF ∷ 0xFF ∷ 0xFF ∷ 0xFF ∷ []) (took (negsuc 0) 4 true) (0xFF ∷ 0xFF ∷ 0xFF ∷ 0xFF ∷ [])
     ∷ reading (exactly int) (0x80 ∷ 0 ∷ 0 ∷ 0 ∷ []) (took (negsuc 2147483647) 4 true) (0x80 ∷ 0 ∷ 0 ∷ 0 ∷ [])

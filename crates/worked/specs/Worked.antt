@@ -2,19 +2,20 @@
 -- Assumes nothing.
 use mathlib.Core.Path.{refl}
 use Rattle.xdr.specs.Meaning.Answer.{opened}
-use Rattle.xdr.specs.Meaning.Items.{number, word, word-pair, hyper, flag, int, opaque}
-use Rattle.xdr.specs.Meaning.Formats.{pieceHeld}
+use Rattle.xdr.specs.Meaning.Items.{number, word, word-pair, hyper, flag, int, opaque, words}
+use Rattle.xdr.specs.Meaning.Formats.{pieceHeld, wordsHeld}
 use Rattle.rpc.specs.Meaning.Closed.{auth-flavor, auth-stat}
 use Rattle.rpc.specs.Meaning.Auth.{opaque-auth}
 use Rattle.rpc.specs.Meaning.Reply.{mismatch-info, accept-body, accepted-reply, rejected-reply, reply-body}
 use Rattle.rpc.specs.Meaning.Message.{call-body, rpc-body, rpc-msg}
 use Rattle.nfsattr.specs.Meaning.Attr.{nfstime}
 use Rattle.nfs.specs.Meaning.Set.{set-mode, set-uid, set-gid, set-size, set-time, set-atime, set-mtime, sattr}
+use Rattle.nfs.specs.Meaning.Dir.{nfs-fh, diropargs}
 use Rattle.rpcwire.specs.Meaning.Stream.{feedOf, begin, advance, after, stepAt, headerByte, headed, settled, fitsOf}
 use Rattle.worked.specs.Row.{All}
 use Rattle.worked.specs.Table.{rows}
 
 pub worked : All rows
-unfolding opened number word word-pair hyper flag int opaque pieceHeld auth-flavor auth-stat opaque-auth mismatch-info accept-body accepted-reply rejected-reply reply-body call-body rpc-body rpc-msg nfstime set-mode set-uid set-gid set-size set-time set-atime set-mtime sattr feedOf begin advance after stepAt headerByte headed settled fitsOf
+unfolding opened number word word-pair hyper flag int opaque words pieceHeld wordsHeld nfs-fh diropargs auth-flavor auth-stat opaque-auth mismatch-info accept-body accepted-reply rejected-reply reply-body call-body rpc-body rpc-msg nfstime set-mode set-uid set-gid set-size set-time set-atime set-mtime sattr feedOf begin advance after stepAt headerByte headed settled fitsOf
 worked =
-    ((refl, refl), ((refl, refl), ((refl, refl), ((refl, refl), ((refl, refl), ((refl, refl), ((refl, refl), ((refl, refl), ((refl, refl), ((refl, refl), ((refl, refl), (refl, (refl, (refl, (refl, (refl, tt))))))))))))))))
+    ((refl, refl), ((refl, refl), ((refl, refl), ((refl, refl), ((refl, refl), ((refl, refl), (refl, (refl, ((refl, refl), ((refl, refl), ((refl, refl), ((refl, refl), ((refl, refl), ((refl, refl), (refl, (refl, (refl, (refl, (refl, tt)))))))))))))))))))
