@@ -409,8 +409,8 @@ enum {
  * YUGERZAT_MORE: the run is used up, and the record is not complete.
  * YUGERZAT_COMPLETE: the record is the first YUGERZAT_FEED_LENGTH bytes of buf. No byte after the record's end was used,
  * and the state is fresh.
- * YUGERZAT_STATE_DOES_NOT_FIT: the state stays as given and no byte is used. YUGERZAT_FRAGMENT_TOO_LONG: the state is
- * stopped, and stays so.
+ * YUGERZAT_STATE_DOES_NOT_FIT: the state stays as given and no byte is used; only a LAST or STOPPED that is neither 0
+ * nor 1 comes back as 1, as after every other answer. YUGERZAT_FRAGMENT_TOO_LONG: the state is stopped, and stays so.
  * `state` is the state to go on with. YUGERZAT_SHORT_LIST: state or info is too short.
  */
 uint32_t yugerzat_feed(uint64_t *state, size_t state_len, const uint8_t *run, size_t run_len, uint8_t *buf,
