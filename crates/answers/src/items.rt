@@ -8,12 +8,14 @@ use crate::words::bytes_at;
 use crate::words::is_end;
 use crate::words::number_at;
 use door::Copied;
+use stdio::Out;
+use stdio::say;
 use xdr::Piece;
 use xdr::Refusal;
 
 // A refusal: its number, and its place where it has one.
-pub(crate) fn refusal(out: &mut [u8], at: usize, r: Refusal) -> usize {
-    let n = print::say(out, at, b"refused");
+pub(crate) fn refusal(out: &mut [u8], at: Out, r: Refusal) -> Out {
+    let n = say(out, at, b"refused");
     match r {
         Refusal::Ended(place) => {
             let m = print::number(out, n, 1);
@@ -28,14 +30,14 @@ pub(crate) fn refusal(out: &mut [u8], at: usize, r: Refusal) -> usize {
 }
 
 // What was read, and what it is written as, which is at the front of the buffer.
-fn took(out: &mut [u8], at: usize, next: usize, plain: bool, rewriting: &[u8]) -> usize {
-    let n = print::say(out, at, b"took");
+fn took(out: &mut [u8], at: Out, next: usize, plain: bool, rewriting: &[u8]) -> Out {
+    let n = say(out, at, b"took");
     let m = print::number(out, n, next);
     if plain {
-        let k = print::say(out, m, b" plain");
+        let k = say(out, m, b" plain");
         return print::hex(out, k, rewriting);
     }
-    let k = print::say(out, m, b" loose");
+    let k = say(out, m, b" loose");
     print::hex(out, k, rewriting)
 }
 
@@ -46,8 +48,8 @@ pub(crate) fn read(
     message: &mut [u8],
     room: &mut [u8],
     out: &mut [u8],
-    at: usize,
-) -> usize {
+    at: Out,
+) -> Out {
     let k = kind_at(line, start);
     let KindAt::Is { kind, next: s } = k else {
         return print::unknown(out, at);
@@ -84,14 +86,14 @@ pub(crate) fn read(
 }
 
 // What a writing left in a buffer.
-pub(crate) fn wrote(out: &mut [u8], at: usize, next: usize, buf: &[u8]) -> usize {
-    let n = print::say(out, at, b"wrote");
+pub(crate) fn wrote(out: &mut [u8], at: Out, next: usize, buf: &[u8]) -> Out {
+    let n = say(out, at, b"wrote");
     let m = print::number(out, n, next);
     print::hex(out, m, buf)
 }
 
 // A refusal, and the buffer as it then is.
-pub(crate) fn refused(out: &mut [u8], at: usize, r: Refusal, buf: &[u8]) -> usize {
+pub(crate) fn refused(out: &mut [u8], at: Out, r: Refusal, buf: &[u8]) -> Out {
     let n = refusal(out, at, r);
     print::hex(out, n, buf)
 }
@@ -103,8 +105,8 @@ fn write_into(
     buf: &mut [u8],
     start: usize,
     out: &mut [u8],
-    at: usize,
-) -> usize {
+    at: Out,
+) -> Out {
     fill(buf);
     let c = door::copy_kind(kind, message, place, buf, start);
     match c {
@@ -126,8 +128,8 @@ pub(crate) fn write(
     message: &mut [u8],
     room: &mut [u8],
     out: &mut [u8],
-    at: usize,
-) -> usize {
+    at: Out,
+) -> Out {
     let k = kind_at(line, start);
     let KindAt::Is { kind, next: s } = k else {
         return print::unknown(out, at);
@@ -178,12 +180,12 @@ pub(crate) fn write(
     )
 }
 
-fn inside(out: &mut [u8], at: usize, is_inside: bool, bytes: &[u8]) -> usize {
+fn inside(out: &mut [u8], at: Out, is_inside: bool, bytes: &[u8]) -> Out {
     if is_inside {
-        let n = print::say(out, at, b"inside");
+        let n = say(out, at, b"inside");
         return print::hex(out, n, bytes);
     }
-    let n = print::say(out, at, b"outside");
+    let n = say(out, at, b"outside");
     print::hex(out, n, bytes)
 }
 
@@ -194,8 +196,8 @@ pub(crate) fn part(
     are_words: bool,
     message: &mut [u8],
     out: &mut [u8],
-    at: usize,
-) -> usize {
+    at: Out,
+) -> Out {
     let b = bytes_at(line, start, message);
     if !b.good {
         return print::unknown(out, at);

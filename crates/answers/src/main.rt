@@ -10,6 +10,11 @@ mod records;
 mod usage;
 mod words;
 
+use stdio::Got;
+use stdio::Out;
+use stdio::flush;
+use stdio::say;
+
 // What a line asks for, by its first word; 8 where it is none of these.
 fn verb_of(word: &[u8]) -> u32 {
     if check::same(word, b"read") {
@@ -47,8 +52,8 @@ fn of_message(
     message: &mut [u8],
     room: &mut [u8],
     out: &mut [u8],
-    at: usize,
-) -> usize {
+    at: Out,
+) -> Out {
     match verb {
         0 => items::read(line, s, message, room, out, at),
         1 => items::write(line, s, message, room, out, at),
@@ -65,8 +70,8 @@ fn of_stream(
     message: &mut [u8],
     room: &mut [u8],
     out: &mut [u8],
-    at: usize,
-) -> usize {
+    at: Out,
+) -> Out {
     match verb {
         4 => records::fragment(line, s, message, room, out, at),
         5 => records::feed(line, s, message, room, out, at),
@@ -76,7 +81,7 @@ fn of_stream(
 }
 
 // The answer to a line, without its end.
-fn answer(line: &[u8], message: &mut [u8], room: &mut [u8], out: &mut [u8], at: usize) -> usize {
+fn answer(line: &[u8], message: &mut [u8], room: &mut [u8], out: &mut [u8], at: Out) -> Out {
     let end = text::word_end(line, 0);
     let verb = verb_of(&line[0..end]);
     if verb < 4 {
@@ -104,20 +109,20 @@ fn answer_held(
     message: &mut [u8],
     room: &mut [u8],
     out: &mut [u8],
-    at: usize,
-) -> usize {
+    at: Out,
+) -> Out {
     if line.len() < held {
         let n = print::unknown(out, at);
-        return print::byte(out, n, b'\n');
+        return say(out, n, b"\n");
     }
     let n = answer(&line[0..held], message, room, out, at);
-    print::byte(out, n, b'\n')
+    say(out, n, b"\n")
 }
 
-// What is held of a line, and how much output waits.
+// What is held of a line, and where the output stands.
 struct Standing {
     held: usize,
-    at: usize,
+    at: Out,
 }
 
 fn take_one(
@@ -127,7 +132,7 @@ fn take_one(
     message: &mut [u8],
     room: &mut [u8],
     out: &mut [u8],
-    at: usize,
+    at: Out,
 ) -> Standing {
     if c == b'\n' {
         return Standing {
@@ -141,7 +146,7 @@ fn take_one(
     }
 }
 
-// The characters of the input that came at once. Answers how much of a line that goes on is held.
+// The characters of the input that came at once.
 fn take(
     input: &[u8],
     line: &mut [u8],
@@ -149,22 +154,29 @@ fn take(
     message: &mut [u8],
     room: &mut [u8],
     out: &mut [u8],
-) -> usize {
-    let mut s = Standing { held, at: 0 };
+    at: Out,
+) -> Standing {
+    let mut s = Standing { held, at };
     let mut i = 0;
     while i < input.len() {
-        s = take_one(input[i], line, s.held, message, room, out, s.at);
+        let w = s.at;
+        s = take_one(input[i], line, s.held, message, room, out, w);
         i += 1;
     }
-    print::flush(out, s.at);
-    s.held
+    let w = s.at;
+    Standing {
+        held: s.held,
+        at: flush(out, w),
+    }
 }
 
 struct Turn {
     goes_on: bool,
     held: usize,
+    at: Out,
 }
 
+// Input is read as long as its answers can be written. A line that a failure cuts off gets no answer.
 fn read_once(
     input: &mut [u8],
     line: &mut [u8],
@@ -172,18 +184,29 @@ fn read_once(
     message: &mut [u8],
     room: &mut [u8],
     out: &mut [u8],
+    at: Out,
 ) -> Turn {
-    let got = libc::read(libc::STDIN_FILENO, input);
-    if got <= 0 {
-        return Turn {
+    let got = stdio::read(input);
+    match got {
+        Got::End => Turn {
             goes_on: false,
             held,
-        };
-    }
-    let n = io::count(got, input);
-    Turn {
-        goes_on: true,
-        held: take(&input[0..n], line, held, message, room, out),
+            at,
+        },
+        Got::Failed => Turn {
+            goes_on: false,
+            held: 0,
+            at,
+        },
+        Got::Bytes(n) => {
+            let s = take(&input[0..n], line, held, message, room, out, at);
+            let w = s.at;
+            Turn {
+                goes_on: !w.lost,
+                held: s.held,
+                at: w,
+            }
+        }
     }
 }
 
@@ -199,28 +222,31 @@ fn answer_all(
     let mut t = Turn {
         goes_on: true,
         held: 0,
+        at: Out::new(),
     };
     while turns > 0 && t.goes_on {
-        t = read_once(input, line, t.held, message, room, out);
+        let w = t.at;
+        t = read_once(input, line, t.held, message, room, out, w);
         turns -= 1;
     }
     if t.held == 0 {
         return;
     }
     // a last line without an end
-    let at = answer_held(line, t.held, message, room, out, 0);
-    print::flush(out, at);
+    let w = t.at;
+    let n = answer_held(line, t.held, message, room, out, w);
+    flush(out, n);
 }
 
 fn main() {
+    let mut out = io::large_buffer();
     if os::arg_count() > 1 {
-        usage::print();
+        usage::print(&mut out);
         return;
     }
-    let mut input = io::large_buffer();
+    let mut input = io::buffer();
     let mut line = io::large_buffer();
     let mut message = io::large_buffer();
     let mut room = buffer::largest();
-    let mut out = io::large_buffer();
     answer_all(&mut input, &mut line, &mut message, &mut room, &mut out);
 }

@@ -11,14 +11,16 @@ use crate::words::number_at;
 use rpc::auth::auth_unix;
 use rpcwire::Caller;
 use rpcwire::Choice;
+use stdio::Out;
+use stdio::say;
 use xdr::Piece;
 
-fn piece(out: &mut [u8], at: usize, x: Piece) -> usize {
+fn piece(out: &mut [u8], at: Out, x: Piece) -> Out {
     let n = print::number(out, at, x.at);
     print::number(out, n, x.count)
 }
 
-fn unix(out: &mut [u8], at: usize, a: auth_unix) -> usize {
+fn unix(out: &mut [u8], at: Out, a: auth_unix) -> Out {
     let name = a.machinename;
     let gids = a.gids;
     let n = print::number(out, at, a.stamp as usize);
@@ -28,39 +30,32 @@ fn unix(out: &mut [u8], at: usize, a: auth_unix) -> usize {
     piece(out, n, gids)
 }
 
-fn caller_words(out: &mut [u8], at: usize, caller: Caller) -> usize {
+fn caller_words(out: &mut [u8], at: Out, caller: Caller) -> Out {
     match caller {
-        Caller::Unnamed => print::say(out, at, b" none"),
+        Caller::Unnamed => say(out, at, b" none"),
         Caller::Unix(a) => {
-            let n = print::say(out, at, b" unix");
+            let n = say(out, at, b" unix");
             unix(out, n, a)
         }
     }
 }
 
-fn call_words(
-    out: &mut [u8],
-    at: usize,
-    prog: u32,
-    vers: u32,
-    proc: u32,
-    arguments: usize,
-) -> usize {
-    let n = print::say(out, at, b"handover");
+fn call_words(out: &mut [u8], at: Out, prog: u32, vers: u32, proc: u32, arguments: usize) -> Out {
+    let n = say(out, at, b"handover");
     let n = print::number(out, n, prog as usize);
     let n = print::number(out, n, vers as usize);
     let n = print::number(out, n, proc as usize);
     print::number(out, n, arguments)
 }
 
-fn choice_words(out: &mut [u8], at: usize, c: Choice) -> usize {
+fn choice_words(out: &mut [u8], at: Out, c: Choice) -> Out {
     match c {
         Choice::Refused(r) => refusal(out, at, r),
         Choice::Replied(length) => {
-            let n = print::say(out, at, b"reply");
+            let n = say(out, at, b"reply");
             print::number(out, n, length)
         }
-        Choice::Silent => print::say(out, at, b"silence"),
+        Choice::Silent => say(out, at, b"silence"),
         Choice::HandOver {
             prog,
             vers,
@@ -74,7 +69,7 @@ fn choice_words(out: &mut [u8], at: usize, c: Choice) -> usize {
     }
 }
 
-fn choose_into(seen: bool, message: &[u8], buf: &mut [u8], out: &mut [u8], at: usize) -> usize {
+fn choose_into(seen: bool, message: &[u8], buf: &mut [u8], out: &mut [u8], at: Out) -> Out {
     fill(buf);
     let c = rpcwire::choose(message, seen, buf);
     let n = choice_words(out, at, c);
@@ -88,8 +83,8 @@ pub(crate) fn choose(
     message: &mut [u8],
     room: &mut [u8],
     out: &mut [u8],
-    at: usize,
-) -> usize {
+    at: Out,
+) -> Out {
     let w = mark_at(line, start);
     let MarkAt::Is {
         value: seen,

@@ -7,6 +7,7 @@ use crate::items::wrote;
 use crate::print;
 use crate::words::MarkAt;
 use crate::words::NumberAt;
+use crate::words::after;
 use crate::words::bytes_at;
 use crate::words::is_end;
 use crate::words::mark_at;
@@ -14,10 +15,12 @@ use crate::words::number_at;
 use rpcwire::Assembler;
 use rpcwire::AssemblerMade;
 use rpcwire::Fed;
+use stdio::Out;
+use stdio::say;
 use xdr::Piece;
 use xdr::Wrote;
 
-fn fragment_into(message: &[u8], buf: &mut [u8], start: usize, out: &mut [u8], at: usize) -> usize {
+fn fragment_into(message: &[u8], buf: &mut [u8], start: usize, out: &mut [u8], at: Out) -> Out {
     fill(buf);
     let w = rpcwire::write_fragment(message, buf, start);
     match w {
@@ -33,8 +36,8 @@ pub(crate) fn fragment(
     message: &mut [u8],
     room: &mut [u8],
     out: &mut [u8],
-    at: usize,
-) -> usize {
+    at: Out,
+) -> Out {
     let b = bytes_at(line, start, message);
     if !b.good {
         return print::unknown(out, at);
@@ -83,19 +86,19 @@ fn state_of(f: Fed) -> Assembler {
 }
 
 // One answer of the assembler, all but a record.
-fn fed(out: &mut [u8], at: usize, f: Fed) -> usize {
+fn fed(out: &mut [u8], at: Out, f: Fed) -> Out {
     match f {
         Fed::Refused {
             refusal,
             state: _,
             used,
         } => {
-            let n = print::say(out, at, b"refused");
+            let n = say(out, at, b"refused");
             let m = print::number(out, n, refusal.number() as usize);
             print::number(out, m, used)
         }
         Fed::More { state: _, used } => {
-            let n = print::say(out, at, b"more");
+            let n = say(out, at, b"more");
             print::number(out, n, used)
         }
         Fed::Complete {
@@ -103,7 +106,7 @@ fn fed(out: &mut [u8], at: usize, f: Fed) -> usize {
             state: _,
             used,
         } => {
-            let n = print::say(out, at, b"complete");
+            let n = say(out, at, b"complete");
             let m = print::number(out, n, length);
             print::number(out, m, used)
         }
@@ -111,15 +114,15 @@ fn fed(out: &mut [u8], at: usize, f: Fed) -> usize {
 }
 
 // The header bytes and the fragment of a state.
-fn header_and_fragment(out: &mut [u8], at: usize, s: Assembler) -> usize {
+fn header_and_fragment(out: &mut [u8], at: Out, s: Assembler) -> Out {
     let n = print::number(out, at, s.header_count);
     let n = print::number(out, n, s.header_value);
     let n = print::number(out, n, s.left);
     print::mark(out, n, s.last)
 }
 
-fn state_words(out: &mut [u8], at: usize, s: Assembler) -> usize {
-    let n = print::say(out, at, b"; state");
+fn state_words(out: &mut [u8], at: Out, s: Assembler) -> Out {
+    let n = say(out, at, b"; state");
     let n = print::number(out, n, s.capacity);
     let n = print::number(out, n, s.placed);
     let n = header_and_fragment(out, n, s);
@@ -127,13 +130,13 @@ fn state_words(out: &mut [u8], at: usize, s: Assembler) -> usize {
 }
 
 // The state and the buffer, with which a line about the assembler ends.
-fn state_and_buffer(out: &mut [u8], at: usize, s: Assembler, buf: &[u8]) -> usize {
+fn state_and_buffer(out: &mut [u8], at: Out, s: Assembler, buf: &[u8]) -> Out {
     let n = state_words(out, at, s);
-    let n = print::say(out, n, b"; buffer");
+    let n = say(out, n, b"; buffer");
     print::hex(out, n, buf)
 }
 
-fn feed_once(state: Assembler, run: &[u8], buf: &mut [u8], out: &mut [u8], at: usize) -> usize {
+fn feed_once(state: Assembler, run: &[u8], buf: &mut [u8], out: &mut [u8], at: Out) -> Out {
     fill(buf);
     let f = rpcwire::feed(state, run, buf);
     let n = fed(out, at, f);
@@ -147,8 +150,8 @@ pub(crate) fn state(
     message: &mut [u8],
     room: &mut [u8],
     out: &mut [u8],
-    at: usize,
-) -> usize {
+    at: Out,
+) -> Out {
     let w = number_at(line, start);
     let NumberAt::Is {
         value: capacity,
@@ -257,11 +260,11 @@ struct Feeding {
     state: Assembler,
     used: usize,
     goes_on: bool,
-    at: usize,
+    at: Out,
 }
 
 // Feeds what is left of a run.
-fn feed_part(given: Assembler, run: &[u8], buf: &mut [u8], out: &mut [u8], at: usize) -> Feeding {
+fn feed_part(given: Assembler, run: &[u8], buf: &mut [u8], out: &mut [u8], at: Out) -> Feeding {
     let f = rpcwire::feed(given, run, buf);
     let n = fed(out, at, f);
     match f {
@@ -320,7 +323,7 @@ fn past(from: usize, used: usize, end: usize) -> usize
 }
 
 // Feeds a run: once, and then, as long as records are complete and something is left of it, what is left.
-fn feed_run(given: Assembler, run: &[u8], buf: &mut [u8], out: &mut [u8], at: usize) -> Feeding {
+fn feed_run(given: Assembler, run: &[u8], buf: &mut [u8], out: &mut [u8], at: Out) -> Feeding {
     let mut f = feed_part(given, run, buf, out, at);
     let mut i = f.used;
     while i < run.len() {
@@ -328,11 +331,27 @@ fn feed_run(given: Assembler, run: &[u8], buf: &mut [u8], out: &mut [u8], at: us
             return f;
         }
         let s = f.state;
-        let n = print::parting(out, f.at);
+        let w = f.at;
+        let n = print::parting(out, w);
         f = feed_part(s, &run[i..], buf, out, n);
         i = past(i, f.used, run.len());
     }
     f
+}
+
+// Feeds the run at a place of a line.
+fn feed_word(
+    given: Assembler,
+    line: &[u8],
+    start: usize,
+    message: &mut [u8],
+    buf: &mut [u8],
+    out: &mut [u8],
+    at: Out,
+) -> Feeding {
+    let b = bytes_at(line, start, message);
+    let n = b.count;
+    feed_run(given, &message[0..n], buf, out, at)
 }
 
 // Feeds all the runs of a line, of which there is one at least, and each spells bytes.
@@ -343,22 +362,19 @@ fn feed_runs(
     message: &mut [u8],
     buf: &mut [u8],
     out: &mut [u8],
-    at: usize,
+    at: Out,
 ) -> Feeding {
-    let b = bytes_at(line, start, message);
-    let n = b.count;
-    let mut s = b.next;
-    let mut f = feed_run(given, &message[0..n], buf, out, at);
+    let mut f = feed_word(given, line, start, message, buf, out, at);
+    let mut s = after(line, start);
     while s <= line.len() {
         if !f.goes_on {
             return f;
         }
         let g = f.state;
-        let b = bytes_at(line, s, message);
-        let n = b.count;
-        s = b.next;
-        let m = print::parting(out, f.at);
-        f = feed_run(g, &message[0..n], buf, out, m);
+        let w = f.at;
+        let n = print::parting(out, w);
+        f = feed_word(g, line, s, message, buf, out, n);
+        s = after(line, s);
     }
     f
 }
@@ -370,12 +386,13 @@ fn feed_all(
     message: &mut [u8],
     buf: &mut [u8],
     out: &mut [u8],
-    at: usize,
-) -> usize {
+    at: Out,
+) -> Out {
     fill(buf);
     let f = feed_runs(given, line, start, message, buf, out, at);
     let s = f.state;
-    state_and_buffer(out, f.at, s, buf)
+    let w = f.at;
+    state_and_buffer(out, w, s, buf)
 }
 
 // feed CAPACITY RUN RUN ..
@@ -385,8 +402,8 @@ pub(crate) fn feed(
     message: &mut [u8],
     room: &mut [u8],
     out: &mut [u8],
-    at: usize,
-) -> usize {
+    at: Out,
+) -> Out {
     let c = number_at(line, start);
     let NumberAt::Is {
         value: capacity,

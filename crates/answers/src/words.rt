@@ -79,6 +79,16 @@ pub(crate) fn bytes_at(line: &[u8], start: usize, message: &mut [u8]) -> BytesAt
     }
 }
 
+// Where the word after the one at a place starts.
+pub(crate) fn after(line: &[u8], start: usize) -> usize
+    ensures { λ r. ⌜ (start ≤ length (now (line .entry)) → start < r) ⌝ }
+{
+    if line.len() < start {
+        return start;
+    }
+    text::word_end(line, start) + 1
+}
+
 // Whether nothing comes after the word before this place.
 pub(crate) fn is_end(line: &[u8], start: usize) -> bool {
     line.len() < start

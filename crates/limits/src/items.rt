@@ -8,16 +8,18 @@ use crate::print;
 use door::Copied;
 use rpcwire::Caller;
 use rpcwire::Choice;
+use stdio::Out;
+use stdio::say;
 use xdr::Piece;
 use xdr::Wrote;
 
-fn kind_word(kind: u32) {
+fn kind_word(out: &mut [u8], at: Out, kind: u32) -> Out {
     match kind {
-        BOOL => print::say(b" bool"),
-        OPAQUE => print::say(b" opaque"),
-        WORDS => print::say(b" words"),
-        RPC_MSG => print::say(b" rpc_msg"),
-        _ => print::say(b" ?"),
+        BOOL => say(out, at, b" bool"),
+        OPAQUE => say(out, at, b" opaque"),
+        WORDS => say(out, at, b" words"),
+        RPC_MSG => say(out, at, b" rpc_msg"),
+        _ => say(out, at, b" ?"),
     }
 }
 
@@ -32,21 +34,23 @@ fn front(buf: &[u8], length: usize) -> &[u8] {
     )
 }
 
-fn copied(c: Copied) {
+fn took(out: &mut [u8], at: Out, next: usize, plain: bool, end: usize) -> Out {
+    let n = say(out, at, b" took");
+    let n = print::number(out, n, next);
+    if plain {
+        let n = say(out, n, b" plain");
+        return print::number(out, n, end);
+    }
+    let n = say(out, n, b" loose");
+    print::number(out, n, end)
+}
+
+fn copied(out: &mut [u8], at: Out, c: Copied) -> Out {
     match c {
-        Copied::Unknown => print::say(b" ?"),
-        Copied::Unread(r) => print::refusal(r),
-        Copied::Unwritten(r) => print::refusal(r),
-        Copied::Done { next, plain, end } => {
-            print::say(b" took");
-            print::number(next);
-            if plain {
-                print::say(b" plain");
-            } else {
-                print::say(b" loose");
-            }
-            print::number(end);
-        }
+        Copied::Unknown => say(out, at, b" ?"),
+        Copied::Unread(r) => print::refusal(out, at, r),
+        Copied::Unwritten(r) => print::refusal(out, at, r),
+        Copied::Done { next, plain, end } => took(out, at, next, plain, end),
     }
 }
 
@@ -60,48 +64,78 @@ fn prepare(kind: u32, first: u32, message: &mut [u8]) {
     make::word(message, 0, first);
 }
 
+fn read_words(out: &mut [u8], at: Out, kind: u32, first: u32, place: usize, length: usize) -> Out {
+    let n = say(out, at, b"read");
+    let n = kind_word(out, n, kind);
+    let n = print::three(out, n, first as usize, place, length);
+    say(out, n, b":")
+}
+
 // Such a message, read and rewritten.
 pub(crate) fn read(
     kind: u32,
     first: u32,
-    at: usize,
+    place: usize,
     length: usize,
     message: &mut [u8],
     room: &mut [u8],
-) {
-    print::say(b"read");
-    kind_word(kind);
-    print::number(first as usize);
-    print::number(at);
-    print::number(length);
-    print::say(b":");
+    out: &mut [u8],
+    at: Out,
+) -> Out {
+    let n = read_words(out, at, kind, first, place, length);
     prepare(kind, first, message);
     make::empty(room);
-    copied(door::copy_kind(kind, front(message, length), at, room, 0));
-    print::end(room);
+    let c = door::copy_kind(kind, front(message, length), place, room, 0);
+    let n = copied(out, n, c);
+    print::end(out, n, room)
 }
 
-pub(crate) fn wrote(w: Wrote) {
+pub(crate) fn wrote(out: &mut [u8], at: Out, w: Wrote) -> Out {
     match w {
-        Wrote::Refused(r) => print::refusal(r),
+        Wrote::Refused(r) => print::refusal(out, at, r),
         Wrote::Done(next) => {
-            print::say(b" wrote");
-            print::number(next);
+            let n = say(out, at, b" wrote");
+            print::number(out, n, next)
         }
     }
 }
 
-fn write_piece(kind: u32, source: &[u8], x: Piece, out: &mut [u8], start: usize) -> Wrote {
+fn write_piece(kind: u32, source: &[u8], x: Piece, buf: &mut [u8], start: usize) -> Wrote {
     if kind == WORDS {
-        return xdr::write_words(source, x, out, start);
+        return xdr::write_words(source, x, buf, start);
     }
-    xdr::write_opaque(source, x, out, start)
+    xdr::write_opaque(source, x, buf, start)
 }
 
-fn write_into(kind: u32, source: &[u8], x: Piece, out: &mut [u8], start: usize) {
-    make::empty(out);
-    wrote(write_piece(kind, source, x, out, start));
-    print::end(out);
+fn write_into(
+    kind: u32,
+    source: &[u8],
+    x: Piece,
+    buf: &mut [u8],
+    start: usize,
+    out: &mut [u8],
+    at: Out,
+) -> Out {
+    make::empty(buf);
+    let w = write_piece(kind, source, x, buf, start);
+    let n = wrote(out, at, w);
+    print::end(out, n, buf)
+}
+
+fn write_words(
+    out: &mut [u8],
+    at: Out,
+    kind: u32,
+    length: usize,
+    x: Piece,
+    n: usize,
+    start: usize,
+) -> Out {
+    let m = say(out, at, b"write");
+    let m = kind_word(out, m, kind);
+    let m = print::three(out, m, length, x.at, x.count);
+    let m = print::two(out, m, n, start);
+    say(out, m, b":")
 }
 
 // A piece of a source, written into a buffer of `n` bytes.
@@ -114,39 +148,48 @@ pub(crate) fn write(
     start: usize,
     message: &mut [u8],
     room: &mut [u8],
-) {
-    print::say(b"write");
-    kind_word(kind);
-    print::number(length);
-    print::number(piece);
-    print::number(count);
-    print::number(n);
-    print::number(start);
-    print::say(b":");
+    out: &mut [u8],
+    at: Out,
+) -> Out {
+    let x = Piece { at: piece, count };
+    let m = write_words(out, at, kind, length, x, n, start);
     if room.len() < n {
-        return;
+        return m;
     }
     make::rule(message);
-    let x = Piece { at: piece, count };
-    write_into(kind, front(message, length), x, &mut room[0..n], start);
+    write_into(
+        kind,
+        front(message, length),
+        x,
+        &mut room[0..n],
+        start,
+        out,
+        m,
+    )
 }
 
-fn caller(c: Caller) {
+fn caller(out: &mut [u8], at: Out, c: Caller) -> Out {
     match c {
-        Caller::Unnamed => print::say(b" none"),
+        Caller::Unnamed => say(out, at, b" none"),
         Caller::Unix(a) => {
             let gids = a.gids;
-            print::number(gids.at);
-            print::number(gids.count);
+            let n = print::number(out, at, gids.at);
+            print::number(out, n, gids.count)
         }
     }
 }
 
-fn chosen(c: Choice) {
+fn call_words(out: &mut [u8], at: Out, prog: u32, vers: u32, proc: u32, arguments: usize) -> Out {
+    let n = say(out, at, b" handover");
+    let n = print::three(out, n, prog as usize, vers as usize, proc as usize);
+    print::number(out, n, arguments)
+}
+
+fn chosen(out: &mut [u8], at: Out, c: Choice) -> Out {
     match c {
-        Choice::Refused(r) => print::refusal(r),
-        Choice::Replied(_) => print::say(b" reply"),
-        Choice::Silent => print::say(b" silence"),
+        Choice::Refused(r) => print::refusal(out, at, r),
+        Choice::Replied(_) => say(out, at, b" reply"),
+        Choice::Silent => say(out, at, b" silence"),
         Choice::HandOver {
             prog,
             vers,
@@ -154,31 +197,38 @@ fn chosen(c: Choice) {
             caller: who,
             arguments,
         } => {
-            print::say(b" handover");
-            print::number(prog as usize);
-            print::number(vers as usize);
-            print::number(proc as usize);
-            print::number(arguments);
-            caller(who);
+            let n = call_words(out, at, prog, vers, proc, arguments);
+            caller(out, n, who)
         }
     }
 }
 
-fn choose_into(message: &[u8], out: &mut [u8]) {
-    make::empty(out);
-    chosen(rpcwire::choose(message, false, out));
-    print::end(out);
+fn choose_into(message: &[u8], buf: &mut [u8], out: &mut [u8], at: Out) -> Out {
+    make::empty(buf);
+    let c = rpcwire::choose(message, false, buf);
+    let n = chosen(out, at, c);
+    print::end(out, n, buf)
+}
+
+fn choose_words(out: &mut [u8], at: Out, flavor: u32, length: usize) -> Out {
+    let n = say(out, at, b"choose");
+    let n = print::two(out, n, flavor as usize, length);
+    say(out, n, b":")
 }
 
 // A call with a credential of a flavor, for its program.
-pub(crate) fn choose(flavor: u32, length: usize, message: &mut [u8], room: &mut [u8]) {
-    print::say(b"choose");
-    print::number(flavor as usize);
-    print::number(length);
-    print::say(b":");
+pub(crate) fn choose(
+    flavor: u32,
+    length: usize,
+    message: &mut [u8],
+    room: &mut [u8],
+    out: &mut [u8],
+    at: Out,
+) -> Out {
+    let n = choose_words(out, at, flavor, length);
     if room.len() < 24 {
-        return;
+        return n;
     }
     make::call(message, flavor);
-    choose_into(front(message, length), &mut room[0..24]);
+    choose_into(front(message, length), &mut room[0..24], out, n)
 }

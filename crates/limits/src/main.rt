@@ -9,15 +9,16 @@ mod print;
 mod records;
 
 use cases::Case;
+use stdio::Out;
 
-fn ask(c: Case, message: &mut [u8], room: &mut [u8]) {
+fn ask(c: Case, message: &mut [u8], room: &mut [u8], out: &mut [u8], at: Out) -> Out {
     match c {
         Case::Read {
             kind,
             first,
-            at,
+            at: place,
             length,
-        } => items::read(kind, first, at, length, message, room),
+        } => items::read(kind, first, place, length, message, room, out, at),
         Case::Write {
             kind,
             length,
@@ -25,9 +26,9 @@ fn ask(c: Case, message: &mut [u8], room: &mut [u8]) {
             count,
             room: n,
             start,
-        } => items::write(kind, length, piece, count, n, start, message, room),
-        Case::Choose { flavor, length } => items::choose(flavor, length, message, room),
-        Case::Fresh { capacity } => records::fresh(capacity),
+        } => items::write(kind, length, piece, count, n, start, message, room, out, at),
+        Case::Choose { flavor, length } => items::choose(flavor, length, message, room, out, at),
+        Case::Fresh { capacity } => records::fresh(capacity, out, at),
         Case::Feed {
             capacity,
             first,
@@ -35,26 +36,29 @@ fn ask(c: Case, message: &mut [u8], room: &mut [u8]) {
             a,
             b,
             c,
-        } => records::feed(capacity, first, second, a, b, c, message, room),
-        Case::State { capacity } => records::state(capacity, message, room),
+        } => records::feed(capacity, first, second, a, b, c, message, room, out, at),
+        Case::State { capacity } => records::state(capacity, message, room, out, at),
         Case::Fragment {
             length,
             room: n,
             start,
-        } => records::fragment(length, n, start, message, room),
+        } => records::fragment(length, n, start, message, room, out, at),
     }
 }
 
-fn ask_all(message: &mut [u8], room: &mut [u8]) {
+fn ask_all(message: &mut [u8], room: &mut [u8], out: &mut [u8]) {
+    let mut at = Out::new();
     let mut i = 0;
     while i < cases::COUNT {
-        ask(cases::question(i), message, room);
+        at = ask(cases::question(i), message, room, out, at);
         i += 1;
     }
+    stdio::flush(out, at);
 }
 
 fn main() {
     let mut message = make::largest();
     let mut room = make::largest();
-    ask_all(&mut message, &mut room);
+    let mut out = io::buffer();
+    ask_all(&mut message, &mut room, &mut out);
 }

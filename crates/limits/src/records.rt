@@ -5,18 +5,24 @@ use crate::print;
 use rpcwire::Assembler;
 use rpcwire::AssemblerMade;
 use rpcwire::Fed;
+use stdio::Out;
+use stdio::say;
 use xdr::Piece;
 
-// A state of some capacity.
-pub(crate) fn fresh(capacity: usize) {
-    print::say(b"fresh");
-    print::number(capacity);
-    print::say(b":");
-    match rpcwire::fresh_assembler(capacity) {
-        AssemblerMade::Refused(r) => print::refusal(r),
-        AssemblerMade::Ready(_) => print::say(b" ready"),
+fn made(out: &mut [u8], at: Out, m: AssemblerMade) -> Out {
+    match m {
+        AssemblerMade::Refused(r) => print::refusal(out, at, r),
+        AssemblerMade::Ready(_) => say(out, at, b" ready"),
     }
-    print::say(b"\n");
+}
+
+// A state of some capacity.
+pub(crate) fn fresh(capacity: usize, out: &mut [u8], at: Out) -> Out {
+    let n = say(out, at, b"fresh");
+    let n = print::number(out, n, capacity);
+    let n = say(out, n, b":");
+    let n = made(out, n, rpcwire::fresh_assembler(capacity));
+    say(out, n, b"\n")
 }
 
 fn of_capacity(capacity: usize) -> Assembler {
@@ -31,59 +37,120 @@ fn of_capacity(capacity: usize) -> Assembler {
     }
 }
 
-// Says what a feed answers, and gives the state that it leaves.
-fn fed(f: Fed) -> Assembler {
+// The state that a feed leaves, and where the output stands.
+struct Feeding {
+    state: Assembler,
+    at: Out,
+}
+
+// What a feed answers.
+fn fed(out: &mut [u8], at: Out, f: Fed) -> Feeding {
     match f {
         Fed::Refused {
             refusal,
             state,
             used,
         } => {
-            print::say(b" refused");
-            print::number(refusal.number() as usize);
-            print::number(used);
-            state
+            let n = say(out, at, b" refused");
+            let n = print::number(out, n, refusal.number() as usize);
+            Feeding {
+                state,
+                at: print::number(out, n, used),
+            }
         }
         Fed::More { state, used } => {
-            print::say(b" more");
-            print::number(used);
-            state
+            let n = say(out, at, b" more");
+            Feeding {
+                state,
+                at: print::number(out, n, used),
+            }
         }
         Fed::Complete {
             length,
             state,
             used,
         } => {
-            print::say(b" complete");
-            print::number(length);
-            print::number(used);
-            state
+            let n = say(out, at, b" complete");
+            let n = print::number(out, n, length);
+            Feeding {
+                state,
+                at: print::number(out, n, used),
+            }
         }
     }
 }
 
-// A run of the stream, if it is not empty.
-fn run(s: Assembler, stream: &[u8], at: usize, length: usize, buf: &mut [u8]) -> Assembler {
+// Feeds a run of the stream, if it is not empty.
+fn run(
+    f: Feeding,
+    stream: &[u8],
+    from: usize,
+    length: usize,
+    buf: &mut [u8],
+    out: &mut [u8],
+) -> Feeding {
     if length == 0 {
-        return s;
+        return f;
     }
-    fed(rpcwire::feed(s, xdr::part(stream, Piece { at, count: length }), buf))
+    let s = f.state;
+    let w = f.at;
+    let x = Piece {
+        at: from,
+        count: length,
+    };
+    let r = rpcwire::feed(s, xdr::part(stream, x), buf);
+    fed(out, w, r)
 }
 
-fn runs(stream: &[u8], a: usize, b: usize, c: usize, buf: &mut [u8]) {
+fn last_run(
+    f: Feeding,
+    stream: &[u8],
+    from: usize,
+    length: usize,
+    buf: &mut [u8],
+    out: &mut [u8],
+) -> Out {
+    let g = run(f, stream, from, length, buf, out);
+    let w = g.at;
+    print::end(out, w, buf)
+}
+
+// The runs of a stream of which the first, of `a` bytes, is fed.
+fn more_runs(
+    f: Feeding,
+    stream: &[u8],
+    a: usize,
+    b: usize,
+    c: usize,
+    buf: &mut [u8],
+    out: &mut [u8],
+) -> Out {
     if stream.len() < a {
-        return;
+        return f.at;
     }
     if stream.len() - a < b {
-        return;
+        return f.at;
     }
-    let third = a + b;
+    let g = run(f, stream, a, b, buf, out);
+    last_run(g, stream, a + b, c, buf, out)
+}
+
+fn runs(
+    stream: &[u8],
+    a: usize,
+    b: usize,
+    c: usize,
+    buf: &mut [u8],
+    out: &mut [u8],
+    at: Out,
+) -> Out {
     make::empty(buf);
-    let s = of_capacity(buf.len());
-    let s = run(s, stream, 0, a, buf);
-    let s = run(s, stream, a, b, buf);
-    run(s, stream, third, c, buf);
-    print::end(buf);
+    let f = Feeding {
+        state: of_capacity(buf.len()),
+        at,
+    };
+    let g = run(f, stream, 0, a, buf, out);
+    more_runs(g, stream, a, b, c, buf, out)
 }
 
 // The header of a last fragment.
@@ -102,10 +169,29 @@ fn headers(stream: &mut [u8], first: u32, second: u32) {
     make::word(stream, 4 + first as usize, last(second));
 }
 
-fn length_word(n: usize) {
-    if n != 0 {
-        print::number(n);
+fn length_word(out: &mut [u8], at: Out, n: usize) -> Out {
+    if n == 0 {
+        return at;
     }
+    print::number(out, at, n)
+}
+
+fn feed_words(
+    out: &mut [u8],
+    at: Out,
+    capacity: usize,
+    first: u32,
+    second: u32,
+    a: usize,
+    b: usize,
+    c: usize,
+) -> Out {
+    let n = say(out, at, b"feed");
+    let n = print::three(out, n, capacity, first as usize, second as usize);
+    let n = length_word(out, n, a);
+    let n = length_word(out, n, b);
+    let n = length_word(out, n, c);
+    say(out, n, b":")
 }
 
 // A stream in three runs, of which the last two may be empty, fed into a buffer of that capacity.
@@ -118,55 +204,80 @@ pub(crate) fn feed(
     c: usize,
     stream: &mut [u8],
     room: &mut [u8],
-) {
-    print::say(b"feed");
-    print::number(capacity);
-    print::number(first as usize);
-    print::number(second as usize);
-    length_word(a);
-    length_word(b);
-    length_word(c);
-    print::say(b":");
+    out: &mut [u8],
+    at: Out,
+) -> Out {
+    let n = feed_words(out, at, capacity, first, second, a, b, c);
     if room.len() < capacity {
-        return;
+        return n;
     }
     headers(stream, first, second);
-    runs(stream, a, b, c, &mut room[0..capacity]);
+    runs(stream, a, b, c, &mut room[0..capacity], out, n)
+}
+
+fn state_words(out: &mut [u8], at: Out, capacity: usize) -> Out {
+    let n = say(out, at, b"state");
+    let n = print::number(out, n, capacity);
+    say(out, n, b":")
+}
+
+fn state_into(stream: &[u8], buf: &mut [u8], out: &mut [u8], at: Out) -> Out {
+    let f = Feeding {
+        state: of_capacity(buf.len()),
+        at,
+    };
+    let g = run(f, stream, 0, 4, buf, out);
+    let w = g.at;
+    say(out, w, b"\n")
 }
 
 // A state of some capacity, with a buffer of as many bytes.
-pub(crate) fn state(capacity: usize, stream: &mut [u8], room: &mut [u8]) {
-    print::say(b"state");
-    print::number(capacity);
-    print::say(b":");
+pub(crate) fn state(
+    capacity: usize,
+    stream: &mut [u8],
+    room: &mut [u8],
+    out: &mut [u8],
+    at: Out,
+) -> Out {
+    let n = state_words(out, at, capacity);
     if room.len() < capacity {
-        return;
+        return n;
     }
     make::rule(stream);
-    run(of_capacity(capacity), stream, 0, 4, &mut room[0..capacity]);
-    print::say(b"\n");
+    state_into(stream, &mut room[0..capacity], out, n)
 }
 
-fn fragment_into(message: &[u8], out: &mut [u8], start: usize) {
-    make::empty(out);
-    items::wrote(rpcwire::write_fragment(message, out, start));
-    print::end(out);
+fn fragment_into(message: &[u8], buf: &mut [u8], start: usize, out: &mut [u8], at: Out) -> Out {
+    make::empty(buf);
+    let w = rpcwire::write_fragment(message, buf, start);
+    let n = items::wrote(out, at, w);
+    print::end(out, n, buf)
+}
+
+fn fragment_words(out: &mut [u8], at: Out, length: usize, n: usize, start: usize) -> Out {
+    let m = say(out, at, b"fragment");
+    let m = print::three(out, m, length, n, start);
+    say(out, m, b":")
 }
 
 // A message written as one fragment into a buffer of `n` bytes.
-pub(crate) fn fragment(length: usize, n: usize, start: usize, message: &mut [u8], room: &mut [u8]) {
-    print::say(b"fragment");
-    print::number(length);
-    print::number(n);
-    print::number(start);
-    print::say(b":");
+pub(crate) fn fragment(
+    length: usize,
+    n: usize,
+    start: usize,
+    message: &mut [u8],
+    room: &mut [u8],
+    out: &mut [u8],
+    at: Out,
+) -> Out {
+    let m = fragment_words(out, at, length, n, start);
     if room.len() < n {
-        return;
+        return m;
     }
     make::rule(message);
     let x = Piece {
         at: 0,
         count: length,
     };
-    fragment_into(xdr::part(message, x), &mut room[0..n], start);
+    fragment_into(xdr::part(message, x), &mut room[0..n], start, out, m)
 }

@@ -23,5 +23,5 @@ pub record Decimal (word : List ℕ) (n : ℕ) : Type 0 where
 
 -- the contract of `decimal`: the number that the word stands for, or that it stands for none of 64 bits
 abbrev pub Reads : List ℕ → Number → Type 0
-Reads word (Is n) = Decimal word n
+Reads word (Is n) = (n < 2 ^ 64) × Decimal word n
 Reads word None = (n : ℕ) → n < 2 ^ 64 → Decimal word n → ⊥

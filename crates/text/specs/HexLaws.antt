@@ -7,7 +7,7 @@ use Prim.Native.Nat.{ℕ, zero, suc, _+_, _-_, _*_, _%_, _≤_, _<_}
 use native.Mathlib.Nat.{le-antisymm, not-suc-le-zero, le-of-suc-le-suc}
 use native.Mathlib.Numerals.{add-one}
 use native.Mathlib.Omega.{arith}
-use lib.ListN.{length, take, set, getD}
+use lib.ListN.{length, take, drop, set, getD}
 use lib.Seq.{take-all, take-suc, take-suc-set}
 use borrow.Author.Tests.{lt-ltb, le-ltb, le-leb, lt-leb}
 use mathlib.Core.Bool.{Bool, true, false}
@@ -88,8 +88,11 @@ spelled-whole word out i n a b e s =
 pub never : {A : Type 0} → _≡_ {A = Bool} true false → A
 never e = absurd (let z : _≡_ {A = ℕ} 0 1 = cc in omega arith)
 
-pub refuses : {word out : List ℕ} {r : Unhexed} → r .good ≡ false → r .count ≡ 0 → ((bytes : List ℕ) → length bytes ≤ length out → Hex word bytes → ⊥) → Unhexes word r out
-refuses g z f = record { within = omega arith; yes = λ t. absurd (let e : _≡_ {A = ℕ} 0 1 = cc in omega arith); no = λ t. f }
+pub refuses : {word out : List ℕ} {r : Unhexed} → r .good ≡ false → r .count ≡ 0 → ((bytes : List ℕ) → length bytes ≤ length out → Hex word bytes → ⊥) → Unhexes word out r out
+refuses g z f = record { long = refl; within = omega arith; rest = refl; yes = λ t. absurd (let e : _≡_ {A = ℕ} 0 1 = cc in omega arith); no = λ t. (z, f) }
+
+pub takes : {word out after : List ℕ} {r : Unhexed} (n : ℕ) → r .good ≡ true → r .count ≡ n → length after ≡ length out → n ≤ length after → drop n after ≡ drop n out → Hex word (take n after) → Unhexes word out r after
+takes n g e l w d h = record { long = l; within = rw e w; rest = rw e d; yes = λ t. rw e h; no = λ f. never (sym g ∙ f) }
 
 -- a word of no character
 pub empty-no : {word bytes : List ℕ} → length word ≡ 0 → Hex word bytes → ⊥
@@ -117,5 +120,5 @@ odd-no h e x = omega (arith, spells-length (long h x))
 pub room-no : {word bytes : List ℕ} (n : ℕ) → 1 < length word → n * 2 ≤ length word → length bytes < n → Hex word bytes → ⊥
 room-no n h e l x = omega (arith, spells-length (long h x))
 
-pub digit-no : {word bytes : List ℕ} (k : ℕ) → 1 < length word → k < length word → digitOf (getD word k 0) ≡ 16 → Hex word bytes → ⊥
-digit-no k h l e x = omega (arith, spells-digit (long h x) k l)
+pub digit-no : {word bytes : List ℕ} (k : ℕ) → k < length word → digitOf (getD word k 0) ≡ 16 → Spells word bytes → ⊥
+digit-no k l e x = omega (arith, spells-digit x k l)

@@ -17,4 +17,4 @@ answer-all-spec =
     (tie.spec
     Inv-loop μ-loop (search needs) (search needs) (search needs) (search needs) (search needs) (search needs) (search needs) (search needs)
     (search needs) (search needs) (search needs) (search needs) (search needs) (search needs) (search needs) (search needs) (search needs)
-    (search needs) (search needs))
+    (search needs) (search needs) (search needs))

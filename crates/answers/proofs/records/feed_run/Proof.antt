@@ -6,10 +6,10 @@ use Rattle.answers.proofs.records.feed_run.Statement.{statement}
 use Rattle.answers.proofs.records.feed_run.Tie as tie
 
 abbrev Inv-loop : tie.InvT-loop
-Inv-loop run buf₀ out₀ at f₀ i₀ buf out f i = (length buf ≡ length buf₀) × (length out ≡ length out₀)
+Inv-loop run buf₀ out₀ f₀ i₀ buf out f i = (length buf ≡ length buf₀) × (length out ≡ length out₀)
 
 abbrev μ-loop : tie.MeasureT-loop
-μ-loop run buf₀ out₀ at f₀ i₀ buf out f i = length run - i
+μ-loop run buf₀ out₀ f₀ i₀ buf out f i = length run - i
 
 pub feed-run-spec : {M : Type 1} → statement M
 feed-run-spec =

@@ -1,24 +1,23 @@
 use borrow.Author.Needs.{needs}
 use native.Mathlib.Omega.{arith}
 use mathlib.Core.Path.{_≡_}
-use Prim.Native.Nat.{_≤_, _-_, _+_, _*_}
-use lib.ListN.{length, length-set}
+use Prim.Native.Nat.{_-_, _+_}
+use lib.ListN.{length}
 use Rattle.answers.proofs.records.feed_runs.Statement.{statement}
 use Rattle.answers.proofs.records.feed_runs.Tie as tie
 
 abbrev Inv-loop : tie.InvT-loop
-Inv-loop line start message₀ buf₀ out₀ at n s₀ f₀ message buf out s f = (length message ≡ length message₀) × (length buf ≡ length buf₀) × (length out ≡ length out₀)
+Inv-loop line start message₀ buf₀ out₀ f₀ s₀ message buf out f s = (length message ≡ length message₀) × (length buf ≡ length buf₀) × (length out ≡ length out₀)
 
 abbrev μ-loop : tie.MeasureT-loop
-μ-loop line start message₀ buf₀ out₀ at n s₀ f₀ message buf out s f = (length line + 1) - s
+μ-loop line start message₀ buf₀ out₀ f₀ s₀ message buf out f s = (length line + 1) - s
 
 loop-less : tie.Need-loop-less Inv-loop μ-loop
-loop-less c = let t = c .before .before .before .before .before .before .before .before .before .before .before .before .before .before .before .before .before .before .before .before .loop-test .taken in omega (arith, c .before .before .before .before .before .before .before .before .before .before .before .before .before .before .before .bytes-at2 .ensures .1 t)
+loop-less c = omega (arith, c .after2 .ensures (c .before .before .before .before .before .before .before .before .before .before .before .before .before .before .before .before .before .before .before .loop-test .taken))
 
 pub feed-runs-spec : {M : Type 1} → statement M
 feed-runs-spec =
     tie.close
     (tie.spec
     Inv-loop μ-loop (search needs) (search needs) (search needs) (search needs) (search needs) (search needs) (search needs) (search needs)
-    (search needs) (search needs) (search needs) (search needs) (search needs) (search needs) (search needs) (search needs) loop-less
-    (search needs) (search needs) (search needs) (search needs) (search needs))
+    (search needs) (search needs) loop-less (search needs) (search needs) (search needs) (search needs) (search needs))
