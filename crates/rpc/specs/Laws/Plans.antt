@@ -19,6 +19,7 @@ use Rattle.rpc.specs.Meaning.Reply.{mismatch-info, acceptArms, seeAccept
 use Rattle.rpc.specs.Meaning.Message.{call-body, bodyBranches, holdBody, rpc-body, rpc-msg}
 use Rattle.rpc.specs.Meaning.Views as views
 
+-- f reads as P plans
 abbrev pub Reads : {T : Type 0} → (List ℕ → ℕ → Answer T) → Prog T → Type 0
 Reads {T} f P = (s : List ℕ) (p : ℕ) (z : Answer T) → z ≡ run P s p true → z ≡ f s p
 
