@@ -9,6 +9,9 @@ use lib.ListN.{length, take, drop, replicate, length-append, length-drop}
 use lib.Seq.{sets, drop-append-add, length-take-le}
 use borrow.Rule.Slice.PartMut.{midOf, putMid}
 use lib.IntN.{ℤ}
+use mir.Syntax.{w32, w64}
+use mir.Val.{SFits, toZ, ofZ}
+use mir.ValLaws.{toZ-ofZ}
 use Rattle.xdr.specs.Meaning.Bytes.{padding, unsigned}
 use Rattle.xdr.specs.Meaning.Items.{number, word, hyper, flag, int, long, opaque}
 use Rattle.xdr.specs.Meaning.Pieces.{opaqueSize}
@@ -107,3 +110,10 @@ int-bytes v e = ap (number 4 .kind .write) e
 pub long-bytes : (v : ℤ) {n : ℕ} → n ≡ unsigned 9223372036854775808 v → hyper .kind .write n ≡ long .kind .write v
 unfolding hyper long
 long-bytes v e = ap (number 8 .kind .write) e
+
+-- the same, where a signed number was stored
+pub int-stored : (v : ℤ) (n : ℕ) → SFits w32 v → n ≡ unsigned 2147483648 (toZ w32 (ofZ w32 v)) → word .kind .write n ≡ int .kind .write v
+int-stored v n h e = int-bytes v (e ∙ ap (unsigned 2147483648) (toZ-ofZ w32 v h))
+
+pub long-stored : (v : ℤ) (n : ℕ) → SFits w64 v → n ≡ unsigned 9223372036854775808 (toZ w64 (ofZ w64 v)) → hyper .kind .write n ≡ long .kind .write v
+long-stored v n h e = long-bytes v (e ∙ ap (unsigned 9223372036854775808) (toZ-ofZ w64 v h))
