@@ -94,6 +94,24 @@ words-laid b o n h {z₁} {o₁} e₁ f₁ e₂ =
     field (subst (λ y. Put o y 4 (word .kind .write n)) (sym f₁) (lent-first (word .kind .write n) (omega arith) (word-length n) e₁)) (omega arith)
     (copy-put e₂)
 
+-- both as a function leaves them that lends the tail from a place on
+abbrev pub back : ℕ → List ℕ → List ℕ → List ℕ
+back n ys zs = putMid n (length ys - n) ys zs
+
+abbrev pub tail : ℕ → List ℕ → List ℕ
+tail n ys = midOf n (length ys - n) ys
+
+module _ (b o y z : List ℕ) where
+  pub opaque-lies : (x : List ℕ) → opaqueSize (length b) ≤ length o → x ≡ laid (word .kind .write 0) (tail ((length b + 3) / 4 * 4) o)
+      → y ≡ laid (word .kind .write (length b)) (tail 0 (back ((length b + 3) / 4 * 4) o x))
+      → z ≡ take (length b) b ++ drop (length b) (tail 4 (back 0 (back ((length b + 3) / 4 * 4) o x) y))
+      → Put o (back 4 (back 0 (back ((length b + 3) / 4 * 4) o x) y) z) (opaqueSize (length b)) (opaque .kind .write b)
+  opaque-lies x h e f g = opaque-laid b o _ refl h e refl f refl g
+
+  pub words-lie : (n : ℕ) → 4 + length b ≤ length o → y ≡ laid (word .kind .write n) (tail 0 o) → z ≡ take (length b) b ++ drop (length b) (tail 4 (back 0 o y))
+      → Put o (back 4 (back 0 o y) z) (4 + length b) (word .kind .write n ++ b)
+  words-lie n h f g = words-laid b o n h f refl g
+
 -- items that are written as a number
 pub true-bytes : {v : Bool} → v ≡ true → word .kind .write 1 ≡ flag .kind .write v
 unfolding flag
