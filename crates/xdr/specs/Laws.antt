@@ -44,3 +44,4 @@ pub mod Pairs
 pub mod Keys
 pub mod Unions
 pub mod Putting
+pub mod ByNumber

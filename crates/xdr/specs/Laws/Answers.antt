@@ -131,18 +131,18 @@ module _ (s : List ℕ) (p : ℕ) where
   unfolding word int
   int-took e f = rw (e, f)
 
-  pub int-refused : {r : Refusal} → word .kind .read s p ≡ refused r → refused r ≡ int .kind .read s p
+  pub int-refused : (r : Refusal) → word .kind .read s p ≡ refused r → refused r ≡ int .kind .read s p
   unfolding word int
-  int-refused f = rw f
+  int-refused r f = rw f
 
   pub long-took : {v n : ℕ} {b : Bool} {z : ℤ} → z ≡ signed 9223372036854775808 v → hyper .kind .read s p ≡ took v n b
       → took z n b ≡ long .kind .read s p
   unfolding hyper long
   long-took e f = rw (e, f)
 
-  pub long-refused : {r : Refusal} → hyper .kind .read s p ≡ refused r → refused r ≡ long .kind .read s p
+  pub long-refused : (r : Refusal) → hyper .kind .read s p ≡ refused r → refused r ≡ long .kind .read s p
   unfolding hyper long
-  long-refused f = rw f
+  long-refused r f = rw f
 
   flag-by : (v n : ℕ) → word .kind .read s p ≡ took v n true → took (not (eqb v 0)) n (ltb v 2) ≡ flag .kind .read s p
   unfolding flag
@@ -155,9 +155,9 @@ module _ (s : List ℕ) (p : ℕ) where
   pub flag-took : {v n : ℕ} → word .kind .read s p ≡ took v n true → took (not (eqb v 0)) n (ltb v 2) ≡ flag .kind .read s p
   flag-took {v} {n} f = flag-by v n f
 
-  pub flag-refused : {r : Refusal} → word .kind .read s p ≡ refused r → refused r ≡ flag .kind .read s p
+  pub flag-refused : (r : Refusal) → word .kind .read s p ≡ refused r → refused r ≡ flag .kind .read s p
   unfolding flag
-  flag-refused f = rw f
+  flag-refused r f = rw f
 
   eight-by : (x : Answer ℕ) → hyper .kind .read s p ≡ x → x ≡ eightHeld .read s p
   unfolding eightHeld
@@ -172,16 +172,16 @@ module _ (s : List ℕ) (p : ℕ) where
   unfolding pieceHeld
   piece-took f = let w = word-within f in rw (w .1, le-leb 4 (length s - p) (w .0))
 
-  pub piece-refused : {r : Refusal} → word .kind .read s p ≡ refused r → refused r ≡ pieceHeld .read s p
+  pub piece-refused : (r : Refusal) → word .kind .read s p ≡ refused r → refused r ≡ pieceHeld .read s p
   unfolding pieceHeld word
-  piece-refused f =
+  piece-refused r f =
       let w = number-without 4 s p f in
       let e : _≡_ {A = Answer ℕ} (refused _) (refused (Ended p)) = w .1 in
       rw (lt-leb 4 (length s - p) (w .0)) (cc e)
 
-  pub words-refused : {r : Refusal} → word .kind .read s p ≡ refused r → refused r ≡ wordsHeld .read s p
+  pub words-refused : (r : Refusal) → word .kind .read s p ≡ refused r → refused r ≡ wordsHeld .read s p
   unfolding wordsHeld word
-  words-refused f =
+  words-refused r f =
       let w = number-without 4 s p f in
       let e : _≡_ {A = Answer ℕ} (refused _) (refused (Ended p)) = w .1 in
       rw (lt-leb 4 (length s - p) (w .0)) (cc e)

@@ -4,14 +4,16 @@ use mathlib.Core.Path.{_≡_, sym, ap, ap₂, _∙_}
 use mathlib.Core.List.{List, _++_, append-assoc}
 use Prim.Native.Nat.{ℕ, _+_, _-_, _≤_}
 use native.Mathlib.Omega.{arith}
-use lib.ListN.{length, take, drop, take-append-drop, length-append, length-drop}
+use lib.ListN.{length, getD, take, drop, take-append-drop, length-append, length-drop}
 use lib.Seq.{length-take-le, take-all, take-length, take-append-le, take-take, drop-append-add, drop-drop, take-add}
+use mir.Syntax.{w8}
+use mir.Val.{Fits}
 use borrow.Rule.Slice.PartMut.{midOf, putMid}
 use Rattle.xdr.specs.Meaning.Bytes.{Bytes, digits, numberAt}
 use Rattle.xdr.specs.Meaning.Items.{hyper}
 use Rattle.xdr.specs.Meaning.Public.{laid}
 use Rattle.xdr.specs.Laws.Digits.{digits-value, value-at}
-use Rattle.xdr.specs.Laws.Lists.{bytes-take, bytes-drop}
+use Rattle.xdr.specs.Laws.Lists.{bytes-take, bytes-drop, known-bytes}
 use Rattle.xdr.specs.Laws.Write.{lent-first, laid-at}
 
 -- the number that bytes write is written as those bytes
@@ -27,6 +29,17 @@ module _ (k : ℕ) (s : List ℕ) (p : ℕ) (b : Bytes s) (h : p + k ≤ length 
 pub eight-digits : (s : List ℕ) (p : ℕ) → Bytes s → p + 8 ≤ length s → {v : ℕ} → v ≡ numberAt 8 s p → hyper .kind .write v ≡ take 8 (drop p s)
 unfolding hyper
 eight-digits s p b h e = ap (digits 8) e ∙ run-digits 8 s p b h
+
+-- the same of a slice, whose rule gives that it is bytes
+pub eight-known : (s : List ℕ) (p v : ℕ) → ((i : ℕ) → Fits w8 (getD s i 0)) → p + 8 ≤ length s → v ≡ numberAt 8 s p → hyper .kind .write v ≡ take 8 (drop p s)
+eight-known s p v given h e = eight-digits s p (known-bytes s given) h e
+
+-- a run inside is as long as it is to be
+pub run-size : (k m : ℕ) (s : List ℕ) (p : ℕ) → p + m ≤ length s → k ≤ m → k ≡ length (take k (drop p s))
+run-size k m s p h l = sym (length-take-le k (drop p s) (omega (arith, length-drop p s)))
+
+pub run-behind : (k j m : ℕ) (s : List ℕ) (p : ℕ) → p + m ≤ length s → j + k ≤ m → k ≡ length (take k (drop (p + j) s))
+run-behind k j m s p h l = sym (length-take-le k (drop (p + j) s) (omega (arith, length-drop (p + j) s)))
 
 -- two runs one behind the other
 pub two-runs : (i j : ℕ) (s : List ℕ) (p : ℕ) → take i (drop p s) ++ take j (drop (p + i) s) ≡ take (i + j) (drop p s)

@@ -9,9 +9,9 @@ use lib.ListN.{length, length-append}
 use Rattle.xdr.specs.Meaning.Answer.{Answer, took, refused}
 use Rattle.xdr.specs.Meaning.Kind.{Codec}
 use Rattle.xdr.specs.Meaning.Sizes.{OfSize}
-use Rattle.xdr.specs.Meaning.Combinators.{Seen, means, undeclared, second, first, meant, look}
-use Rattle.xdr.specs.Meaning.Codecs.{_⨾_, seen, exactView}
-use Rattle.xdr.specs.Meaning.Items.{word, hyper, word-pair, hyper-pair}
+use Rattle.xdr.specs.Meaning.Combinators.{Seen, means, undeclared, second, first, View, meant, look}
+use Rattle.xdr.specs.Meaning.Codecs.{_⨾_, view, seen, exactView}
+use Rattle.xdr.specs.Meaning.Items.{word, hyper, word-pair, hyper-pair, flag, int, long}
 use Rattle.xdr.specs.Meaning.Combinators.{Exact}
 use Rattle.xdr.specs.Laws.Answers.{word-within, number-within}
 use Rattle.xdr.specs.Laws.Padding.{word-length, hyper-length}
@@ -68,20 +68,37 @@ unfolding hyper-pair
 hyper-pair-fixed = pair-fixed hyper-fixed hyper-fixed
 
 -- seen as another
+module _ {M N : Type 0} {k : ℕ} {C : Codec M} (F : Fixed k C) (W : View M (C .kind .Good) N) where
+  view-meant : (s : List ℕ) (p q : ℕ) (b : Bool) → Spans s p k q → (y : Seen N) {m : N} {n : ℕ} {d : Bool}
+      → meant (C .kind) W p q b y ≡ took m n d → Spans s p k n
+  view-meant s p q b h (means x w) {m} {n} {d} g = let z : q ≡ n = cc in subst (Spans s p k) z h
+  view-meant s p q b h undeclared {m} {n} {d} g = let z : _≡_ {A = ℕ} 0 1 = cc in absurd (omega arith)
+
+  view-looked : (s : List ℕ) (p : ℕ) (x : Answer M) → C .kind .read s p ≡ x → {m : N} {n : ℕ} {d : Bool}
+      → look (C .kind) W p x ≡ took m n d → Spans s p k n
+  view-looked s p (took x q b) f g = view-meant s p q b (F .reads s p f) (W .see x) g
+  view-looked s p (refused r) f g = let z : _≡_ {A = ℕ} 0 1 = cc in absurd (omega arith)
+
+  pub view-fixed : Fixed k (view C W)
+  view-fixed = record { reads = λ s p e. view-looked s p (C .kind .read s p) refl e; writes = λ m. F .writes (W .to m) }
+
 module _ {M N : Type 0} {k : ℕ} {C : Codec M} (F : Fixed k C) (see : M → Seen N) (to : N → M) (exact : (x : M) → Exact (C .kind .Good) to x (see x))
     (see-to : (m : N) → see (to m) ≡ means m []) where
-  seen-meant : (s : List ℕ) (p q : ℕ) (b : Bool) → Spans s p k q → (y : Seen N) {m : N} {n : ℕ} {d : Bool}
-      → meant (C .kind) (exactView C see to exact see-to) p q b y ≡ took m n d → Spans s p k n
-  seen-meant s p q b h (means x w) {m} {n} {d} g = let z : q ≡ n = cc in subst (Spans s p k) z h
-  seen-meant s p q b h undeclared {m} {n} {d} g = let z : _≡_ {A = ℕ} 0 1 = cc in absurd (omega arith)
-
-  seen-looked : (s : List ℕ) (p : ℕ) (x : Answer M) → C .kind .read s p ≡ x → {m : N} {n : ℕ} {d : Bool}
-      → look (C .kind) (exactView C see to exact see-to) p x ≡ took m n d → Spans s p k n
-  seen-looked s p (took x q b) f g = seen-meant s p q b (F .reads s p f) (see x) g
-  seen-looked s p (refused r) f g = let z : _≡_ {A = ℕ} 0 1 = cc in absurd (omega arith)
-
   pub seen-fixed : Fixed k (seen C see to exact see-to)
-  seen-fixed = record { reads = λ s p e. seen-looked s p (C .kind .read s p) refl e; writes = λ m. F .writes (to m) }
+  seen-fixed = view-fixed F (exactView C see to exact see-to)
+
+-- flags and signed numbers
+pub flag-fixed : Fixed 4 flag
+unfolding flag
+flag-fixed = seen-fixed word-fixed _ _ _ _
+
+pub int-fixed : Fixed 4 int
+unfolding word int
+int-fixed = view-fixed word-fixed _
+
+pub long-fixed : Fixed 8 long
+unfolding hyper long
+long-fixed = view-fixed hyper-fixed _
 
 -- such a kind is of that size
 pub of-size : {M : Type 0} {k : ℕ} {C : Codec M} → Fixed k C → OfSize k C

@@ -9,6 +9,9 @@ use lib.ListN.{length, take, drop, replicate, length-append, length-drop}
 use lib.Seq.{sets, drop-append-add, length-take-le}
 use borrow.Rule.Slice.PartMut.{midOf, putMid}
 use lib.IntN.{ℤ}
+use mir.Syntax.{w32, w64}
+use mir.Val.{SFits, toZ, ofZ}
+use mir.ValLaws.{toZ-ofZ}
 use Rattle.xdr.specs.Meaning.Bytes.{padding, unsigned}
 use Rattle.xdr.specs.Meaning.Items.{number, word, hyper, flag, int, long, opaque}
 use Rattle.xdr.specs.Meaning.Pieces.{opaqueSize}
@@ -91,6 +94,24 @@ words-laid b o n h {z₁} {o₁} e₁ f₁ e₂ =
     field (subst (λ y. Put o y 4 (word .kind .write n)) (sym f₁) (lent-first (word .kind .write n) (omega arith) (word-length n) e₁)) (omega arith)
     (copy-put e₂)
 
+-- both as a function leaves them that lends the tail from a place on
+abbrev pub back : ℕ → List ℕ → List ℕ → List ℕ
+back n ys zs = putMid n (length ys - n) ys zs
+
+abbrev pub tail : ℕ → List ℕ → List ℕ
+tail n ys = midOf n (length ys - n) ys
+
+module _ (b o y z : List ℕ) where
+  pub opaque-lies : (x : List ℕ) → opaqueSize (length b) ≤ length o → x ≡ laid (word .kind .write 0) (tail ((length b + 3) / 4 * 4) o)
+      → y ≡ laid (word .kind .write (length b)) (tail 0 (back ((length b + 3) / 4 * 4) o x))
+      → z ≡ take (length b) b ++ drop (length b) (tail 4 (back 0 (back ((length b + 3) / 4 * 4) o x) y))
+      → Put o (back 4 (back 0 (back ((length b + 3) / 4 * 4) o x) y) z) (opaqueSize (length b)) (opaque .kind .write b)
+  opaque-lies x h e f g = opaque-laid b o _ refl h e refl f refl g
+
+  pub words-lie : (n : ℕ) → 4 + length b ≤ length o → y ≡ laid (word .kind .write n) (tail 0 o) → z ≡ take (length b) b ++ drop (length b) (tail 4 (back 0 o y))
+      → Put o (back 4 (back 0 o y) z) (4 + length b) (word .kind .write n ++ b)
+  words-lie n h f g = words-laid b o n h f refl g
+
 -- items that are written as a number
 pub true-bytes : {v : Bool} → v ≡ true → word .kind .write 1 ≡ flag .kind .write v
 unfolding flag
@@ -107,3 +128,10 @@ int-bytes v e = ap (number 4 .kind .write) e
 pub long-bytes : (v : ℤ) {n : ℕ} → n ≡ unsigned 9223372036854775808 v → hyper .kind .write n ≡ long .kind .write v
 unfolding hyper long
 long-bytes v e = ap (number 8 .kind .write) e
+
+-- the same, where a signed number was stored
+pub int-stored : (v : ℤ) (n : ℕ) → SFits w32 v → n ≡ unsigned 2147483648 (toZ w32 (ofZ w32 v)) → word .kind .write n ≡ int .kind .write v
+int-stored v n h e = int-bytes v (e ∙ ap (unsigned 2147483648) (toZ-ofZ w32 v h))
+
+pub long-stored : (v : ℤ) (n : ℕ) → SFits w64 v → n ≡ unsigned 9223372036854775808 (toZ w64 (ofZ w64 v)) → hyper .kind .write n ≡ long .kind .write v
+long-stored v n h e = long-bytes v (e ∙ ap (unsigned 9223372036854775808) (toZ-ofZ w64 v h))

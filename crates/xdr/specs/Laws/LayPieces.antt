@@ -50,7 +50,7 @@ module _ (s : List ℕ) (x : Piece) where
 
   pub words-long : Bytes s → areInside s x ≡ true → length (output wordList s x) ≡ 4 + x .count * 4
   unfolding wordsHeld
-  words-long b i = words-length s x b i
+  words-long b i = words-length s x
 
   -- how many bytes a piece is written as
   pub bytes-size : {n : ℕ} → length s ≤ most → isInside s x ≡ true → n ≡ sizeUpTo (x .count) → length (output bytes s x) ≡ n

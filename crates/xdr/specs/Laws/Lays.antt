@@ -14,10 +14,13 @@ use Rattle.xdr.specs.Meaning.Format.{exactly}
 use Rattle.xdr.specs.Meaning.Order.{roomed}
 use Rattle.xdr.specs.Meaning.Public.{Writes, laid}
 use Rattle.xdr.specs.Meaning.Views.{viewWrote}
-use Rattle.xdr.specs.Meaning.Items.{flag}
-use Rattle.xdr.specs.Laws.Padding.{flag-length}
+use Rattle.xdr.specs.Meaning.Items.{hyper, flag}
+use Rattle.xdr.specs.Meaning.Formats.{eightBytes, eightHeld}
+use Rattle.xdr.specs.Laws.Padding.{flag-length, eight-length}
+use Rattle.xdr.specs.Laws.Ranges.{eight-good, eight-bytes}
+use Rattle.xdr.specs.Laws.Room.{room-off, room-laid}
 use Rattle.xdr.specs.Laws.Fixed.{Fixed}
-use Rattle.xdr.specs.Laws.Write.{laid-short, laid-is, laid-same, lent, lent-first}
+use Rattle.xdr.specs.Laws.Write.{Ready, laid-short, laid-is, laid-same, lent, lent-first}
 use Rattle.xdr.specs.Laws.Writers.{room-place, plain-off, plain-on}
 use Rattle.xdr.specs.declared.answer.Wrote.{Wrote}
 use Rattle.xdr.specs.declared.answer.Wrote.the-variants as wrote
@@ -80,3 +83,19 @@ module _ {M : Type 0} {k : ℕ} {C : Codec M} (F : Fixed k C) where
     pub fixed-on : (n : ℕ) (zs : List ℕ) → viewWrote w ≡ roomed (length o) at k → w ≡ wrote.Done n → k ≤ most → C .kind .Good x → zs ≡ laid (C .kind .write x) (tailOf at o)
         → Writes (exactly C) [] x at o (viewWrote w) (after at o zs)
     fixed-on n zs e f s g z = plain-on C (λ x. omega (arith, F .writes x)) x at o w k n zs (size-is x) e f g z
+
+-- eight bytes, held as the number that they write
+module _ (v at : ℕ) (o : List ℕ) (w : Wrote) where
+  eight-ready : Ready eightBytes [] v
+  unfolding eightHeld
+  eight-ready = record { short = omega arith; inside = refl }
+
+  pub eight-off : (q : Refusal) → v < 18446744073709551616 → viewWrote w ≡ roomed (length o) at 8 → w ≡ wrote.Refused q → Writes eightBytes [] v at o (viewWrote w) o
+  unfolding eightHeld
+  eight-off q h e f = room-off eightBytes [] v (eight-length v h) eight-ready (omega arith) at o e f
+
+  pub eight-on : (n : ℕ) (zs : List ℕ) → v < 18446744073709551616 → viewWrote w ≡ roomed (length o) at 8 → w ≡ wrote.Done n
+      → zs ≡ laid (hyper .kind .write v) (tailOf at o) → Writes eightBytes [] v at o (viewWrote w) (after at o zs)
+  unfolding eightHeld
+  eight-on n zs h e f z =
+      room-laid eightBytes [] v (eight-length v h) eight-ready (omega arith) at o (eight-good v h) e f (laid-same _ _ _ (eight-bytes v h) z)

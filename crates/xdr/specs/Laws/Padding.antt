@@ -93,8 +93,8 @@ module _ (s : List ℕ) (given : (i : ℕ) → getD s i 0 < 256) where
       let nx : p + 4 + m ≡ p + 4 + n + padding n = omega arith in
       rw (le-leb (4 + n + padding n) (length s - p) h, nx, eb, ew, c, z)
 
-  pub body-short : (p n : ℕ) → length s - p < 4 + n + padding n → refused (Ended p) ≡ pieceAnswer s p n
-  body-short p n h = simp (lt-leb (4 + n + padding n) (length s - p) h)
+pub body-short : (s : List ℕ) (p n : ℕ) → length s - p < 4 + n + padding n → refused (Ended p) ≡ pieceAnswer s p n
+body-short s p n h = simp (lt-leb (4 + n + padding n) (length s - p) h)
 
 -- how long items are
 pub word-length : (v : ℕ) → length (word .kind .write v) ≡ 4

@@ -1,6 +1,6 @@
 -- A word in the other order of its bytes.
 -- Assumes nothing.
-use mathlib.Core.Path.{_≡_, _∙_}
+use mathlib.Core.Path.{_≡_, ap₂, _∙_}
 use mathlib.Core.List.{List, [], _∷_, _++_}
 use Prim.Native.Nat.{ℕ, _+_, _*_, _<_, _/_, _%_}
 use native.Mathlib.Nat.{add-assoc, mul-one, add-zero, div-one}
@@ -8,7 +8,7 @@ use native.Mathlib.Omega.{arith}
 use lib.ListN.{getD}
 use Rattle.xdr.specs.Meaning.Bytes.{numberAt}
 use Rattle.xdr.specs.Meaning.Items.{number, word, hyper}
-use Rattle.xdr.specs.Laws.Digits.{digits-append}
+use Rattle.xdr.specs.Laws.Digits.{digits-append, number-halves}
 
 abbrev pub swapped : ℕ → ℕ
 swapped v = v % 256 * 16777216 + v / 256 % 256 * 65536 + v / 65536 % 256 * 256 + v / 16777216
@@ -34,10 +34,19 @@ module _ (a b c d : ℕ) (ha : a < 256) (hb : b < 256) (hc : c < 256) (hd : d < 
   swap-little = simp (byte-0, byte-1, byte-2, byte-3)
 
 -- four bytes of a source, read low byte first and swapped, are the word that they write
-pub word-swapped : (s : List ℕ) (p : ℕ) {a b c d : ℕ} → (a ≡ getD s p 0) × (a < 256) → (b ≡ getD s (p + 1) 0) × (b < 256)
+word-swapped : (s : List ℕ) (p : ℕ) {a b c d : ℕ} → (a ≡ getD s p 0) × (a < 256) → (b ≡ getD s (p + 1) 0) × (b < 256)
     → (c ≡ getD s (p + 2) 0) × (c < 256) → (d ≡ getD s (p + 3) 0) × (d < 256) → swapped (little a b c d) ≡ numberAt 4 s p
 word-swapped s p {a} {b} {c} {d} ea eb ec ed =
     swap-little a b c d (ea .1) (eb .1) (ec .1) (ed .1) ∙ simp (ea .0, eb .0, ec .0, ed .0, add-assoc, mul-one, add-zero)
+
+pub word-at : (s : List ℕ) (p r a b c d : ℕ) → r ≡ swapped (little a b c d) → (a ≡ getD s p 0) × (a < 256) → (b ≡ getD s (p + 1) 0) × (b < 256)
+    → (c ≡ getD s (p + 2) 0) × (c < 256) → (d ≡ getD s (p + 3) 0) × (d < 256) → r ≡ numberAt 4 s p
+word-at s p r a b c d e ea eb ec ed = e ∙ word-swapped s p ea eb ec ed
+
+-- a hyper is the number of its two words
+pub hyper-at : (s : List ℕ) (p x y a b : ℕ) → (x ≡ a) × (x < 4294967296) → (y ≡ b) × (y < 4294967296) → a ≡ numberAt 4 s p → b ≡ numberAt 4 s (p + 4)
+    → x * 4294967296 + y ≡ numberAt 8 s p
+hyper-at s p x y a b e f g h = ap₂ (λ x y. x * 4294967296 + y) (e .0 ∙ g) (f .0 ∙ h) ∙ number-halves s p
 
 -- the bytes of a word that was swapped, low byte first
 pub swapped-bytes : (v : ℕ) → v < 4294967296

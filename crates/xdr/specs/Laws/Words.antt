@@ -223,8 +223,15 @@ words-bytes s x b h =
     let k : x .at + x .count * 4 ≤ length s = words-le s x h in
     sym (ap₂ (λ n l. word .kind .write n ++ l) (how-many (x .count) s (x .at)) (times-bytes (x .count) s (x .at) b (omega arith)))
 
-pub words-length : (s : List ℕ) (x : Piece) → Bytes s → areInside s x ≡ true → length (words .kind .write (wordsIn s x)) ≡ 4 + x .count * 4
-words-length s x b h =
-    let k : x .at + x .count * 4 ≤ length s = words-le s x h in
-    ap length (sym (words-bytes s x b h)) ∙ length-append (word .kind .write (x .count)) (take (x .count * 4) (drop (x .at) s))
-    ∙ ap₂ (λ i j. i + j) (word-length (x .count)) (length-take-le (x .count * 4) (drop (x .at) s) (omega (arith, length-drop (x .at) s)))
+-- how long words are written, whatever they are
+times-long : (n : ℕ) (t : Tuple ℕ n) → length (times word n .kind .write t) ≡ n * 4
+times-long zero t = refl
+times-long (suc n) t =
+    length-append (word .kind .write (t .0)) (times word n .kind .write (t .1)) ∙ omega (arith, word-length (t .0), times-long n (t .1))
+
+pub words-length : (s : List ℕ) (x : Piece) → length (words .kind .write (wordsIn s x)) ≡ 4 + x .count * 4
+unfolding words
+words-length s x =
+    let t = fromList ℕ (wordsIn s x) in
+    length-append (word .kind .write (t .0)) (times word (t .0) .kind .write (t .1))
+    ∙ omega (arith, word-length (t .0), times-long (t .0) (t .1), how-many (x .count) s (x .at))

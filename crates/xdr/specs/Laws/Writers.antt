@@ -19,8 +19,10 @@ use Rattle.xdr.specs.Meaning.Views.{viewWrote}
 use Rattle.xdr.specs.Laws.Lists.{known-bytes}
 use Rattle.xdr.specs.Laws.Write.{Ready, no-pieces, put-same, lent-of, lent-of-first, of-outside, of-short, of-is}
 use Rattle.xdr.specs.Laws.LayPieces.{yes, no, bytes-size}
-use Rattle.xdr.specs.Meaning.Formats.{bytes, pieceHeld}
-use Rattle.xdr.specs.Meaning.Pieces.{sizeUpTo}
+use Rattle.xdr.specs.Meaning.Formats.{bytes, pieceHeld, wordList, wordsHeld}
+use Rattle.xdr.specs.Meaning.Pieces.{sizeUpTo, wordsUpTo}
+use Rattle.xdr.specs.Laws.Words.{words-le, words-length}
+use Rattle.xdr.specs.Laws.Padding.{words-within}
 use Rattle.xdr.specs.declared.piece.Piece.{Piece}
 use Rattle.xdr.specs.Laws.Room.{room-in, room-off, room-laid}
 use Rattle.xdr.specs.Laws.Placing.{placing-as, refuses, ready, at-place, wrote-of}
@@ -43,13 +45,19 @@ module _ {M S : Type 0} {F : Format M S} (W : Writer F) (s : List ℕ) (x : S) (
   pub write-place : (k : ℕ) → viewWrote w ≡ placing (length s) i m (length o) at → i ≡ F .held .inside s x → m ≡ W .size x → w ≡ wrote.Done k → at ≤ length o
   write-place k e f g h = at-place F s x (W .sized s x) at o (placing-as (length s) (length o) at e f g) (ap viewWrote h)
 
-  -- it writes
-  pub write-on : (k : ℕ) (zs : List ℕ) → viewWrote w ≡ placing (length s) i m (length o) at → i ≡ F .held .inside s x → m ≡ W .size x → w ≡ wrote.Done k
-      → ((j : ℕ) → Fits w8 (getD s j 0)) → (Bytes s → length s ≤ most → F .codec .kind .Good (F .held .mean s x)) → zs ≡ laidOf F s x (midOf at (length o - at) o) → Writes F s x at o (viewWrote w) (putMid at (length o - at) o zs)
-  write-on k zs e f g h given good l =
+  -- it writes, and what lies inside is in range
+  pub write-in : (k : ℕ) (zs : List ℕ) → viewWrote w ≡ placing (length s) i m (length o) at → i ≡ F .held .inside s x → m ≡ W .size x → w ≡ wrote.Done k
+      → ((j : ℕ) → Fits w8 (getD s j 0)) → (Bytes s → length s ≤ most → F .held .inside s x ≡ true → F .codec .kind .Good (F .held .mean s x))
+      → zs ≡ laidOf F s x (midOf at (length o - at) o) → Writes F s x at o (viewWrote w) (putMid at (length o - at) o zs)
+  write-in k zs e f g h given good l =
       let p = placing-as (length s) (length o) at e f g in
       let r = ready F s x (W .sized s x) at o p (ap viewWrote h) in
-      wrote-of F s x (W .sized s x) at o p (ap viewWrote h) (good (known-bytes s given) (r .short)) l
+      wrote-of F s x (W .sized s x) at o p (ap viewWrote h) (good (known-bytes s given) (r .short) (r .inside)) l
+
+  -- the same, where all is in range
+  pub write-on : (k : ℕ) (zs : List ℕ) → viewWrote w ≡ placing (length s) i m (length o) at → i ≡ F .held .inside s x → m ≡ W .size x → w ≡ wrote.Done k
+      → ((j : ℕ) → Fits w8 (getD s j 0)) → (Bytes s → length s ≤ most → F .codec .kind .Good (F .held .mean s x)) → zs ≡ laidOf F s x (midOf at (length o - at) o) → Writes F s x at o (viewWrote w) (putMid at (length o - at) o zs)
+  write-on k zs e f g h given good l = write-in k zs e f g h given (λ b h i. good b h) l
 
 -- a writer with no pieces: by `room`
 module _ (len at n k : ℕ) (w : Wrote) where
@@ -109,3 +117,14 @@ bytes-sized s x r = bytes-size s x (r .short) (r .inside) refl
 
 abbrev pub bytes-writer : Writer bytes
 bytes-writer = record { size = λ x. sizeUpTo (x .count); sized = bytes-sized }
+
+-- a list of words
+pub words-sized : (s : List ℕ) (x : Piece) → Ready wordList s x → length (output wordList s x) ≡ wordsUpTo (x .count)
+unfolding wordsHeld
+words-sized s x r =
+    let k = words-le s x (r .inside) in
+    let h = r .short in
+    words-length s x ∙ words-within (x .count) (omega arith)
+
+abbrev pub words-writer : Writer wordList
+words-writer = record { size = λ x. wordsUpTo (x .count); sized = words-sized }

@@ -3,11 +3,5 @@ use Rattle.xdr.specs.Laws.Answers.{eight-is}
 use Rattle.xdr.proofs.inner.eight_at.Statement.{statement}
 use Rattle.xdr.proofs.inner.eight_at.Tie as tie
 
-returns : tie.Need-returns
-returns c = eight-is _ _ (c .u64-at .ensures)
-
 pub eight-at-spec : {M : Type 1} → statement M
-eight-at-spec =
-    tie.close
-    (tie.spec
-    (search needs) returns)
+eight-at-spec = tie.close (tie.spec (search needs) (λ c. search eight-is))

@@ -1,19 +1,14 @@
 use borrow.Author.Needs.{needs}
-use native.Mathlib.Omega.{arith}
-use Rattle.xdr.specs.Laws.Write.{laid-short, laid-is, put-same, lent, lent-first}
-use Rattle.xdr.specs.Laws.Padding.{hyper-length, hyper-pair-length, hyper-pair-bytes}
+use Rattle.xdr.specs.Laws.Fixed.{hyper-fixed, hyper-pair-fixed}
+use Rattle.xdr.specs.Laws.Padding.{hyper-pair-bytes}
+use Rattle.xdr.specs.Laws.Lays.{lay-short, lay-two, size-is}
 use Rattle.xdr.proofs.inner.put_u64_pair.Statement.{statement}
 use Rattle.xdr.proofs.inner.put_u64_pair.Tie as tie
-
-returns : tie.Need-returns
-returns c = laid-short _ _ (omega (arith, hyper-pair-length (c .before .before .args .first) (c .before .before .args .second)))
-
-returns-2 : tie.Need-returns-2
-returns-2 c = laid-is (omega arith) (put-same (hyper-pair-bytes (c .before .before .before .before .before .before .before .before .before .before .args .first) (c .before .before .before .before .before .before .before .before .before .before .args .second)) (lent _ (lent-first _ (omega arith) (hyper-length _) (c .before .before .before .before .before .before .put-u64 .ensures)) (omega arith) (hyper-length _) (c .before .before .put-u642 .ensures)))
 
 pub put-u64-pair-spec : {M : Type 1} → statement M
 put-u64-pair-spec =
     tie.close
     (tie.spec
-    returns (search needs) (search needs) (search needs) (search needs) (search needs) (search needs) (search needs) (search needs)
-    (search needs) returns-2)
+    (λ c. search (lay-short, size-is hyper-pair-fixed)) (search needs) (search needs) (search needs) (search needs) (search needs)
+    (search needs) (search needs) (search needs) (search needs)
+    (λ c. search (lay-two, hyper-pair-bytes, size-is hyper-fixed, size-is hyper-pair-fixed)))

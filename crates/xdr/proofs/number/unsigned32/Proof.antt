@@ -1,33 +1,11 @@
-use native.Mathlib.Omega.{arith}
-use mathlib.Core.Path.{sym, ap, _∙_}
-use lib.IntN.{natAbs}
-use Rattle.xdr.specs.Meaning.Bytes.{unsigned}
-use mir.Syntax.{w32}
-use Prim.Native.Nat.{_<_, _-_}
-use Rattle.xdr.specs.Laws.Signed.{flip-fits, flip-is, kept-is}
+use Rattle.xdr.specs.Laws.Signed.{halves32, flip-fits, flip-casts, flip-within, flip-back, kept-casts, kept-back}
 use Rattle.xdr.proofs.number.unsigned32.Statement.{statement}
 use Rattle.xdr.proofs.number.unsigned32.Tie as tie
-
-sub-result : tie.Need-sub-result
-sub-result c = flip-fits w32 (c .before .args .v) (c .before .fits .v) (c .if1 .taken)
-
-cast-result : tie.Need-cast-result
-cast-result c = let e = flip-is w32 (c .before .args .v) (c .before .fits .v) (c .if1 .taken) in let h : e .0 < 2147483648 = e .2 in rw (e .3) (tt, record { fits = omega arith })
-
-sub-result-2 : tie.Need-sub-result-2
-sub-result-2 c = let e = flip-is w32 (c .before .args .v) (c .before .fits .v) (c .if1 .taken) in let h : e .0 < 2147483648 = e .2 in rw (e .3) (omega arith)
-
-cast-result-2 : tie.Need-cast-result-2
-cast-result-2 c = let e = kept-is w32 (c .before .args .v) (c .before .fits .v) (c .if1 .left) in let h : e .0 < 2147483648 = e .2 in rw (e .3) (tt, record { fits = omega arith })
-
-returns : tie.Need-returns
-returns c = let e = flip-is w32 (c .before .args .v) (c .before .fits .v) (c .if1 .taken) in let h : e .0 < 2147483648 = e .2 in ap (λ z. 4294967295 - natAbs z) (e .3) ∙ omega arith ∙ sym (ap (unsigned 2147483648) (e .1))
-
-returns-2 : tie.Need-returns-2
-returns-2 c = let e = kept-is w32 (c .before .args .v) (c .before .fits .v) (c .if1 .left) in ap natAbs (e .3) ∙ sym (ap (unsigned 2147483648) (e .1))
 
 pub unsigned32-spec : {M : Type 1} → statement M
 unsigned32-spec =
     tie.close
     (tie.spec
-    sub-result cast-result sub-result-2 cast-result-2 returns returns-2)
+    (λ c. search flip-fits) (λ c. flip-casts halves32 _ (c .before .fits .v) (c .if1 .taken)) (λ c. flip-within halves32 _ (c .before .fits .v) (c .if1 .taken))
+    (λ c. kept-casts halves32 _ (c .before .fits .v) (c .if1 .left)) (λ c. flip-back halves32 _ (c .before .fits .v) (c .if1 .taken))
+    (λ c. kept-back halves32 _ (c .before .fits .v) (c .if1 .left)))
