@@ -1,5 +1,6 @@
 pub mod Copy
 pub mod Kinds
 pub mod Exports
+pub mod Figures
 pub mod Values
 pub mod Given

@@ -1,15 +1,15 @@
 // What C and Rust programs call. A slice passes as a pointer and a length. Every call gets an answer: a number, 0 or from 100 on where
 // something is handed over, 1 to 9 for document 01's refusals, and these two.
-ghost use mathlib.Core.Path.{_≡_};
 ghost use Prim.Native.Nat.{_≤_};
 ghost use lib.ListN.{length};
-ghost use lib.Seq.{sets};
-ghost use mathlib.Core.List.{[], _∷_};
-ghost use mathlib.Core.Bool.{cond};
+ghost use Rattle.xdr.specs.Meaning.Views.{viewWrote};
 ghost use Rattle.door.specs.Meaning.Copy.{viewCopied};
 ghost use Rattle.rpcwire.specs.Meaning.Views.{viewChoice, viewCaller, viewFed};
-ghost use Rattle.door.specs.Meaning.Exports.{codeOf, figures, ReadCalled, FragmentCalled, chosenCode, chosenFigures, handedFigures, ChooseCalled, stateList, fedCode, fedFigures, fedState, FeedCalled};
+ghost use Rattle.door.specs.Meaning.Figures.{Shown, Shows, Says};
+ghost use Rattle.door.specs.Meaning.Exports.{codeOf, figures, ReadCalled, wroteCode, wroteFigures, FragmentCalled, chosenCode, chosenFigures, handedFigures, ChooseCalled, stateList, fedCode, fedFigures, fedState, FeedCalled};
 use crate::copy::Copied;
+use crate::figures::bit;
+use crate::figures::put_figures;
 use crate::kinds::copy_kind;
 use rpcwire::Assembler;
 use rpcwire::Caller;
@@ -25,41 +25,26 @@ pub const SHORT_LIST: u32 = 254;
 // There is no kind of that number.
 pub const UNKNOWN_KIND: u32 = 255;
 
-// Three figures at the front of a list.
-fn put_three(a: u64, b: u64, c: u64, info: &mut [u64])
-    requires { ⌜ 3 ≤ length (now info) ⌝ }
-    ensures { λ _. ⌜ now (info .exit) ≡ sets (now (info .entry)) 0 (a ∷ b ∷ c ∷ []) ⌝ }
-{
-    info[0] = a;
-    info[1] = b;
-    info[2] = c;
-}
-
 // The number of a copy's answer, and its figures.
 fn tell_copied(c: Copied, info: &mut [u64]) -> u32
     requires { ⌜ 3 ≤ length (now info) ⌝ }
-    ensures said { λ r. ⌜ r ≡ codeOf (viewCopied c) ⌝ }
-    ensures told { λ _. ⌜ now (info .exit) ≡ sets (now (info .entry)) 0 (figures (viewCopied c)) ⌝ }
+    ensures { λ r. ⌜ Says codeOf figures (viewCopied c) (now (info .entry)) r (now (info .exit)) ⌝ }
 {
     match c {
         Copied::Unknown => {
-            put_three(0, 0, 0, info);
+            put_figures(&[], 3, info);
             UNKNOWN_KIND
         }
         Copied::Unread(r) => {
-            put_three(r.place() as u64, 0, 0, info);
+            put_figures(&[r.place() as u64], 2, info);
             r.number()
         }
         Copied::Unwritten(r) => {
-            put_three(0, 0, 0, info);
+            put_figures(&[], 3, info);
             r.number()
         }
         Copied::Done { next, plain, end } => {
-            if plain {
-                put_three(next as u64, 1, end as u64, info);
-            } else {
-                put_three(next as u64, 0, end as u64, info);
-            }
+            put_figures(&[next as u64, bit(plain), end as u64], 0, info);
             0
         }
     }
@@ -85,6 +70,23 @@ pub extern "C" fn yugerzat_read(
     tell_copied(c, info)
 }
 
+// The number of a writer's answer, and its figure.
+pub(crate) fn tell_wrote(w: Wrote, info: &mut [u64]) -> u32
+    requires { ⌜ 1 ≤ length (now info) ⌝ }
+    ensures { λ r. ⌜ Says wroteCode wroteFigures (viewWrote w) (now (info .entry)) r (now (info .exit)) ⌝ }
+{
+    match w {
+        Wrote::Done(n) => {
+            put_figures(&[n as u64], 0, info);
+            0
+        }
+        Wrote::Refused(r) => {
+            put_figures(&[], 1, info);
+            r.number()
+        }
+    }
+}
+
 // Writes a message as a record's only fragment, from place `start` of out. 0: info holds the place after it. A refusal: 0.
 #[no_mangle]
 pub extern "C" fn yugerzat_fragment(
@@ -99,68 +101,25 @@ pub extern "C" fn yugerzat_fragment(
         return SHORT_LIST;
     }
     let w = write_fragment(message, out, start);
-    match w {
-        Wrote::Done(n) => {
-            info[0] = n as u64;
-            0
-        }
-        Wrote::Refused(r) => {
-            info[0] = 0;
-            r.number()
-        }
-    }
-}
-
-// Twelve figures at the front of a list.
-fn put_twelve(
-    a: u64,
-    b: u64,
-    c: u64,
-    d: u64,
-    e: u64,
-    f: u64,
-    g: u64,
-    h: u64,
-    i: u64,
-    j: u64,
-    k: u64,
-    l: u64,
-    info: &mut [u64],
-)
-    requires { ⌜ 12 ≤ length (now info) ⌝ }
-    ensures { λ _. ⌜ now (info .exit) ≡ sets (now (info .entry)) 0 (a ∷ b ∷ c ∷ d ∷ e ∷ f ∷ g ∷ h ∷ i ∷ j ∷ k ∷ l ∷ []) ⌝ }
-{
-    info[0] = a;
-    info[1] = b;
-    info[2] = c;
-    info[3] = d;
-    info[4] = e;
-    info[5] = f;
-    info[6] = g;
-    info[7] = h;
-    info[8] = i;
-    info[9] = j;
-    info[10] = k;
-    info[11] = l;
+    tell_wrote(w, info)
 }
 
 // The number of a choice, and its figures.
 fn tell_chosen(c: Choice, info: &mut [u64]) -> u32
     requires { ⌜ 12 ≤ length (now info) ⌝ }
-    ensures said { λ r. ⌜ r ≡ chosenCode (viewChoice c) ⌝ }
-    ensures told { λ _. ⌜ now (info .exit) ≡ sets (now (info .entry)) 0 (chosenFigures (viewChoice c)) ⌝ }
+    ensures { λ r. ⌜ Says chosenCode chosenFigures (viewChoice c) (now (info .entry)) r (now (info .exit)) ⌝ }
 {
     match c {
         Choice::Refused(r) => {
-            put_twelve(r.place() as u64, 0, 0, 0, 0, 0, 0, 0, 0, 0, 0, 0, info);
+            put_figures(&[r.place() as u64], 11, info);
             r.number()
         }
         Choice::Replied(n) => {
-            put_twelve(n as u64, 0, 0, 0, 0, 0, 0, 0, 0, 0, 0, 0, info);
+            put_figures(&[n as u64], 11, info);
             101
         }
         Choice::Silent => {
-            put_twelve(0, 0, 0, 0, 0, 0, 0, 0, 0, 0, 0, 0, info);
+            put_figures(&[], 12, info);
             102
         }
         Choice::HandOver {
@@ -186,40 +145,33 @@ fn tell_hand_over(
     info: &mut [u64],
 )
     requires { ⌜ 12 ≤ length (now info) ⌝ }
-    ensures { λ _. ⌜ now (info .exit) ≡ sets (now (info .entry)) 0 (handedFigures prog vers proc arguments (viewCaller caller)) ⌝ }
+    ensures { λ _. ⌜ Shows (handedFigures prog vers proc arguments) (viewCaller caller) (now (info .entry)) (now (info .exit)) ⌝ }
 {
     match caller {
-        Caller::Unnamed => put_twelve(
-            prog as u64,
-            vers as u64,
-            proc as u64,
-            arguments as u64,
-            0,
-            0,
-            0,
-            0,
-            0,
-            0,
-            0,
-            0,
+        Caller::Unnamed => put_figures(
+            &[prog as u64, vers as u64, proc as u64, arguments as u64],
+            8,
             info,
         ),
         Caller::Unix(a) => {
             let name = a.machinename;
             let gids = a.gids;
-            put_twelve(
-                prog as u64,
-                vers as u64,
-                proc as u64,
-                arguments as u64,
-                1,
-                a.stamp as u64,
-                name.at as u64,
-                name.count as u64,
-                a.uid as u64,
-                a.gid as u64,
-                gids.at as u64,
-                gids.count as u64,
+            put_figures(
+                &[
+                    prog as u64,
+                    vers as u64,
+                    proc as u64,
+                    arguments as u64,
+                    1,
+                    a.stamp as u64,
+                    name.at as u64,
+                    name.count as u64,
+                    a.uid as u64,
+                    a.gid as u64,
+                    gids.at as u64,
+                    gids.count as u64,
+                ],
+                0,
                 info,
             )
         }
@@ -245,40 +197,30 @@ pub extern "C" fn yugerzat_choose(
     tell_chosen(c, info)
 }
 
-pub(crate) fn bit(b: bool) -> u64
-    ensures { λ r. ⌜ r ≡ cond b 1 0 ⌝ }
-{
-    if b { 1 } else { 0 }
-}
-
 // The seven numbers of an assembler's state, at the front of a list.
 fn put_state(s: Assembler, list: &mut [u64])
     requires { ⌜ 7 ≤ length (now list) ⌝ }
-    ensures { λ _. ⌜ now (list .exit) ≡ sets (now (list .entry)) 0 (stateList s) ⌝ }
+    ensures { λ _. ⌜ Shown (stateList s) (now (list .entry)) (now (list .exit)) ⌝ }
 {
-    let last = bit(s.last);
-    let stopped = bit(s.stopped);
-    list[0] = s.capacity as u64;
-    list[1] = s.placed as u64;
-    list[2] = s.header_count as u64;
-    list[3] = s.header_value as u64;
-    list[4] = s.left as u64;
-    list[5] = last;
-    list[6] = stopped;
-}
-
-pub(crate) fn put_two(a: u64, b: u64, info: &mut [u64])
-    requires { ⌜ 2 ≤ length (now info) ⌝ }
-    ensures { λ _. ⌜ now (info .exit) ≡ sets (now (info .entry)) 0 (a ∷ b ∷ []) ⌝ }
-{
-    info[0] = a;
-    info[1] = b;
+    put_figures(
+        &[
+            s.capacity as u64,
+            s.placed as u64,
+            s.header_count as u64,
+            s.header_value as u64,
+            s.left as u64,
+            bit(s.last),
+            bit(s.stopped),
+        ],
+        0,
+        list,
+    );
 }
 
 // The number of a feed's answer, its state and its figures.
 fn tell_fed(f: Fed, list: &mut [u64], info: &mut [u64]) -> u32
     requires { ⌜ (7 ≤ length (now list)) × (2 ≤ length (now info)) ⌝ }
-    ensures { λ r. ⌜ (r ≡ fedCode (viewFed f)) × (now (list .exit) ≡ sets (now (list .entry)) 0 (stateList (fedState (viewFed f)))) × (now (info .exit) ≡ sets (now (info .entry)) 0 (fedFigures (viewFed f))) ⌝ }
+    ensures { λ r. ⌜ Shows (λ s. stateList (fedState s)) (viewFed f) (now (list .entry)) (now (list .exit)) × Says fedCode fedFigures (viewFed f) (now (info .entry)) r (now (info .exit)) ⌝ }
 {
     match f {
         Fed::Refused {
@@ -287,12 +229,12 @@ fn tell_fed(f: Fed, list: &mut [u64], info: &mut [u64]) -> u32
             used,
         } => {
             put_state(state, list);
-            put_two(used as u64, 0, info);
+            put_figures(&[used as u64], 1, info);
             refusal.number()
         }
         Fed::More { state, used } => {
             put_state(state, list);
-            put_two(used as u64, 0, info);
+            put_figures(&[used as u64], 1, info);
             100
         }
         Fed::Complete {
@@ -301,7 +243,7 @@ fn tell_fed(f: Fed, list: &mut [u64], info: &mut [u64]) -> u32
             used,
         } => {
             put_state(state, list);
-            put_two(used as u64, length as u64, info);
+            put_figures(&[used as u64, length as u64], 0, info);
             101
         }
     }

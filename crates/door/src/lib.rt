@@ -1,6 +1,7 @@
 // The door: every kind of message by its number, read and written anew in published form.
 pub mod copy;
 pub mod exports;
+mod figures;
 mod files;
 mod items;
 mod kinds;

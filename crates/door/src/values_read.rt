@@ -2,18 +2,18 @@
 // list holds the place after the value, 1 if it was in published form and else 0, and the value's figures. A refusal: its place and zeros.
 ghost use mathlib.Core.Path.{_≡_};
 ghost use mathlib.Core.Bool.{cond};
-ghost use mathlib.Core.List.{[], _∷_};
+ghost use mathlib.Core.List.{[], _∷_, _++_};
 ghost use Prim.Native.Nat.{_+_, _≤_};
-ghost use lib.ListN.{length, replicate};
-ghost use lib.Seq.{sets};
+ghost use lib.ListN.{length, drop, replicate};
 ghost use Rattle.xdr.specs.Meaning.Refusal.{numberOf, placeOf};
 ghost use Rattle.nfs.specs.Meaning.Set.{modeFrom, uidFrom, gidFrom, sizeFrom, atimeFrom, mtimeFrom};
 ghost use Rattle.rpc.specs.declared.message.rpc_body.the-variants.{CALL, REPLY};
 ghost use Rattle.rpc.specs.declared.reply.reply_body.the-variants.{«MSG_ACCEPTED», «MSG_DENIED»};
-ghost use Rattle.door.specs.Meaning.Values.{diropargs3Figures, Diropargs3Called, fattr3Figures, Fattr3Called, optionFigures, timeFigures, sattr3Figures, Sattr3Called, acceptFigures, bodyFigures, messageFigures, JudgeCalled, unixFigures, UnixCalled, PartCalled};
+ghost use Rattle.door.specs.Meaning.Figures.{Shown, Shows};
+ghost use Rattle.door.specs.Meaning.Values.{pieceFigures, diropargs3Figures, Diropargs3Called, fattr3Figures, Fattr3Called, optionFigures, timeFigures, sattr3Figures, Sattr3Called, acceptFigures, bodyFigures, JudgeCalled, unixFigures, UnixCalled, PartCalled};
 use crate::exports::SHORT_LIST;
-use crate::exports::bit;
-use crate::exports::put_two;
+use crate::figures::bit;
+use crate::figures::put_figures;
 use nfs::Diropargs3Read;
 use nfs::Fattr3Read;
 use nfs::Sattr3Read;
@@ -54,49 +54,41 @@ pub extern "C" fn yugerzat_part(message: &[u8], at: usize, count: usize, info: &
         return SHORT_LIST;
     }
     if inside(message, Piece { at, count }) {
-        put_two(at as u64, count as u64, info);
+        put_figures(&[at as u64, count as u64], 0, info);
         return 0;
     }
-    put_two(0, 0, info);
+    put_figures(&[], 2, info);
     4
-}
-
-// Zeros behind the first figure.
-fn put_zeros(count: usize, info: &mut [u64])
-    requires { ⌜ 1 + count ≤ length (now info) ⌝ }
-    ensures { λ _. ⌜ now (info .exit) ≡ sets (now (info .entry)) 1 (replicate count 0) ⌝ }
-{
-    let mut i = 0;
-    while i < count {
-        info[1 + i] = 0;
-        i += 1;
-    }
 }
 
 // A refusal's number; its place, and zeros for a value of `count` figures.
 fn tell_refused(r: Refusal, count: usize, info: &mut [u64]) -> u32
     requires { ⌜ 2 + count ≤ length (now info) ⌝ }
-    ensures { λ n. ⌜ (n ≡ numberOf r) × (now (info .exit) ≡ sets (now (info .entry)) 0 (placeOf r ∷ 0 ∷ replicate count 0)) ⌝ }
+    ensures { λ n. ⌜ (n ≡ numberOf r) × Shown (placeOf r ∷ 0 ∷ replicate count 0) (now (info .entry)) (now (info .exit)) ⌝ }
 {
-    info[0] = r.place() as u64;
-    put_zeros(count + 1, info);
+    put_figures(&[r.place() as u64, 0], count, info);
     r.number()
 }
 
 fn put_diropargs3(v: diropargs3, next: usize, plain: bool, info: &mut [u64])
     requires { ⌜ 6 ≤ length (now info) ⌝ }
-    ensures { λ _. ⌜ now (info .exit) ≡ sets (now (info .entry)) 0 (next ∷ cond plain 1 0 ∷ diropargs3Figures v) ⌝ }
+    ensures { λ _. ⌜ Shown (next ∷ cond plain 1 0 ∷ diropargs3Figures v) (now (info .entry)) (now (info .exit)) ⌝ }
 {
     let dir = v.dir;
     let data = dir.data;
     let name = v.name;
-    let plain = bit(plain);
-    info[0] = next as u64;
-    info[1] = plain;
-    info[2] = data.at as u64;
-    info[3] = data.count as u64;
-    info[4] = name.at as u64;
-    info[5] = name.count as u64;
+    put_figures(
+        &[
+            next as u64,
+            bit(plain),
+            data.at as u64,
+            data.count as u64,
+            name.at as u64,
+            name.count as u64,
+        ],
+        0,
+        info,
+    );
 }
 
 // The figures of a diropargs3: place and count of the handle, place and count of the name.
@@ -117,35 +109,42 @@ pub extern "C" fn yugerzat_read_diropargs3(src: &[u8], at: usize, info: &mut [u6
     }
 }
 
-fn put_fattr3(v: fattr3, next: usize, info: &mut [u64])
-    requires { ⌜ 19 ≤ length (now info) ⌝ }
-    ensures { λ _. ⌜ now (info .exit) ≡ sets (now (info .entry)) 0 (next ∷ 1 ∷ fattr3Figures v) ⌝ }
+fn fattr3_figures(v: fattr3, number: u32, next: usize) -> [u64; 19]
+    ensures { λ r. ⌜ r ≡ next ∷ 1 ∷ number ∷ drop 1 (fattr3Figures v) ⌝ }
 {
-    let ftype = v.ftype;
-    let number = ftype.number();
     let rdev = v.rdev;
     let atime = v.atime;
     let mtime = v.mtime;
     let ctime = v.ctime;
-    info[0] = next as u64;
-    info[1] = 1;
-    info[2] = number as u64;
-    info[3] = v.mode as u64;
-    info[4] = v.nlink as u64;
-    info[5] = v.uid as u64;
-    info[6] = v.gid as u64;
-    info[7] = v.size;
-    info[8] = v.used;
-    info[9] = rdev.specdata1 as u64;
-    info[10] = rdev.specdata2 as u64;
-    info[11] = v.fsid;
-    info[12] = v.fileid;
-    info[13] = atime.seconds as u64;
-    info[14] = atime.nseconds as u64;
-    info[15] = mtime.seconds as u64;
-    info[16] = mtime.nseconds as u64;
-    info[17] = ctime.seconds as u64;
-    info[18] = ctime.nseconds as u64;
+    [
+        next as u64,
+        1,
+        number as u64,
+        v.mode as u64,
+        v.nlink as u64,
+        v.uid as u64,
+        v.gid as u64,
+        v.size,
+        v.used,
+        rdev.specdata1 as u64,
+        rdev.specdata2 as u64,
+        v.fsid,
+        v.fileid,
+        atime.seconds as u64,
+        atime.nseconds as u64,
+        mtime.seconds as u64,
+        mtime.nseconds as u64,
+        ctime.seconds as u64,
+        ctime.nseconds as u64,
+    ]
+}
+
+fn put_fattr3(v: fattr3, next: usize, info: &mut [u64])
+    requires { ⌜ 19 ≤ length (now info) ⌝ }
+    ensures { λ _. ⌜ Shown (next ∷ 1 ∷ fattr3Figures v) (now (info .entry)) (now (info .exit)) ⌝ }
+{
+    let ftype = v.ftype;
+    put_figures(&fattr3_figures(v, ftype.number(), next), 0, info);
 }
 
 // The figures of a fattr3, which is always in published form: the number of its type, mode, nlink, uid, gid, size, used, the two numbers of
@@ -167,69 +166,48 @@ pub extern "C" fn yugerzat_read_fattr3(src: &[u8], at: usize, info: &mut [u64]) 
     }
 }
 
-fn put_fourteen(
-    a: u64,
-    b: u64,
-    c: u64,
-    d: u64,
-    e: u64,
-    f: u64,
-    g: u64,
-    h: u64,
-    i: u64,
-    j: u64,
-    k: u64,
-    l: u64,
-    m: u64,
-    n: u64,
-    info: &mut [u64],
-)
-    requires { ⌜ 14 ≤ length (now info) ⌝ }
-    ensures { λ _. ⌜ now (info .exit) ≡ sets (now (info .entry)) 0 (a ∷ b ∷ c ∷ d ∷ e ∷ f ∷ g ∷ h ∷ i ∷ j ∷ k ∷ l ∷ m ∷ n ∷ []) ⌝ }
+fn call_figures(m: call_body, cred: u32, verf: u32, xid: u32, next: usize, plain: u64) -> [u64; 14]
+    ensures { λ r. ⌜ r ≡ next ∷ plain ∷ xid ∷ 0 ∷ m .rpcvers ∷ m .prog ∷ m .vers ∷ m .proc ∷ cred ∷ (pieceFigures (m .cred .body) ++ (verf ∷ pieceFigures (m .verf .body))) ⌝ }
 {
-    info[0] = a;
-    info[1] = b;
-    info[2] = c;
-    info[3] = d;
-    info[4] = e;
-    info[5] = f;
-    info[6] = g;
-    info[7] = h;
-    info[8] = i;
-    info[9] = j;
-    info[10] = k;
-    info[11] = l;
-    info[12] = m;
-    info[13] = n;
-}
-
-fn put_call(m: call_body, xid: u32, next: usize, plain: bool, info: &mut [u64])
-    requires { ⌜ 14 ≤ length (now info) ⌝ }
-    ensures { λ _. ⌜ now (info .exit) ≡ sets (now (info .entry)) 0 (next ∷ cond plain 1 0 ∷ xid ∷ bodyFigures (CALL m)) ⌝ }
-{
-    let cred = m.cred;
-    let verf = m.verf;
-    let cred_flavor = cred.flavor;
-    let verf_flavor = verf.flavor;
-    let cred_body = cred.body;
-    let verf_body = verf.body;
-    put_fourteen(
+    let cred_auth = m.cred;
+    let cred_body = cred_auth.body;
+    let verf_auth = m.verf;
+    let verf_body = verf_auth.body;
+    [
         next as u64,
-        bit(plain),
+        plain,
         xid as u64,
         0,
         m.rpcvers as u64,
         m.prog as u64,
         m.vers as u64,
         m.proc as u64,
-        cred_flavor.number() as u64,
+        cred as u64,
         cred_body.at as u64,
         cred_body.count as u64,
-        verf_flavor.number() as u64,
+        verf as u64,
         verf_body.at as u64,
         verf_body.count as u64,
-        info,
+    ]
+}
+
+fn put_call(m: call_body, xid: u32, next: usize, plain: bool, info: &mut [u64])
+    requires { ⌜ 14 ≤ length (now info) ⌝ }
+    ensures { λ _. ⌜ Shown (next ∷ cond plain 1 0 ∷ xid ∷ bodyFigures (CALL m)) (now (info .entry)) (now (info .exit)) ⌝ }
+{
+    let cred = m.cred;
+    let verf = m.verf;
+    let cred_flavor = cred.flavor;
+    let verf_flavor = verf.flavor;
+    let figures = call_figures(
+        m,
+        cred_flavor.number(),
+        verf_flavor.number(),
+        xid,
+        next,
+        bit(plain),
     );
+    put_figures(&figures, 0, info);
 }
 
 // accept_stat's number, and the two versions of PROG_MISMATCH.
@@ -267,7 +245,7 @@ fn accept_figures(b: accept_body) -> Three
 
 fn put_reply(m: reply_body, xid: u32, next: usize, plain: bool, info: &mut [u64])
     requires { ⌜ 14 ≤ length (now info) ⌝ }
-    ensures { λ _. ⌜ now (info .exit) ≡ sets (now (info .entry)) 0 (next ∷ cond plain 1 0 ∷ xid ∷ bodyFigures (REPLY m)) ⌝ }
+    ensures { λ _. ⌜ Shows (λ m. next ∷ cond plain 1 0 ∷ xid ∷ bodyFigures (REPLY m)) m (now (info .entry)) (now (info .exit)) ⌝ }
 {
     match m {
         reply_body::MSG_ACCEPTED(a) => put_accepted(a, xid, next, plain, info),
@@ -277,70 +255,51 @@ fn put_reply(m: reply_body, xid: u32, next: usize, plain: bool, info: &mut [u64]
 
 fn put_accepted(m: accepted_reply, xid: u32, next: usize, plain: bool, info: &mut [u64])
     requires { ⌜ 14 ≤ length (now info) ⌝ }
-    ensures { λ _. ⌜ now (info .exit) ≡ sets (now (info .entry)) 0 (next ∷ cond plain 1 0 ∷ xid ∷ bodyFigures (REPLY («MSG_ACCEPTED» m))) ⌝ }
+    ensures { λ _. ⌜ Shown (next ∷ cond plain 1 0 ∷ xid ∷ bodyFigures (REPLY («MSG_ACCEPTED» m))) (now (info .entry)) (now (info .exit)) ⌝ }
 {
     let verf = m.verf;
     let flavor = verf.flavor;
     let body = verf.body;
     let data = m.reply_data;
     let told = accept_figures(data);
-    put_fourteen(
-        next as u64,
-        bit(plain),
-        xid as u64,
-        1,
-        flavor.number() as u64,
-        body.at as u64,
-        body.count as u64,
-        told.first,
-        told.second,
-        told.third,
-        0,
-        0,
-        0,
-        0,
+    put_figures(
+        &[
+            next as u64,
+            bit(plain),
+            xid as u64,
+            1,
+            flavor.number() as u64,
+            body.at as u64,
+            body.count as u64,
+            told.first,
+            told.second,
+            told.third,
+        ],
+        4,
         info,
     );
 }
 
 fn put_denied(m: rejected_reply, xid: u32, next: usize, plain: bool, info: &mut [u64])
     requires { ⌜ 14 ≤ length (now info) ⌝ }
-    ensures { λ _. ⌜ now (info .exit) ≡ sets (now (info .entry)) 0 (next ∷ cond plain 1 0 ∷ xid ∷ bodyFigures (REPLY («MSG_DENIED» m))) ⌝ }
+    ensures { λ _. ⌜ Shows (λ m. next ∷ cond plain 1 0 ∷ xid ∷ bodyFigures (REPLY («MSG_DENIED» m))) m (now (info .entry)) (now (info .exit)) ⌝ }
 {
-    let p = bit(plain);
     match m {
-        rejected_reply::RPC_MISMATCH(v) => put_fourteen(
-            next as u64,
-            p,
-            xid as u64,
-            2,
-            v.low as u64,
-            v.high as u64,
-            0,
-            0,
-            0,
-            0,
-            0,
-            0,
-            0,
-            0,
+        rejected_reply::RPC_MISMATCH(v) => put_figures(
+            &[
+                next as u64,
+                bit(plain),
+                xid as u64,
+                2,
+                v.low as u64,
+                v.high as u64,
+            ],
+            8,
             info,
         ),
-        rejected_reply::AUTH_ERROR(s) => put_fourteen(
-            next as u64,
-            p,
-            xid as u64,
-            3,
-            s.number() as u64,
-            0,
-            0,
-            0,
-            0,
-            0,
-            0,
-            0,
-            0,
-            0,
+        rejected_reply::AUTH_ERROR(s) => put_figures(
+            &[next as u64, bit(plain), xid as u64, 3, s.number() as u64],
+            9,
             info,
         ),
     }
@@ -348,7 +307,7 @@ fn put_denied(m: rejected_reply, xid: u32, next: usize, plain: bool, info: &mut 
 
 fn put_message(m: rpc_msg, next: usize, plain: bool, info: &mut [u64])
     requires { ⌜ 14 ≤ length (now info) ⌝ }
-    ensures { λ _. ⌜ now (info .exit) ≡ sets (now (info .entry)) 0 (next ∷ cond plain 1 0 ∷ messageFigures m) ⌝ }
+    ensures { λ _. ⌜ Shows (λ b. next ∷ cond plain 1 0 ∷ m .xid ∷ bodyFigures b) (m .body) (now (info .entry)) (now (info .exit)) ⌝ }
 {
     let xid = m.xid;
     let body = m.body;
@@ -380,20 +339,25 @@ pub extern "C" fn yugerzat_judge(message: &[u8], at: usize, info: &mut [u64]) ->
 
 fn put_unix(v: auth_unix, next: usize, plain: bool, info: &mut [u64])
     requires { ⌜ 9 ≤ length (now info) ⌝ }
-    ensures { λ _. ⌜ now (info .exit) ≡ sets (now (info .entry)) 0 (next ∷ cond plain 1 0 ∷ unixFigures v) ⌝ }
+    ensures { λ _. ⌜ Shown (next ∷ cond plain 1 0 ∷ unixFigures v) (now (info .entry)) (now (info .exit)) ⌝ }
 {
     let name = v.machinename;
     let gids = v.gids;
-    let p = bit(plain);
-    info[0] = next as u64;
-    info[1] = p;
-    info[2] = v.stamp as u64;
-    info[3] = name.at as u64;
-    info[4] = name.count as u64;
-    info[5] = v.uid as u64;
-    info[6] = v.gid as u64;
-    info[7] = gids.at as u64;
-    info[8] = gids.count as u64;
+    put_figures(
+        &[
+            next as u64,
+            bit(plain),
+            v.stamp as u64,
+            name.at as u64,
+            name.count as u64,
+            v.uid as u64,
+            v.gid as u64,
+            gids.at as u64,
+            gids.count as u64,
+        ],
+        0,
+        info,
+    );
 }
 
 // The figures of the auth_unix in a credential's body, which is given by place and count: stamp, place and count of the name, uid, gid, place
@@ -538,7 +502,7 @@ fn mtime_figures(m: set_mtime) -> Three
 
 fn put_sattr3(v: sattr3, next: usize, plain: bool, info: &mut [u64])
     requires { ⌜ 16 ≤ length (now info) ⌝ }
-    ensures { λ _. ⌜ now (info .exit) ≡ sets (now (info .entry)) 0 (next ∷ cond plain 1 0 ∷ sattr3Figures v) ⌝ }
+    ensures { λ _. ⌜ Shown (next ∷ cond plain 1 0 ∷ sattr3Figures v) (now (info .entry)) (now (info .exit)) ⌝ }
 {
     let mode = v.mode;
     let uid = v.uid;
@@ -546,29 +510,34 @@ fn put_sattr3(v: sattr3, next: usize, plain: bool, info: &mut [u64])
     let size = v.size;
     let atime = v.atime;
     let mtime = v.mtime;
-    let p = bit(plain);
     let mode = mode_figures(mode);
     let uid = uid_figures(uid);
     let gid = gid_figures(gid);
     let size = size_figures(size);
     let atime = atime_figures(atime);
     let mtime = mtime_figures(mtime);
-    info[0] = next as u64;
-    info[1] = p;
-    info[2] = mode.first;
-    info[3] = mode.second;
-    info[4] = uid.first;
-    info[5] = uid.second;
-    info[6] = gid.first;
-    info[7] = gid.second;
-    info[8] = size.first;
-    info[9] = size.second;
-    info[10] = atime.first;
-    info[11] = atime.second;
-    info[12] = atime.third;
-    info[13] = mtime.first;
-    info[14] = mtime.second;
-    info[15] = mtime.third;
+    put_figures(
+        &[
+            next as u64,
+            bit(plain),
+            mode.first,
+            mode.second,
+            uid.first,
+            uid.second,
+            gid.first,
+            gid.second,
+            size.first,
+            size.second,
+            atime.first,
+            atime.second,
+            atime.third,
+            mtime.first,
+            mtime.second,
+            mtime.third,
+        ],
+        0,
+        info,
+    );
 }
 
 // The figures of a sattr3: for mode, uid, gid and size 1 and the number that is set, or zeros; for atime and mtime the tag, then seconds and

@@ -3,17 +3,14 @@
 // number does not fit its field 253; then nothing is touched.
 ghost use mathlib.Core.Path.{_≡_};
 ghost use mathlib.Core.Bool.{true};
-ghost use mathlib.Core.List.{[], _∷_};
 ghost use Prim.Native.Nat.{_≤_};
 ghost use lib.ListN.{length};
-ghost use lib.Seq.{sets};
 ghost use Rattle.xdr.specs.Meaning.Combinators.{among};
-ghost use Rattle.xdr.specs.Meaning.Views.{viewWrote};
 ghost use Rattle.nfs.specs.Meaning.Set.{modeTo, uidTo, gidTo, sizeTo, atimeTo, mtimeTo};
 ghost use Rattle.rpc.specs.Meaning.Closed.{flavorNumber, flavors};
-ghost use Rattle.door.specs.Meaning.Exports.{wroteCode, wroteFigure};
 ghost use Rattle.door.specs.Meaning.Given.{areWords, fattr3Words, fattr3Given, viewGivenFattr3, WriteFattr3Called, WriteDiropargs3Called, optionFits, timeFits, sattr3Fits, optionOf, timeOf, sattr3Of, WriteSattr3Called, foundFlavor, callWords, callGiven, viewGivenCall, WriteCallCalled};
 use crate::exports::SHORT_LIST;
+use crate::exports::tell_wrote;
 use nfs::diropargs3;
 use nfs::fattr3;
 use nfs::ftype3;
@@ -38,27 +35,9 @@ use rpc::rpc_body;
 use rpc::rpc_msg;
 use rpc::write_rpc_msg;
 use xdr::Piece;
-use xdr::Wrote;
 
 // A number of a list does not fit its field.
 pub const WIDE_NUMBER: u32 = 253;
-
-// The number of a writer's answer, and its figure.
-fn tell_wrote(w: Wrote, info: &mut [u64]) -> u32
-    requires { ⌜ 1 ≤ length (now info) ⌝ }
-    ensures { λ r. ⌜ (r ≡ wroteCode (viewWrote w)) × (now (info .exit) ≡ sets (now (info .entry)) 0 (wroteFigure (viewWrote w) ∷ [])) ⌝ }
-{
-    match w {
-        Wrote::Done(n) => {
-            info[0] = n as u64;
-            0
-        }
-        Wrote::Refused(r) => {
-            info[0] = 0;
-            r.number()
-        }
-    }
-}
 
 // What a list's numbers are: a fattr3, or not.
 pub enum GivenFattr3 {

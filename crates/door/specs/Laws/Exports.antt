@@ -1,72 +1,69 @@
--- What the exported functions' proofs cite.
+-- What the exported functions' proofs cite: by the room for the figures, and by what is told.
 -- Assumes nothing.
-use mathlib.Core.Path.{_≡_, sym, ap, _∙_}
-use mathlib.Core.Bool.{Bool, cond}
-use mathlib.Core.List.{List, [], _∷_}
-use Prim.Native.Nat.{ℕ}
-use lib.Seq.{sets}
-use Rattle.xdr.specs.Meaning.Refusal.{numberOf, placeOf}
-use Rattle.xdr.specs.declared.refusal.Refusal.{Refusal}
-use Rattle.door.specs.Meaning.Copy.{viewCopied}
-use Rattle.xdr.specs.Meaning.Views.{viewWrote}
-use Rattle.xdr.specs.declared.answer.Wrote.{Wrote}
+use mathlib.Core.Path.{refl}
+use mathlib.Core.List.{List}
+use mathlib.Core.Logic.{⊎-elim}
+use Prim.Native.Nat.{ℕ, _≤_, _<_}
+use native.Mathlib.Omega.{arith}
+use lib.Dec.{eqb}
+use lib.ListN.{length}
+use mathlib.Core.Bool.{not}
+use Rattle.xdr.specs.Meaning.Answer.{Written}
 use Rattle.rpcwire.specs.Meaning.Fragment.{WritesFragment}
-use Rattle.rpcwire.specs.Meaning.Views.{viewCaller, viewChoice, viewFed}
-use Rattle.rpcwire.specs.declared.choice.Caller.{Caller}
-use Rattle.rpcwire.specs.declared.choice.Choice.{Choice}
-use Rattle.rpcwire.specs.declared.assembler.Fed.{Fed}
-use Rattle.door.specs.Meaning.Exports.{codeOf, figures, wroteCode, wroteFigure, FragmentTold, chosenCode, handedFigures, chosenFigures, stateList, fedCode, fedState, fedFigures}
-use Rattle.door.specs.declared.copy.Copied.{Copied}
-use Rattle.door.specs.declared.copy.Copied.the-variants.{Unknown, Unread, Unwritten, Done}
+use Rattle.rpcwire.specs.Meaning.Choice.{Chosen, Chooses}
+use Rattle.rpcwire.specs.Meaning.Stream.{Said, Feeds}
+use Rattle.door.specs.Meaning.Copy.{Copy}
+use Rattle.door.specs.Meaning.Kinds.{kinds, CopiesOf}
+use Rattle.door.specs.Meaning.Figures.{Shown, Says}
+use Rattle.door.specs.Meaning.Exports.{codeOf, figures, ReadCalled, wroteCode, wroteFigures, FragmentCalled, chosenCode, chosenFigures, ChooseCalled, stateOf, stateList, fedCode, fedState, fedFigures, FeedCalled}
 
--- what is told of a copy's answer c, by the case t that it is
-abbrev pub Tells : List ℕ → ℕ → List ℕ → Copied → Type 0
-Tells i r i′ c = (r ≡ codeOf (viewCopied c)) × (i′ ≡ sets i 0 (figures (viewCopied c)))
+module _ (kind at : ℕ) (s o i : List ℕ) where
+  pub read-short : length i < 3 → ReadCalled kind s at o i 254 o i
+  read-short h = record { room = λ g. absurd (omega arith); short = λ g. (refl, refl, refl) }
 
-module _ (i : List ℕ) {r : ℕ} {i′ : List ℕ} {c : Copied} where
-  by-case : {t : Copied} → c ≡ t → r ≡ codeOf (viewCopied t) → i′ ≡ sets i 0 (figures (viewCopied t)) → Tells i r i′ c
-  by-case e f g = (f ∙ ap (λ v. codeOf (viewCopied v)) (sym e), g ∙ ap (λ v. sets i 0 (figures (viewCopied v))) (sym e))
+  pub read-told : 3 ≤ length i → {c : Copy} {r : ℕ} {o′ i′ : List ℕ} → Says codeOf figures c i r i′ → CopiesOf kinds kind s at 0 o c o′
+      → ReadCalled kind s at o i r o′ i′
+  read-told h t c =
+      record {
+        room = λ g. record { copy = _; copies = c; number = t .number; list = t .shown .list };
+        short = λ g. absurd (omega arith);
+      }
 
-  pub tell-unknown : c ≡ Unknown → r ≡ 255 → i′ ≡ sets i 0 (0 ∷ 0 ∷ 0 ∷ []) → Tells i r i′ c
-  tell-unknown e f g = by-case e f g
+module _ (m : List ℕ) (start : ℕ) (o i : List ℕ) where
+  pub fragment-short : length i < 1 → FragmentCalled m start o i 254 o i
+  fragment-short h = record { room = λ g. absurd (omega arith); short = λ g. (refl, refl, refl) }
 
-  pub tell-unread : {q : Refusal} {p : ℕ} → c ≡ Unread q → r ≡ numberOf q → p ≡ placeOf q → i′ ≡ sets i 0 (p ∷ 0 ∷ 0 ∷ []) → Tells i r i′ c
-  tell-unread e f h g = by-case e f (g ∙ ap (λ p. sets i 0 (p ∷ 0 ∷ 0 ∷ [])) h)
+  pub fragment-told : 1 ≤ length i → {w : Written} {r : ℕ} {o′ i′ : List ℕ} → Says wroteCode wroteFigures w i r i′ → WritesFragment m start o w o′
+      → FragmentCalled m start o i r o′ i′
+  fragment-told h t c =
+      record {
+        room = λ g. record { answer = _; writes = c; number = t .number; list = t .shown .list };
+        short = λ g. absurd (omega arith);
+      }
 
-  pub tell-unwritten : {q : Refusal} → c ≡ Unwritten q → r ≡ numberOf q → i′ ≡ sets i 0 (0 ∷ 0 ∷ 0 ∷ []) → Tells i r i′ c
-  tell-unwritten e f g = by-case e f g
+module _ (s : List ℕ) (seen : ℕ) (o i : List ℕ) where
+  pub choose-short : length i < 12 → ChooseCalled s seen o i 254 o i
+  choose-short h = record { room = λ g. absurd (omega arith); short = λ g. (refl, refl, refl) }
 
-  pub tell-done : {n k : ℕ} {b : Bool} → c ≡ Done n b k → (m : ℕ) → m ≡ cond b 1 0 → r ≡ 0 → i′ ≡ sets i 0 (n ∷ m ∷ k ∷ []) → Tells i r i′ c
-  tell-done {n} {k} e m h f g = by-case e f (g ∙ ap (λ m. sets i 0 (n ∷ m ∷ k ∷ [])) h)
+  pub choose-told : 12 ≤ length i → {c : Chosen} {r : ℕ} {o′ i′ : List ℕ} → Says chosenCode chosenFigures c i r i′ → Chooses s (not (eqb seen 0)) o c o′
+      → ChooseCalled s seen o i r o′ i′
+  choose-told h t c =
+      record {
+        room = λ g. record { chosen = _; chooses = c; number = t .number; list = t .shown .list };
+        short = λ g. absurd (omega arith);
+      }
 
--- the figures of a hand-over, by the case that its caller is
-pub tell-caller : (i : List ℕ) (p v f n : ℕ) {i′ : List ℕ} {c t : Caller} → c ≡ t → i′ ≡ sets i 0 (handedFigures p v f n (viewCaller t))
-    → i′ ≡ sets i 0 (handedFigures p v f n (viewCaller c))
-tell-caller i p v f n e g = g ∙ ap (λ z. sets i 0 (handedFigures p v f n (viewCaller z))) (sym e)
+module _ (l run d i : List ℕ) where
+  pub feed-no-state : length l < 7 → FeedCalled l run d i 254 l d i
+  feed-no-state h = record { room = λ g k. absurd (omega arith); short = λ g. (refl, refl, refl, refl) }
 
--- what is told of a choice, by its case
-pub tell-choice : (i : List ℕ) {r : ℕ} {i′ : List ℕ} {c t : Choice} → c ≡ t → r ≡ chosenCode (viewChoice t)
-    → i′ ≡ sets i 0 (chosenFigures (viewChoice t)) → (r ≡ chosenCode (viewChoice c)) × (i′ ≡ sets i 0 (chosenFigures (viewChoice c)))
-tell-choice i e f g =
-    (f ∙ ap (λ z. chosenCode (viewChoice z)) (sym e), g ∙ ap (λ z. sets i 0 (chosenFigures (viewChoice z))) (sym e))
+  pub feed-short : length i < 2 → FeedCalled l run d i 254 l d i
+  feed-short h = record { room = λ g k. absurd (omega arith); short = λ g. (refl, refl, refl, refl) }
 
--- what is told of a feed's answer, by its case
-pub tell-feed : (l i : List ℕ) {r : ℕ} {l′ i′ : List ℕ} {f t : Fed} → f ≡ t → r ≡ fedCode (viewFed t)
-    → l′ ≡ sets l 0 (stateList (fedState (viewFed t))) → i′ ≡ sets i 0 (fedFigures (viewFed t))
-    → (r ≡ fedCode (viewFed f)) × (l′ ≡ sets l 0 (stateList (fedState (viewFed f)))) × (i′ ≡ sets i 0 (fedFigures (viewFed f)))
-tell-feed l i e f g h = (
-  f ∙ ap (λ z. fedCode (viewFed z)) (sym e),
-  g ∙ ap (λ z. sets l 0 (stateList (fedState (viewFed z)))) (sym e),
-  h ∙ ap (λ z. sets i 0 (fedFigures (viewFed z))) (sym e),
-)
-
--- what is told of a fragment, by the case that the writer's answer is
-pub tell-fragment : (m : List ℕ) (start : ℕ) (o i : List ℕ) {r : ℕ} {o′ i′ : List ℕ} (w : Wrote) {t : Wrote} → WritesFragment m start o (viewWrote w) o′
-    → w ≡ t → r ≡ wroteCode (viewWrote t) → i′ ≡ sets i 0 (wroteFigure (viewWrote t) ∷ []) → FragmentTold m start o i r o′ i′
-tell-fragment m start o i w d e f g =
-    record {
-      answer = viewWrote w;
-      writes = d;
-      number = f ∙ ap (λ z. wroteCode (viewWrote z)) (sym e);
-      list = g ∙ ap (λ z. sets i 0 (wroteFigure (viewWrote z) ∷ [])) (sym e);
-    }
+  pub feed-told : 7 ≤ length l → 2 ≤ length i → {f : Said} {r : ℕ} {l′ d′ i′ : List ℕ} → Says fedCode fedFigures f i r i′
+      → Shown (stateList (fedState f)) l l′ → Feeds (stateOf l) run d f d′ → FeedCalled l run d i r l′ d′ i′
+  feed-told h k t u c =
+      record {
+        room = λ g g′. record { said = _; feeds = c; number = t .number; state = u .list; list = t .shown .list };
+        short = λ g. absurd (⊎-elim (λ w. omega arith) (λ w. omega arith) g);
+      }

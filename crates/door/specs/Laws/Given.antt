@@ -12,17 +12,9 @@ use lib.Seq.{sets}
 use borrow.Author.Tests.{ltb-true, le-ltb, ne-eqb}
 use Rattle.xdr.specs.Meaning.Answer.{Written}
 use Rattle.xdr.specs.Meaning.Combinators.{Seen, means, undeclared}
-use Rattle.xdr.specs.Meaning.Views.{viewWrote}
 use Rattle.xdr.specs.Laws.Marks.{and-left, and-right}
-use Rattle.xdr.specs.declared.answer.Wrote.{Wrote}
 use Rattle.door.specs.Meaning.Exports.{wroteCode, wroteFigure}
 use Rattle.door.specs.Meaning.Given.{GivenTold, isWord, areWords, seenOr, optionFits, timeFits, sattr3Fits}
-
--- what is told of a writer's answer, by its case
-pub tell-written : (i : List ℕ) {r : ℕ} {i′ : List ℕ} {w t : Wrote} → w ≡ t → r ≡ wroteCode (viewWrote t) → i′ ≡ sets i 0 (wroteFigure (viewWrote t) ∷ [])
-    → (r ≡ wroteCode (viewWrote w)) × (i′ ≡ sets i 0 (wroteFigure (viewWrote w) ∷ []))
-tell-written i e f g =
-    (f ∙ ap (λ z. wroteCode (viewWrote z)) (sym e), g ∙ ap (λ z. sets i 0 (wroteFigure (viewWrote z) ∷ [])) (sym e))
 
 module _ {S : Type 0} (W : S → Written → List ℕ → Type 0) {g : Option S} (o i : List ℕ) {r : ℕ} {o′ i′ : List ℕ} where
   -- numbers that do not fit

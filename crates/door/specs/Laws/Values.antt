@@ -1,40 +1,53 @@
 -- What the proofs of the exported readers of values cite.
 -- Assumes nothing.
-use mathlib.Core.Path.{_≡_, sym, ap, _∙_}
+use mathlib.Core.Path.{_≡_, refl, sym, ap, _∙_}
 use mathlib.Core.Bool.{Bool, cond}
 use mathlib.Core.List.{List, [], _∷_}
-use Prim.Native.Nat.{ℕ, zero, suc, _+_}
-use native.Mathlib.Nat.{add-zero, add-suc, suc-add}
-use lib.ListN.{set, replicate}
+use Prim.Native.Nat.{ℕ, _+_, _≤_, _<_}
+use native.Mathlib.Omega.{arith}
+use lib.ListN.{length}
 use lib.Seq.{sets}
 use Rattle.xdr.specs.Meaning.Answer.{Answer}
 use Rattle.xdr.specs.Meaning.Pieces.{isInside}
 use Rattle.xdr.specs.declared.piece.Piece.{Piece}
-use Rattle.door.specs.Meaning.Values.{readCode, readFigures, ValueTold, pieceFigures, partCode, partFigures}
+use Rattle.door.specs.Meaning.Figures.{Shown, Padded}
+use Rattle.door.specs.Meaning.Values.{readCode, readFigures, ValueCalled, pieceFigures, PartCalled}
+use Rattle.door.specs.Laws.Figures.{at-case, shown-case, made-as}
 
--- one more of a run of like stores
-pub sets-more : (l : List ℕ) (i n v : ℕ) → sets l i (replicate (suc n) v) ≡ set (sets l i (replicate n v)) (i + n) v
-sets-more l i zero v = ap (λ j. set l j v) (sym (add-zero i))
-sets-more l i (suc n) v =
-    sets-more (set l i v) (suc i) n v ∙ ap (λ j. set (sets (set l i v) (suc i) (replicate n v)) j v) (suc-add i n ∙ sym (add-suc i n))
+-- by the room, and by the case t that a reader's answer is
+module _ {S R : Type 0} (view : R → Answer S) (Answered : Answer S → Type 0) (f : S → List ℕ) (k : ℕ) (i : List ℕ) where
+  pub value-short : length i < 2 + k → ValueCalled Answered f k i 254 i
+  value-short h = record { room = λ g. absurd (omega arith); short = λ g. (refl, refl) }
 
--- what is told of a reader's answer, by the case t that it is
-pub tell-value : {S R : Type 0} (Answered : Answer S → Type 0) (f : S → List ℕ) (k : ℕ) (i : List ℕ) {r : ℕ} {i′ : List ℕ} (view : R → Answer S) {c t : R}
-    → Answered (view c) → c ≡ t → r ≡ readCode (view t) → i′ ≡ sets i 0 (readFigures f k (view t)) → ValueTold Answered f k i r i′
-tell-value Answered f k i view d e g h =
-    record {
-      answer = view _;
-      answers = d;
-      number = g ∙ ap (λ z. readCode (view z)) (sym e);
-      list = h ∙ ap (λ z. sets i 0 (readFigures f k (view z))) (sym e);
-    }
+  pub value-told : 2 + k ≤ length i → {c t : R} {g i′ : List ℕ} {r : ℕ} → Answered (view c) → c ≡ t → Shown g i i′
+      → g ≡ readFigures f k (view t) → r ≡ readCode (view t) → ValueCalled Answered f k i r i′
+  value-told h a e s n m =
+      record {
+        room = λ _. record {
+          answer = _;
+          answers = a;
+          number = at-case (λ z. readCode (view z)) e m;
+          list = shown-case (λ z. readFigures f k (view z)) e s n .list;
+        };
+        short = λ g. absurd (omega arith);
+      }
 
--- what is told of a piece, by whether it lies inside
-pub tell-part : (s : List ℕ) (x : Piece) (i : List ℕ) {r : ℕ} {i′ : List ℕ} (b : Bool) → isInside s x ≡ b → r ≡ cond b 0 4
-    → i′ ≡ sets i 0 (cond b (pieceFigures x) (0 ∷ 0 ∷ [])) → (r ≡ partCode s x) × (i′ ≡ sets i 0 (partFigures s x))
-tell-part s x i b e f g =
-    (f ∙ ap (λ b. cond b 0 4) (sym e), g ∙ ap (λ b. sets i 0 (cond b (pieceFigures x) (0 ∷ 0 ∷ []))) (sym e))
+-- by whether a piece lies inside
+module _ (s : List ℕ) (x : Piece) (i : List ℕ) where
+  pub part-short : length i < 2 → PartCalled s x i 254 i
+  part-short h = record { room = λ g. absurd (omega arith); short = λ g. (refl, refl) }
 
--- the figures of a value, by the case that it is
-pub tell-case : {A : Type 0} (f : A → List ℕ) (i : List ℕ) {i′ : List ℕ} {c t : A} → c ≡ t → i′ ≡ sets i 0 (f t) → i′ ≡ sets i 0 (f c)
-tell-case f i e g = g ∙ ap (λ z. sets i 0 (f z)) (sym e)
+  pub part-told : 2 ≤ length i → {b t : Bool} {g i′ : List ℕ} {r : ℕ} → b ≡ isInside s x → b ≡ t → Shown g i i′
+      → g ≡ cond t (pieceFigures x) (0 ∷ 0 ∷ []) → r ≡ cond t 0 4 → PartCalled s x i r i′
+  part-told h {t = t} e d s′ n m =
+      let q : isInside s x ≡ t = sym e ∙ d in
+      record {
+        room = λ _. (at-case (λ b. cond b 0 4) q m, shown-case (λ b. cond b (pieceFigures x) (0 ∷ 0 ∷ [])) q s′ n .list);
+        short = λ g. absurd (omega arith);
+      }
+
+-- a call's figures, by what the numbers in them are
+pub call-made : {r i i′ : List ℕ} {n p p′ x a b c d u u′ s t v v′ y z : ℕ} → Padded r 0 i i′
+    → r ≡ n ∷ p ∷ x ∷ 0 ∷ a ∷ b ∷ c ∷ d ∷ u ∷ s ∷ t ∷ v ∷ y ∷ z ∷ [] → p ≡ p′ → u ≡ u′ → v ≡ v′
+    → Shown (n ∷ p′ ∷ x ∷ 0 ∷ a ∷ b ∷ c ∷ d ∷ u′ ∷ s ∷ t ∷ v′ ∷ y ∷ z ∷ []) i i′
+call-made k e f g h = made-as k e (rw (f, g, h))

@@ -52,6 +52,9 @@ abbrev pub wroteFigure : Written → ℕ
 wroteFigure (done n) = n
 wroteFigure (unwritten r) = 0
 
+abbrev pub wroteFigures : Written → List ℕ
+wroteFigures w = wroteFigure w ∷ []
+
 pub record FragmentTold (m : List ℕ) (start : ℕ) (o i : List ℕ) (r : ℕ) (o′ i′ : List ℕ) : Type 0 where
   pub answer : Written
   pub writes : WritesFragment m start o answer o′

@@ -1,20 +1,7 @@
 use borrow.Author.Needs.{needs}
-use mathlib.Core.List.{_∷_}
-use mathlib.Core.Bool.{cond}
-use denote.Ref.{now}
-use Rattle.door.specs.Laws.Values.{tell-case}
-use Rattle.door.specs.Meaning.Values.{bodyFigures}
+use Rattle.door.specs.Laws.Figures.{shows-at, listed}
 use Rattle.door.proofs.values_read.put_message.Statement.{statement}
 use Rattle.door.proofs.values_read.put_message.Tie as tie
 
-returns : tie.Need-returns
-returns c = tell-case (λ z. c .before .before .before .before .before .before .before .before .args .next ∷ cond (c .before .before .before .before .before .before .before .before .args .plain) 1 0 ∷ c .before .before .before .before .before .before .before .before .args .m .xid ∷ bodyFigures z) (now (c .before .before .before .before .before .before .before .before .args .info)) (c .before .before .before .before .before .body .given .1) (c .before .before .put-call .ensures)
-
-returns-2 : tie.Need-returns-2
-returns-2 c = tell-case (λ z. c .before .before .before .before .before .before .before .before .args .next ∷ cond (c .before .before .before .before .before .before .before .before .args .plain) 1 0 ∷ c .before .before .before .before .before .before .before .before .args .m .xid ∷ bodyFigures z) (now (c .before .before .before .before .before .before .before .before .args .info)) (c .before .before .before .before .before .body2 .given .1) (c .before .before .put-reply .ensures)
-
 pub put-message-spec : {M : Type 1} → statement M
-put-message-spec =
-    tie.close
-    (tie.spec
-    (search needs) (search needs) (search needs) (search needs) (search needs) returns (search needs) returns-2)
+put-message-spec = tie.close (tie.spec (search needs) (search needs) (search needs) (search needs) (search needs) (λ c. search (shows-at, listed) depth 8) (search needs) (λ c. search (shows-at, listed) depth 8))

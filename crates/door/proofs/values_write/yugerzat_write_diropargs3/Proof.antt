@@ -17,7 +17,7 @@ returns-2 : tie.Need-returns-2
 returns-2 c = record { room = λ h g. absurd (omega arith); short = λ h. (refl, refl, refl) }
 
 returns-3 : tie.Need-returns-3
-returns-3 c = record { room = λ h g. tell-given (λ x w o′. Writes diropargs (now (c .before .before .before .before .before .before .before .before .before .before .before .before .before .before .before .before .before .before .args .source)) x (c .before .before .before .before .before .before .before .before .before .before .before .before .before .before .before .before .before .before .args .start) (now (c .before .before .before .before .before .before .before .before .before .before .before .before .before .before .before .before .before .before .args .out)) w o′) (now (c .before .before .before .before .before .before .before .before .before .before .before .before .before .before .before .before .before .before .args .out)) (now (c .before .before .before .before .before .before .before .before .before .before .before .before .before .before .before .before .before .before .args .info)) refl (viewWrote (c .before .before .before .before .before .before .write-diropargs3 .result)) (c .before .before .before .before .before .before .write-diropargs3 .ensures) (c .before .before .tell-wrote .ensures); short = λ h. absurd (⊎-elim (λ w. omega arith) (λ w. omega arith) h) }
+returns-3 c = record { room = λ h g. tell-given (λ x w o′. Writes diropargs (now (c .before .before .before .before .before .before .before .before .before .before .before .before .before .before .before .before .before .before .args .source)) x (c .before .before .before .before .before .before .before .before .before .before .before .before .before .before .before .before .before .before .args .start) (now (c .before .before .before .before .before .before .before .before .before .before .before .before .before .before .before .before .before .before .args .out)) w o′) (now (c .before .before .before .before .before .before .before .before .before .before .before .before .before .before .before .before .before .before .args .out)) (now (c .before .before .before .before .before .before .before .before .before .before .before .before .before .before .before .before .before .before .args .info)) refl (viewWrote (c .before .before .before .before .before .before .write-diropargs3 .result)) (c .before .before .before .before .before .before .write-diropargs3 .ensures) (c .before .before .tell-wrote .ensures .number, c .before .before .tell-wrote .ensures .shown .list); short = λ h. absurd (⊎-elim (λ w. omega arith) (λ w. omega arith) h) }
 
 pub yugerzat-write-diropargs3-spec : {M : Type 1} → statement M
 yugerzat-write-diropargs3-spec =

@@ -29,7 +29,7 @@ sattr3-of-requires : tie.Need-sattr3-of-requires
 sattr3-of-requires c = λ _. (search needs, yes (c .before .sattr3-fits .ensures) (c .if3 .left))
 
 returns-4 : tie.Need-returns-4
-returns-4 c = record { room = λ h g. tell-given (λ x w o′. Writes (exactly sattr) [] x (c .before .before .before .before .before .before .before .before .before .before .before .before .before .before .before .before .args .start) (now (c .before .before .before .before .before .before .before .before .before .before .before .before .before .before .before .before .args .out)) w o′) (now (c .before .before .before .before .before .before .before .before .before .before .before .before .before .before .before .before .args .out)) (now (c .before .before .before .before .before .before .before .before .before .before .before .before .before .before .before .before .args .info)) (sym (ap (λ b. cond b (some (sattr3Of (now (c .before .before .before .before .before .before .before .before .before .before .before .before .before .before .before .before .args .fields)))) none) (sym (yes (c .before .before .before .before .before .before .before .before .before .before .sattr3-fits .ensures) (c .before .before .before .before .before .before .before .before .before .if3 .left)))) ∙ ap some (sym (c .before .before .before .before .before .before .before .before .sattr3-of .ensures))) (viewWrote (c .before .before .before .before .before .before .write-sattr3 .result)) (c .before .before .before .before .before .before .write-sattr3 .ensures) (c .before .before .tell-wrote .ensures); short = λ h. absurd (⊎-elim (λ w. omega arith) (λ w. omega arith) h) }
+returns-4 c = record { room = λ h g. tell-given (λ x w o′. Writes (exactly sattr) [] x (c .before .before .before .before .before .before .before .before .before .before .before .before .before .before .before .before .args .start) (now (c .before .before .before .before .before .before .before .before .before .before .before .before .before .before .before .before .args .out)) w o′) (now (c .before .before .before .before .before .before .before .before .before .before .before .before .before .before .before .before .args .out)) (now (c .before .before .before .before .before .before .before .before .before .before .before .before .before .before .before .before .args .info)) (sym (ap (λ b. cond b (some (sattr3Of (now (c .before .before .before .before .before .before .before .before .before .before .before .before .before .before .before .before .args .fields)))) none) (sym (yes (c .before .before .before .before .before .before .before .before .before .before .sattr3-fits .ensures) (c .before .before .before .before .before .before .before .before .before .if3 .left)))) ∙ ap some (sym (c .before .before .before .before .before .before .before .before .sattr3-of .ensures))) (viewWrote (c .before .before .before .before .before .before .write-sattr3 .result)) (c .before .before .before .before .before .before .write-sattr3 .ensures) (c .before .before .tell-wrote .ensures .number, c .before .before .tell-wrote .ensures .shown .list); short = λ h. absurd (⊎-elim (λ w. omega arith) (λ w. omega arith) h) }
 
 pub yugerzat-write-sattr3-spec : {M : Type 1} → statement M
 yugerzat-write-sattr3-spec =
