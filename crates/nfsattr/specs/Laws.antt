@@ -1,7 +1,6 @@
 -- What follows: sizes and ranges, what is owed of each kind, and facts that proofs cite.
 pub mod Sizes
 pub mod Words
-pub mod Lent
 pub mod Closed
 pub mod Read
 pub mod Plans

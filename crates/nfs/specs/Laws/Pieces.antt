@@ -4,7 +4,6 @@ use mathlib.Core.Path.{_≡_, refl, sym, ap, ap₂, _∙_}
 use mathlib.Core.Bool.{Bool, true, false, _&&_}
 use mathlib.Core.List.{List, _++_, append-nil}
 use Prim.Native.Nat.{ℕ, _+_, _≤_}
-use native.Mathlib.Omega.{arith}
 use lib.ListN.{length, length-append}
 use borrow.Author.Tests.{le-leb}
 use Rattle.xdr.specs.Meaning.Answer.{Written, most}
@@ -15,7 +14,7 @@ use Rattle.xdr.specs.Meaning.Pieces.{isInside, sizeUpTo}
 use Rattle.xdr.specs.Meaning.Order.{placing}
 use Rattle.xdr.specs.Meaning.Public.{output, writing, Writes, laid, laidOf}
 use Rattle.xdr.specs.Laws.Marks.{and-left, and-right}
-use Rattle.xdr.specs.Laws.Padding.{flag-length, size-small}
+use Rattle.xdr.specs.Laws.Padding.{flag-length}
 use Rattle.xdr.specs.Laws.LayPieces.{bytes-size}
 use Rattle.xdr.specs.Laws.Write.{Ready}
 use Rattle.nfs.specs.Meaning.Set.{sattr}
@@ -36,9 +35,6 @@ entrySize x = sizeUpTo (x .dir .«data» .count) + sizeUpTo (x .name .count)
 
 abbrev pub linkSize : symlinkdata3 → ℕ
 linkSize x = length (sattr .kind .write (x .«symlink_attributes»)) + sizeUpTo (x .«symlink_data» .count)
-
-pub small : (n : ℕ) {r : ℕ} → r ≡ sizeUpTo n → r ≤ 1048580
-small n e = omega (arith, size-small n)
 
 -- what was laid of a message whose pieces lie inside
 pub of-laid : {M S : Type 0} (F : Format M S) (s : List ℕ) (x : S) (o : List ℕ) {bs o′ : List ℕ} → Ready F s x → bs ≡ output F s x → o′ ≡ laid bs o

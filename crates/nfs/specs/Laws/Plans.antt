@@ -3,7 +3,7 @@
 use mathlib.Core.Path.{_≡_, refl, ap}
 use mathlib.Core.Bool.{Bool, true, false, _&&_}
 use Prim.Native.Nat.{ℕ}
-use Rattle.xdr.specs.Meaning.Answer.{Answer, took}
+use Rattle.xdr.specs.Meaning.Answer.{took}
 use Rattle.xdr.specs.Meaning.Items.{word, hyper}
 use Rattle.xdr.specs.Meaning.Format.{exactly}
 use Rattle.xdr.specs.Meaning.Formats.{bytes}

@@ -6,8 +6,6 @@ use mathlib.Core.List.{_++_, append-assoc}
 use Prim.Native.Nat.{ℕ, _+_, _≤_}
 use native.Mathlib.Omega.{arith}
 use lib.ListN.{length, length-append}
-use mir.Syntax.{w64}
-use mir.Val.{Fits}
 use Rattle.xdr.specs.Meaning.Answer.{most}
 use Rattle.xdr.specs.Meaning.Items.{word, hyper, word-pair, hyper-pair}
 use Rattle.nfsattr.specs.Meaning.Attr.{ftype, ftypeNumber, specdata, nfstime, ids, sizes, times, fattr, wcc-attr, pre-op-attr, preCases, post-op-attr, postCases, wcc-data, transfer, limits, fsinfo}
@@ -141,13 +139,6 @@ wcc-data-small v = omega (arith, wcc-data-between v)
 
 pub fsinfo-small : (v : fsinfo3) → length (fsinfo .kind .write v) ≤ most
 fsinfo-small v = omega (arith, fsinfo-length v, post-op-attr-between (v .«obj_attributes»))
-
--- and sums of sizes do not wrap
-pub wcc-data-fits : (n k : ℕ) (v : «pre_op_attr») (w : «post_op_attr») → n ≡ length (pre-op-attr .kind .write v) → k ≡ length (post-op-attr .kind .write w) → Fits w64 (n + k)
-wcc-data-fits n k v w e f = omega (arith, pre-op-attr-small v, post-op-attr-small w)
-
-pub fsinfo-fits : (n : ℕ) (w : «post_op_attr») → n ≡ length (post-op-attr .kind .write w) → Fits w64 (n + 48)
-fsinfo-fits n w e = omega (arith, post-op-attr-small w)
 
 -- fsinfo3 is 52 bytes without attributes, and 136 with them
 pub fsinfo-void : (m : fsinfo3) → m .«obj_attributes» ≡ post.Void → length (fsinfo .kind .write m) ≡ 52

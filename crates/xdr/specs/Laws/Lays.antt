@@ -1,27 +1,32 @@
 -- What a writer of bytes leaves, in the shape of its goals, so that `search` closes each: the facts are those of its tests and of its calls.
 -- Assumes nothing.
 use mathlib.Core.Path.{_≡_, refl, sym, ap, subst, _∙_}
-use mathlib.Core.Bool.{Bool}
+use mathlib.Core.Bool.{Bool, true, false, not}
 use mathlib.Core.List.{List, [], _++_}
 use Prim.Native.Nat.{ℕ, _+_, _-_, _≤_, _<_}
 use native.Mathlib.Omega.{arith}
+use lib.Dec.{lit≤}
 use lib.ListN.{length, length-append}
+use mir.Syntax.{w64}
+use mir.Val.{Fits}
 use borrow.Author.Needs.{needs}
 use borrow.Rule.Slice.PartMut.{midOf, putMid}
 use Rattle.xdr.specs.Meaning.Answer.{most}
 use Rattle.xdr.specs.Meaning.Kind.{Codec}
-use Rattle.xdr.specs.Meaning.Format.{exactly}
+use Rattle.xdr.specs.Meaning.Format.{Format, exactly}
 use Rattle.xdr.specs.Meaning.Order.{roomed}
-use Rattle.xdr.specs.Meaning.Public.{Writes, laid}
+use Rattle.xdr.specs.Meaning.Public.{output, Writes, laid, laidOf}
 use Rattle.xdr.specs.Meaning.Views.{viewWrote}
 use Rattle.xdr.specs.Meaning.Items.{hyper, flag}
 use Rattle.xdr.specs.Meaning.Formats.{eightBytes, eightHeld}
-use Rattle.xdr.specs.Laws.Padding.{flag-length, eight-length}
+use Rattle.xdr.specs.Laws.Padding.{flag-length, eight-length, size-small}
 use Rattle.xdr.specs.Laws.Ranges.{eight-good, eight-bytes}
 use Rattle.xdr.specs.Laws.Room.{room-off, room-laid}
 use Rattle.xdr.specs.Laws.Fixed.{Fixed}
-use Rattle.xdr.specs.Laws.Write.{Ready, laid-short, laid-is, laid-same, lent, lent-first}
-use Rattle.xdr.specs.Laws.Writers.{room-place, plain-off, plain-on}
+use Rattle.xdr.specs.Laws.Write.{Ready, laid-short, laid-is, laid-same, lent, lent-first, put-same, lent-of, of-is}
+use Rattle.xdr.specs.Laws.Writers.{room-place, plain-off, plain-on, Writer}
+use Rattle.xdr.specs.Meaning.Pieces.{sizeUpTo}
+use Rattle.xdr.specs.Laws.LayPieces.{yes}
 use Rattle.xdr.specs.declared.answer.Wrote.{Wrote}
 use Rattle.xdr.specs.declared.answer.Wrote.the-variants as wrote
 use Rattle.xdr.specs.declared.refusal.Refusal.{Refusal}
@@ -60,9 +65,6 @@ module _ (n i : ℕ) (bs o a b y z : List ℕ) where
         (laid-is {n = i + length b + length c} (omega arith) (lent c (lent b (lent-first a (omega arith) (sym k) e) (omega arith) refl f) (omega arith) refl d)))
         d
 
--- there is room from a place on
-pub ruleset rooms = (needs, room-place)
-
 pub flag-size : (v : Bool) → 4 ≡ length (flag .kind .write v)
 flag-size v = sym (flag-length v)
 
@@ -99,3 +101,45 @@ module _ (v at : ℕ) (o : List ℕ) (w : Wrote) where
   unfolding eightHeld
   eight-on n zs h e f z =
       room-laid eightBytes [] v (eight-length v h) eight-ready (omega arith) at o (eight-good v h) e f (laid-same _ _ _ (eight-bytes v h) z)
+
+-- there is room from a place on
+pub ruleset rooms = (needs, room-place)
+
+-- sums of sizes do not wrap
+module _ (n k : ℕ) (a : n ≤ 2097152) (b : k ≤ 2097152) where
+  pub sum-two : Fits w64 (n + k)
+  sum-two = omega arith
+
+  pub sum-three : (j : ℕ) → j ≤ 2097152 → Fits w64 (n + k + j)
+  sum-three j c = omega arith
+
+pub by-length : (n : ℕ) (a : List ℕ) → n ≡ length a → length a ≤ most → n ≤ 2097152
+by-length n a e h = omega arith
+
+pub by-count : (n a : ℕ) → n ≡ sizeUpTo a → n ≤ 2097152
+by-count n a e = omega (arith, size-small a)
+
+pub ruleset sums = (tt, lit≤, sum-two, sum-three, by-length, by-count)
+
+-- a place behind a field
+pub behind : (i m l : ℕ) → m ≡ l → i + m ≡ i + l
+behind i m l e = ap (λ m. i + m) e
+
+-- a message whose first part has no pieces, and its second laid behind that
+pub record Front {M S N M₂ S₂ : Type 0} {F : Format M S} {F₂ : Format M₂ S₂} (C : Codec N) (W : Writer F) (W₂ : Writer F₂) : Type 0 where
+  pub left : S → N
+  pub right : S → S₂
+  pub in-right : (s : List ℕ) (x : S) → F .held .inside s x ≡ true → F₂ .held .inside s (right x) ≡ true
+  pub bytes : (s : List ℕ) (x : S) → C .kind .write (left x) ++ output F₂ s (right x) ≡ output F s x
+
+module _ {M S N M₂ S₂ : Type 0} {F : Format M S} {F₂ : Format M₂ S₂} {C : Codec N} {W : Writer F} {W₂ : Writer F₂} (T : Front C W W₂) (s : List ℕ) (x : S) (o zs₁ zs₂ : List ℕ) (i : Bool) (m n : ℕ) where
+  pub put-front : length s ≤ most → i ≡ F .held .inside s x → not i ≡ false → m ≡ W .size x → m ≤ length o → n ≡ length (C .kind .write (T .left x))
+      → zs₁ ≡ laid (C .kind .write (T .left x)) (tailOf 0 o) → zs₂ ≡ laidOf F₂ s (T .right x) (tailOf n (after 0 o zs₁)) → after n (after 0 o zs₁) zs₂ ≡ laidOf F s x o
+  put-front h e t g l k a b =
+      let r : Ready F s x = record { short = h; inside = yes e t } in
+      let r₂ : Ready F₂ s (T .right x) = record { short = h; inside = T .in-right s x (yes e t) } in
+      let l₂ = W₂ .sized s (T .right x) r₂ in
+      let whole : length (C .kind .write (T .left x)) + length (output F₂ s (T .right x)) ≡ m =
+      sym (length-append (C .kind .write (T .left x)) (output F₂ s (T .right x))) ∙ ap length (T .bytes s x) ∙ W .sized s x r ∙ sym g in
+      of-is F s x o r (omega (arith, whole, k, l₂))
+      (put-same (T .bytes s x) (lent-of F₂ s (T .right x) r₂ (lent-first (C .kind .write (T .left x)) (omega (arith, whole, k, l₂)) (sym k) a) (omega (arith, whole, k, l₂)) l₂ b))

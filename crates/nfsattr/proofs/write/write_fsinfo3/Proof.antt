@@ -1,8 +1,8 @@
 use borrow.Author.Needs.{needs}
 use Rattle.xdr.specs.Laws.Writers.{plain-off, plain-on}
+use Rattle.xdr.specs.Laws.Lays.{rooms}
 use Rattle.nfsattr.specs.Meaning.Attr.{fsinfo}
 use Rattle.nfsattr.specs.Laws.Bytes.{fsinfo-small}
-use Rattle.xdr.specs.Laws.Lays.{rooms}
 use Rattle.nfsattr.proofs.Ranges.{fsinfo-good}
 use Rattle.nfsattr.proofs.write.write_fsinfo3.Statement.{statement}
 use Rattle.nfsattr.proofs.write.write_fsinfo3.Tie as tie

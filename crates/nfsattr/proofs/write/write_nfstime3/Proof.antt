@@ -1,6 +1,6 @@
 use borrow.Author.Needs.{needs}
-use Rattle.nfsattr.specs.Laws.Sizes.{nfstime-fixed}
 use Rattle.xdr.specs.Laws.Lays.{fixed-off, fixed-on, rooms}
+use Rattle.nfsattr.specs.Laws.Sizes.{nfstime-fixed}
 use Rattle.nfsattr.proofs.Ranges.{nfstime-good}
 use Rattle.nfsattr.proofs.write.write_nfstime3.Statement.{statement}
 use Rattle.nfsattr.proofs.write.write_nfstime3.Tie as tie

@@ -1,8 +1,8 @@
 use borrow.Author.Needs.{needs}
 use Rattle.xdr.specs.Laws.Writers.{plain-off, plain-on}
+use Rattle.xdr.specs.Laws.Lays.{rooms}
 use Rattle.nfsattr.specs.Meaning.Attr.{post-op-attr}
 use Rattle.nfsattr.specs.Laws.Bytes.{post-op-attr-small}
-use Rattle.xdr.specs.Laws.Lays.{rooms}
 use Rattle.nfsattr.proofs.Ranges.{post-op-attr-good}
 use Rattle.nfsattr.proofs.write.write_post_op_attr.Statement.{statement}
 use Rattle.nfsattr.proofs.write.write_post_op_attr.Tie as tie

@@ -1,6 +1,6 @@
 use borrow.Author.Needs.{needs}
-use Rattle.nfsattr.specs.Laws.Sizes.{wcc-attr-fixed}
 use Rattle.xdr.specs.Laws.Lays.{fixed-off, fixed-on, rooms}
+use Rattle.nfsattr.specs.Laws.Sizes.{wcc-attr-fixed}
 use Rattle.nfsattr.proofs.Ranges.{wcc-attr-good}
 use Rattle.nfsattr.proofs.write.write_wcc_attr.Statement.{statement}
 use Rattle.nfsattr.proofs.write.write_wcc_attr.Tie as tie

@@ -1,8 +1,8 @@
 use borrow.Author.Needs.{needs}
 use Rattle.xdr.specs.Laws.Writers.{plain-off, plain-on}
+use Rattle.xdr.specs.Laws.Lays.{rooms}
 use Rattle.nfsattr.specs.Meaning.Attr.{wcc-data}
 use Rattle.nfsattr.specs.Laws.Bytes.{wcc-data-small}
-use Rattle.xdr.specs.Laws.Lays.{rooms}
 use Rattle.nfsattr.proofs.Ranges.{wcc-data-good}
 use Rattle.nfsattr.proofs.write.write_wcc_data.Statement.{statement}
 use Rattle.nfsattr.proofs.write.write_wcc_data.Tie as tie

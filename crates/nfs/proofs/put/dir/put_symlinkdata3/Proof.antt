@@ -1,7 +1,8 @@
 use borrow.Author.Needs.{needs}
 use Rattle.xdr.specs.Laws.Write.{of-long}
 use Rattle.xdr.specs.Laws.Writers.{put-outside, put-short}
-use Rattle.nfs.specs.Laws.Writers.{symlinkdata-writer, symlinkdata-front, put-front}
+use Rattle.xdr.specs.Laws.Lays.{put-front}
+use Rattle.nfs.specs.Laws.Writers.{symlinkdata-writer, symlinkdata-front}
 use Rattle.nfs.proofs.put.dir.put_symlinkdata3.Statement.{statement}
 use Rattle.nfs.proofs.put.dir.put_symlinkdata3.Tie as tie
 

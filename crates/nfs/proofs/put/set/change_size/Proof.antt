@@ -1,6 +1,6 @@
 use borrow.Author.Needs.{needs}
+use Rattle.xdr.specs.Laws.Lays.{sums}
 use Rattle.nfs.specs.Laws.Bytes.{set-size-small, set-atime-small, set-mtime-small, change-size}
-use Rattle.nfs.specs.Laws.Writers.{two-fit, three-fit}
 use Rattle.nfs.proofs.put.set.change_size.Statement.{statement}
 use Rattle.nfs.proofs.put.set.change_size.Tie as tie
 
@@ -8,5 +8,5 @@ pub change-size-spec : {M : Type 1} → statement M
 change-size-spec =
     tie.close
     (tie.spec
-    (search needs) (search needs) (λ c. search (two-fit, set-size-small, set-atime-small)) (search needs)
-    (λ c. search (three-fit, set-size-small, set-atime-small, set-mtime-small)) (λ c. search change-size))
+    (search needs) (search needs) (λ c. search (sums, set-size-small, set-atime-small)) (search needs)
+    (λ c. search (sums, set-size-small, set-atime-small, set-mtime-small)) (λ c. search change-size))

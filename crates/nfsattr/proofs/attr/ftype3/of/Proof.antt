@@ -1,5 +1,5 @@
-use Rattle.nfsattr.specs.Meaning.Attr.{ftypeNumber, ftypes}
 use Rattle.xdr.specs.Laws.Numbers.{found-at, found-none}
+use Rattle.nfsattr.specs.Meaning.Attr.{ftypeNumber, ftypes}
 use Rattle.nfsattr.proofs.attr.ftype3.of.Statement.{statement}
 use Rattle.nfsattr.proofs.attr.ftype3.of.Tie as tie
 

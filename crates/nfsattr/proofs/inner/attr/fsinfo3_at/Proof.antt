@@ -1,6 +1,6 @@
 use borrow.Author.Needs.{needs}
-use Rattle.nfsattr.specs.Meaning.Attr.{fsinfo}
 use Rattle.xdr.specs.Laws.Records.{by-plan}
+use Rattle.nfsattr.specs.Meaning.Attr.{fsinfo}
 use Rattle.nfsattr.specs.Laws.Plans.{fsinfo-plan, attr-asks}
 use Rattle.nfsattr.proofs.inner.attr.fsinfo3_at.Statement.{statement}
 use Rattle.nfsattr.proofs.inner.attr.fsinfo3_at.Tie as tie

@@ -1,6 +1,6 @@
 use borrow.Author.Needs.{needs}
-use Rattle.nfsattr.specs.Meaning.Attr.{pre-op-attr}
 use Rattle.xdr.specs.Laws.Records.{by-plan}
+use Rattle.nfsattr.specs.Meaning.Attr.{pre-op-attr}
 use Rattle.nfsattr.specs.Laws.Plans.{pre-op-attr-plan, attr-asks}
 use Rattle.nfsattr.proofs.inner.attr.pre_op_attr_at.Statement.{statement}
 use Rattle.nfsattr.proofs.inner.attr.pre_op_attr_at.Tie as tie

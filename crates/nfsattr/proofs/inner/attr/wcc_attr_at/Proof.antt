@@ -1,6 +1,6 @@
 use borrow.Author.Needs.{needs}
-use Rattle.nfsattr.specs.Meaning.Attr.{wcc-attr}
 use Rattle.xdr.specs.Laws.Records.{by-plan}
+use Rattle.nfsattr.specs.Meaning.Attr.{wcc-attr}
 use Rattle.nfsattr.specs.Laws.Plans.{wcc-attr-plan, attr-asks}
 use Rattle.nfsattr.proofs.inner.attr.wcc_attr_at.Statement.{statement}
 use Rattle.nfsattr.proofs.inner.attr.wcc_attr_at.Tie as tie

@@ -1,6 +1,6 @@
 use borrow.Author.Needs.{needs}
-use Rattle.nfsattr.specs.Meaning.Attr.{wcc-data}
 use Rattle.xdr.specs.Laws.Records.{by-plan}
+use Rattle.nfsattr.specs.Meaning.Attr.{wcc-data}
 use Rattle.nfsattr.specs.Laws.Plans.{wcc-data-plan, attr-asks}
 use Rattle.nfsattr.proofs.inner.attr.wcc_data_at.Statement.{statement}
 use Rattle.nfsattr.proofs.inner.attr.wcc_data_at.Tie as tie

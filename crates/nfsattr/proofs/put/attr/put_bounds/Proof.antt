@@ -1,6 +1,6 @@
 use borrow.Author.Needs.{needs}
-use Rattle.nfsattr.specs.Laws.Words.{bounds-size, transfers-size}
 use Rattle.xdr.specs.Laws.Lays.{lays}
+use Rattle.nfsattr.specs.Laws.Words.{bounds-size, transfers-size}
 use Rattle.nfsattr.proofs.put.attr.put_bounds.Statement.{statement}
 use Rattle.nfsattr.proofs.put.attr.put_bounds.Tie as tie
 

@@ -1,7 +1,7 @@
 use borrow.Author.Needs.{needs}
+use Rattle.xdr.specs.Laws.Lays.{lays, size-is, size-behind}
 use Rattle.nfsattr.specs.Laws.Sizes.{fattr-fixed, ids-fixed, sizes-fixed}
 use Rattle.nfsattr.specs.Laws.Bytes.{fattr-bytes}
-use Rattle.xdr.specs.Laws.Lays.{lays, size-is, size-behind}
 use Rattle.nfsattr.proofs.put.attr.put_fattr3.Statement.{statement}
 use Rattle.nfsattr.proofs.put.attr.put_fattr3.Tie as tie
 

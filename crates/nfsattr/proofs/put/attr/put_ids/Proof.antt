@@ -1,8 +1,8 @@
 use borrow.Author.Needs.{needs}
 use Rattle.xdr.specs.Laws.Fixed.{word-pair-fixed}
+use Rattle.xdr.specs.Laws.Lays.{lays, size-is, size-behind}
 use Rattle.nfsattr.specs.Laws.Sizes.{ids-fixed, ftype-fixed}
 use Rattle.nfsattr.specs.Laws.Bytes.{ids-bytes}
-use Rattle.xdr.specs.Laws.Lays.{lays, size-is, size-behind}
 use Rattle.nfsattr.proofs.put.attr.put_ids.Statement.{statement}
 use Rattle.nfsattr.proofs.put.attr.put_ids.Tie as tie
 

@@ -1,6 +1,6 @@
 use borrow.Author.Needs.{needs}
-use Rattle.nfsattr.specs.Laws.Bytes.{nfstime-bytes}
 use Rattle.xdr.specs.Laws.Lays.{lays}
+use Rattle.nfsattr.specs.Laws.Bytes.{nfstime-bytes}
 use Rattle.nfsattr.proofs.put.attr.put_nfstime3.Statement.{statement}
 use Rattle.nfsattr.proofs.put.attr.put_nfstime3.Tie as tie
 

@@ -1,8 +1,8 @@
 use borrow.Author.Needs.{needs}
 use Rattle.xdr.specs.Laws.Fixed.{hyper-pair-fixed}
+use Rattle.xdr.specs.Laws.Lays.{lays, size-is, size-behind}
 use Rattle.nfsattr.specs.Laws.Sizes.{sizes-fixed, specdata-fixed}
 use Rattle.nfsattr.specs.Laws.Bytes.{sizes-bytes}
-use Rattle.xdr.specs.Laws.Lays.{lays, size-is, size-behind}
 use Rattle.nfsattr.proofs.put.attr.put_sizes.Statement.{statement}
 use Rattle.nfsattr.proofs.put.attr.put_sizes.Tie as tie
 

@@ -1,6 +1,6 @@
 use borrow.Author.Needs.{needs}
-use Rattle.nfsattr.specs.Laws.Bytes.{specdata-bytes}
 use Rattle.xdr.specs.Laws.Lays.{lays}
+use Rattle.nfsattr.specs.Laws.Bytes.{specdata-bytes}
 use Rattle.nfsattr.proofs.put.attr.put_specdata3.Statement.{statement}
 use Rattle.nfsattr.proofs.put.attr.put_specdata3.Tie as tie
 

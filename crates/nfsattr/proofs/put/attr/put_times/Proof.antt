@@ -1,7 +1,7 @@
 use borrow.Author.Needs.{needs}
+use Rattle.xdr.specs.Laws.Lays.{lays, size-is}
 use Rattle.nfsattr.specs.Laws.Sizes.{times-fixed, nfstime-fixed}
 use Rattle.nfsattr.specs.Laws.Bytes.{times-bytes}
-use Rattle.xdr.specs.Laws.Lays.{lays, size-is}
 use Rattle.nfsattr.proofs.put.attr.put_times.Statement.{statement}
 use Rattle.nfsattr.proofs.put.attr.put_times.Tie as tie
 

@@ -1,6 +1,6 @@
 use borrow.Author.Needs.{needs}
-use Rattle.nfsattr.specs.Laws.Bytes.{transfer-bytes}
 use Rattle.xdr.specs.Laws.Lays.{lays}
+use Rattle.nfsattr.specs.Laws.Bytes.{transfer-bytes}
 use Rattle.nfsattr.proofs.put.attr.put_transfer.Statement.{statement}
 use Rattle.nfsattr.proofs.put.attr.put_transfer.Tie as tie
 

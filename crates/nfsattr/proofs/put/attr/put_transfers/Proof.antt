@@ -1,7 +1,7 @@
 use borrow.Author.Needs.{needs}
+use Rattle.xdr.specs.Laws.Lays.{lays, size-is}
 use Rattle.nfsattr.specs.Laws.Sizes.{transfer-fixed}
 use Rattle.nfsattr.specs.Laws.Words.{transfers-size}
-use Rattle.xdr.specs.Laws.Lays.{lays, size-is}
 use Rattle.nfsattr.proofs.put.attr.put_transfers.Statement.{statement}
 use Rattle.nfsattr.proofs.put.attr.put_transfers.Tie as tie
 

@@ -1,7 +1,7 @@
 use borrow.Author.Needs.{needs}
+use Rattle.xdr.specs.Laws.Lays.{lays, size-is}
 use Rattle.nfsattr.specs.Laws.Sizes.{nfstime-fixed}
 use Rattle.nfsattr.specs.Laws.Words.{two-times-size}
-use Rattle.xdr.specs.Laws.Lays.{lays, size-is}
 use Rattle.nfsattr.proofs.put.attr.put_two_times.Statement.{statement}
 use Rattle.nfsattr.proofs.put.attr.put_two_times.Tie as tie
 

@@ -1,8 +1,8 @@
 use borrow.Author.Needs.{needs}
 use Rattle.xdr.specs.Laws.Fixed.{hyper-fixed}
+use Rattle.xdr.specs.Laws.Lays.{lays, size-is}
 use Rattle.nfsattr.specs.Laws.Sizes.{wcc-attr-fixed}
 use Rattle.nfsattr.specs.Laws.Bytes.{wcc-attr-bytes}
-use Rattle.xdr.specs.Laws.Lays.{lays, size-is}
 use Rattle.nfsattr.proofs.put.attr.put_wcc_attr.Statement.{statement}
 use Rattle.nfsattr.proofs.put.attr.put_wcc_attr.Tie as tie
 

@@ -1,7 +1,7 @@
 use borrow.Author.Needs.{needs}
 use Rattle.xdr.specs.Laws.Fixed.{word-fixed}
-use Rattle.nfsattr.specs.Laws.Words.{three-size}
 use Rattle.xdr.specs.Laws.Lays.{lays, size-is}
+use Rattle.nfsattr.specs.Laws.Words.{three-size}
 use Rattle.nfsattr.proofs.put.words.put_u32_three.Statement.{statement}
 use Rattle.nfsattr.proofs.put.words.put_u32_three.Tie as tie
 

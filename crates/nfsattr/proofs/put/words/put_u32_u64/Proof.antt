@@ -1,7 +1,7 @@
 use borrow.Author.Needs.{needs}
 use Rattle.xdr.specs.Laws.Fixed.{word-fixed}
-use Rattle.nfsattr.specs.Laws.Words.{word-hyper-size}
 use Rattle.xdr.specs.Laws.Lays.{lays, size-is}
+use Rattle.nfsattr.specs.Laws.Words.{word-hyper-size}
 use Rattle.nfsattr.proofs.put.words.put_u32_u64.Statement.{statement}
 use Rattle.nfsattr.proofs.put.words.put_u32_u64.Tie as tie
 

@@ -1,5 +1,5 @@
-use Rattle.nfsattr.specs.Meaning.Stat.{failNumber, failures}
 use Rattle.xdr.specs.Laws.Numbers.{found-at, found-none}
+use Rattle.nfsattr.specs.Meaning.Stat.{failNumber, failures}
 use Rattle.nfsattr.proofs.stat.nfsfail3.of.Statement.{statement}
 use Rattle.nfsattr.proofs.stat.nfsfail3.of.Tie as tie
 

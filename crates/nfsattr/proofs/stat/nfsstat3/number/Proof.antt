@@ -1,6 +1,6 @@
 use borrow.Author.Needs.{needs}
-use Rattle.nfsattr.specs.Meaning.Stat.{statNumber}
 use Rattle.xdr.specs.Laws.Numbers.{numbered}
+use Rattle.nfsattr.specs.Meaning.Stat.{statNumber}
 use Rattle.nfsattr.proofs.stat.nfsstat3.number.Statement.{statement}
 use Rattle.nfsattr.proofs.stat.nfsstat3.number.Tie as tie
 

@@ -1,6 +1,6 @@
 use borrow.Author.Needs.{needs}
-use Rattle.nfsattr.specs.Meaning.Stat.{statNumber, statuses}
 use Rattle.xdr.specs.Laws.Numbers.{found-at}
+use Rattle.nfsattr.specs.Meaning.Stat.{statNumber, statuses}
 use Rattle.nfsattr.specs.Laws.Read.{stat-failed}
 use Rattle.nfsattr.proofs.stat.nfsstat3.of.Statement.{statement}
 use Rattle.nfsattr.proofs.stat.nfsstat3.of.Tie as tie
