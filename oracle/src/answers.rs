@@ -1,4 +1,4 @@
-//! What the functions answer, in the words of document 01.
+//! What the functions answer, in the words of docs/SCOPE.md.
 
 /// The bound of refusal 3.
 pub const BOUND: usize = 1_048_576;

@@ -100,7 +100,7 @@ impl Asked {
         }
     }
 
-    /// A piece of a source of that length, written: by the rules of document 01, for the crate has no pieces.
+    /// A piece of a source of that length, written: by the rules of docs/SCOPE.md, for the crate has no pieces.
     fn write(&mut self, name: &str, width: usize, length: usize, piece: (usize, usize), room: usize, start: usize) {
         let (source, (at, count)) = (ruled(length), piece);
         let mut out = vec![EMPTY; room];

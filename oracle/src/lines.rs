@@ -1,4 +1,4 @@
-//! The lines of VECTORS.md: cases and answers as text.
+//! The lines of the program `answers`: cases and answers as text.
 use std::fmt::Write;
 
 use crate::answers::{Choice, Fed, Refusal, State, Took};

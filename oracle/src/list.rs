@@ -35,7 +35,7 @@ pub fn lines(captures: &Path) -> io::Result<Vec<String>> {
     Ok(list)
 }
 
-/// The worked bytes of document 01, and what it names as traps.
+/// The worked bytes of docs/SCOPE.md, and its traps.
 const WORKED: &[&str] = &[
     "read bool 0 00000100",
     "read opaque 0 0000000568656C6C6F000000",

@@ -1,4 +1,4 @@
-//! Answers the lines of VECTORS.md as the program `answers` must: from the crate, and where it cannot tell, from the model.
+//! Answers lines as the program `answers` must: from the crate, and where it cannot tell, from the model.
 use crate::answers::{Fed, State, BOUND};
 use crate::lent::EMPTY;
 use crate::lines;
@@ -161,7 +161,7 @@ mod tests {
     use crate::lines::LONGEST;
     use crate::truth::Truth;
 
-    /// The examples of VECTORS.md, and the worked bytes of document 01 that they leave out.
+    /// The examples of such lines, and the worked bytes of docs/SCOPE.md that they leave out.
     const WORKED: &[(&str, &str)] = &[
         ("read bool 0 00000100", "took 4 loose 00000001"),
         ("read opaque 0 0000000568656C6C6F000000", "took 12 plain 0000000568656c6c6f000000"),
@@ -194,7 +194,7 @@ mod tests {
         ("part 0011223344 3 3", "outside -"),
     ];
 
-    /// What document 01 leaves to the program: docs/DECISIONS.md says how it was decided.
+    /// What docs/SCOPE.md leaves to the program: docs/DECISIONS.md says how it was decided.
     const DECIDED: &[(&[u8], &str)] = &[
         (b"", "?"),
         (b" ", "?"),

@@ -1,4 +1,4 @@
-//! The kinds of message, as document 01 and the RFCs lay them out. The model reads by these shapes, and the cases are
+//! The kinds of message, as docs/SCOPE.md and the RFCs lay them out. The model reads by these shapes, and the cases are
 //! made by them. They are written from the documents and not from the crate, so that a misreading of either shows.
 
 /// How a message is laid out.
@@ -73,7 +73,7 @@ const SET_SIZE3: Shape = Optional(&Hyper);
 const SET_TIME: Shape = Union { arms: &[(0, &NOTHING), (1, &NOTHING), (2, &TWO_WORDS)], undeclared: Undeclared::Refused };
 const SATTR3: Shape = Record(&[&SET_WORD, &SET_WORD, &SET_WORD, &SET_SIZE3, &SET_TIME, &SET_TIME]);
 
-/// The kinds in the order of VECTORS.md; a kind's number is its index.
+/// The kinds in the order of kinds.txt; a kind's number is its index.
 pub static KINDS: [(&str, Shape); 47] = [
     ("bool", Flag),
     ("i32", Word),

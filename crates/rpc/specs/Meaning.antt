@@ -1,4 +1,4 @@
--- What the messages of RPC mean: short definitions, to be held against RFC 5531 and document 01. Read them in this order.
+-- What the messages of RPC mean: short definitions, to be held against RFC 5531 and docs/SCOPE.md. Read them in this order.
 pub mod Closed
 pub mod Messages
 pub mod Auth

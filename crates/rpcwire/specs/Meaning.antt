@@ -1,4 +1,4 @@
--- What things mean: short definitions, to be held against RFC 5531 and document 01. Read them in this order.
+-- What things mean: short definitions, to be held against RFC 5531 and docs/SCOPE.md. Read them in this order.
 pub mod Stream
 pub mod Promise
 pub mod Session

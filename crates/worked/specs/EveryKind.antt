@@ -1,4 +1,4 @@
--- Of each of the door's 47 kinds there are two different messages, so that the theorems of `Idle` speak of every kind: each takes the word
+-- Of each of the door's kinds there are two different messages, so that the theorems of `Idle` speak of every kind: each takes the word
 -- 00000001 again and again, and takes another message from the word 00000002, or from zeros.
 -- Assumes nothing.
 use mathlib.Core.Path.{_≡_, refl, sym, ap, _∙_}

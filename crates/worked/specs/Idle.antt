@@ -1,4 +1,4 @@
--- The six idle versions that document 01 names. Each is shut out by the contract that it would have to keep: of every kind, every place
+-- The six idle versions that docs/SCOPE.md names. Each is shut out by the contract that it would have to keep: of every kind, every place
 -- and every buffer, and not of chosen bytes alone.
 -- Assumes nothing.
 use mathlib.Core.Path.{_≡_, refl, sym, ap, subst, subst₂, _∙_}

@@ -1,4 +1,4 @@
--- What a worked case of document 01 says.
+-- What a worked case says (docs/SCOPE.md, Worked bytes).
 -- Assumes nothing.
 use mathlib.Core.Path.{_≡_}
 use mathlib.Core.List.{List, [], _∷_}

@@ -1,4 +1,4 @@
--- The rows of document 01's worked bytes that are marked P.
+-- The worked bytes of docs/SCOPE.md that are proved as one table.
 -- Assumes nothing.
 use mathlib.Core.Bool.{true, false}
 use mathlib.Core.List.{List, [], _∷_}

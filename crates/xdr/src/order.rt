@@ -1,4 +1,4 @@
-// What public readers and writers test first, in document 01's order; the layers above use the same tests.
+// What public readers and writers test first, in the order of docs/SCOPE.md (Refusals); the layers above use the same tests.
 ghost use mathlib.Core.Path.{_≡_};
 ghost use mathlib.Core.Bool.{true};
 ghost use Rattle.xdr.specs.Meaning.Answer.{opened, took};

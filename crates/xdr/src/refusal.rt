@@ -1,4 +1,4 @@
-// Why a message is not read, written, assembled or answered: document 01's refusals 1 to 9, in one enum for every layer.
+// Why a message is not read, written, assembled or answered: refusals 1 to 9 of docs/SCOPE.md, in one enum for every layer.
 ghost use mathlib.Core.Path.{_≡_};
 ghost use Rattle.xdr.specs.Meaning.Refusal.{numberOf, placeOf};
 

@@ -13,7 +13,7 @@ pub enum Reading {
     Short,
     /// `InvalidData`: refusal 2.
     Undeclared,
-    /// Any other error: document 01 knows none.
+    /// Any other error: docs/SCOPE.md has no refusal for it.
     Other(ErrorKind),
 }
 
@@ -40,7 +40,7 @@ pub(crate) fn refusal(kind: ErrorKind) -> Reading {
 
 macro_rules! kinds {
     ($($name:literal $fresh:expr;)*) => {
-        /// The kinds in the order of VECTORS.md; a kind's number is its index.
+        /// The kinds in the order of kinds.txt; a kind's number is its index.
         pub const KINDS: &[&str] = &[$($name),*];
 
         type ReadOne = fn(&[u8], &mut Vec<u8>) -> Reading;

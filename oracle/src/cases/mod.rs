@@ -21,7 +21,7 @@ pub struct Case {
     pub lending: Lending,
 }
 
-/// What is asked. Most could be put by a line of VECTORS.md.
+/// What is asked. Most could be put to `answers` as a line.
 #[derive(Clone, Debug)]
 pub enum Question {
     Read { kind: u32, at: usize, message: Vec<u8>, room: Room },

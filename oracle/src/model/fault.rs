@@ -1,4 +1,4 @@
-//! Faults that can be planted in the model: those that document 01 names as traps, and others of the same sort.
+//! Faults that can be planted in the model: those that docs/SCOPE.md names as traps, and others of the same sort.
 
 macro_rules! faults {
     ($($fault:ident $name:literal $what:literal;)*) => {

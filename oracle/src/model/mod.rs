@@ -1,4 +1,4 @@
-//! A model of document 01, written from the document. It calls nothing of the crate and nothing of the proved library.
+//! A model of the rules of docs/SCOPE.md, written from the rules. It calls nothing of the crate and nothing of the proved library.
 //!
 //! It has three uses: it fills in what the crate cannot tell (places of refusals and pieces, states that don't fit); it tells
 //! beforehand how much the crate would allocate for a message; and, with the feature `model`, it stands on the proved

@@ -1,4 +1,4 @@
-//! Records from a stream, byte by byte as document 01 has the rules, and `write_fragment`.
+//! Records from a stream, byte by byte as docs/SCOPE.md has the rules, and `write_fragment`.
 use super::{Fault, Model};
 use crate::answers::{Fed, State, BOUND};
 

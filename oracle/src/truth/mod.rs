@@ -1,4 +1,4 @@
-//! What the answers must be. The crate is asked wherever it can tell; document 01's own rules (the bound, places past
+//! What the answers must be. The crate is asked wherever it can tell; the rules of docs/SCOPE.md (the bound, places past
 //! the end, room) stand in front of it; and the model fills in what the crate has no word for: the places of refusals and
 //! of pieces.
 mod values;
@@ -130,7 +130,7 @@ fn placed(refused: Reading, model: Option<Refusal>) -> Refusal {
     let number = match refused {
         Reading::Short => 1,
         Reading::Undeclared => 2,
-        other => panic!("document 01 has no refusal for the crate's answer {other:?}"),
+        other => panic!("docs/SCOPE.md has no refusal for the crate's answer {other:?}"),
     };
     let place = model.filter(|refusal| refusal.number == number).map_or(NO_PLACE, |refusal| refusal.place);
     Refusal { number, place }

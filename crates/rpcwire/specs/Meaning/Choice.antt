@@ -1,4 +1,4 @@
--- Choosing the program (document 01): what a message calls for, what is then answered, and what the output buffer holds.
+-- Choosing the program (docs/SCOPE.md, section 10): what a message calls for, what is then answered, and what the output buffer holds.
 -- Assumes nothing.
 use mathlib.Core.Path.{_≡_}
 use mathlib.Core.Logic.{_↔_}

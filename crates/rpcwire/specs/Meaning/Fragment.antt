@@ -1,4 +1,4 @@
--- A record written as one fragment (RFC 5531, section 11; document 01, "Records from a stream").
+-- A record written as one fragment (RFC 5531, section 11; docs/SCOPE.md, Records from a stream).
 -- Assumes nothing.
 use mathlib.Core.Path.{_≡_}
 use mathlib.Core.List.{List, _++_}

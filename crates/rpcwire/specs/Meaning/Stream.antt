@@ -1,4 +1,4 @@
--- Record marking (RFC 5531, section 11; document 01, "Records from a stream"): what one byte of a stream does, and what feeding a run is.
+-- Record marking (RFC 5531, section 11; docs/SCOPE.md, Records from a stream): what one byte of a stream does, and what feeding a run is.
 -- Assumes nothing.
 use mathlib.Core.Path.{_≡_}
 use mathlib.Core.List.{List, foldl}

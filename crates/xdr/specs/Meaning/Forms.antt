@@ -1,4 +1,4 @@
--- The forms of the items, drawn as in RFC 4506 with document 01's tolerances. Laws.Forms and Laws.Faults show that the kinds of `Items` have these forms, and are cut short so.
+-- The forms of the items, drawn as in RFC 4506 with docs/SCOPE.md's tolerances. Laws.Forms and Laws.Faults show that the kinds of `Items` have these forms, and are cut short so.
 -- Assumes nothing.
 use mathlib.Core.Path.{_≡_}
 use mathlib.Core.Logic.{_⊎_}
