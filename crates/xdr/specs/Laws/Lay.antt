@@ -18,6 +18,7 @@ use Rattle.xdr.specs.Meaning.Pieces.{opaqueSize}
 use Rattle.xdr.specs.Meaning.Public.{laid}
 use Rattle.xdr.specs.Laws.Swap.{swapped, swapped-bytes}
 use Rattle.xdr.specs.Laws.Padding.{word-length, opaque-long, padded}
+use Rattle.xdr.specs.Laws.Lays.{after, tailOf}
 use Rattle.xdr.specs.Laws.Write.{Put, put-sets, put-same, laid-is, laid-at, lent-first, field, copy-put}
 
 -- the four stores of a word
@@ -61,12 +62,12 @@ regroup w b r d = simp append-assoc
 
 -- the last word is zeroed, then the length is written, then the bytes
 module _ (b o : List ℕ) (m : ℕ) (em : m ≡ (length b + 3) / 4 * 4) (room : opaqueSize (length b) ≤ length o) where
-  pub opaque-laid : {zs o₁ z₁ o₂ z₂ : List ℕ} → zs ≡ laid (word .kind .write 0) (midOf m (length o - m) o) → o₁ ≡ putMid m (length o - m) o zs
+  zeroed-first : {zs o₁ z₁ o₂ z₂ : List ℕ} → zs ≡ laid (word .kind .write 0) (midOf m (length o - m) o) → o₁ ≡ putMid m (length o - m) o zs
       → z₁ ≡ laid (word .kind .write (length b)) (midOf 0 (length o₁ - 0) o₁) → o₂ ≡ putMid 0 (length o₁ - 0) o₁ z₁
       → z₂ ≡ take (length b) b ++ drop (length b) (midOf 4 (length o₂ - 4) o₂)
       → Put o (putMid 4 (length o₂ - 4) o₂ z₂) (opaqueSize (length b)) (opaque .kind .write b)
   unfolding opaque
-  opaque-laid {zs} {o₁} {z₁} {o₂} {z₂} e₀ f₀ e₁ f₁ e₂ =
+  zeroed-first {zs} {o₁} {z₁} {o₂} {z₂} e₀ f₀ e₁ f₁ e₂ =
       let n : ℕ = length b in
       let k : ℕ = padding n in
       let p : m ≡ n + k = em ∙ padded n in
@@ -86,31 +87,17 @@ module _ (b o : List ℕ) (m : ℕ) (em : m ≡ (length b + 3) / 4 * 4) (room : 
         long = opaque-long b;
       }
 
--- a count and the words behind it
-pub words-laid : (b o : List ℕ) (n : ℕ) → 4 + length b ≤ length o → {z₁ o₁ z₂ : List ℕ} → z₁ ≡ laid (word .kind .write n) (midOf 0 (length o - 0) o)
-    → o₁ ≡ putMid 0 (length o - 0) o z₁ → z₂ ≡ take (length b) b ++ drop (length b) (midOf 4 (length o₁ - 4) o₁)
-    → Put o (putMid 4 (length o₁ - 4) o₁ z₂) (4 + length b) (word .kind .write n ++ b)
-words-laid b o n h {z₁} {o₁} e₁ f₁ e₂ =
-    field (subst (λ y. Put o y 4 (word .kind .write n)) (sym f₁) (lent-first (word .kind .write n) (omega arith) (word-length n) e₁)) (omega arith)
-    (copy-put e₂)
-
--- both as a function leaves them that lends the tail from a place on
-abbrev pub back : ℕ → List ℕ → List ℕ → List ℕ
-back n ys zs = putMid n (length ys - n) ys zs
-
-abbrev pub tail : ℕ → List ℕ → List ℕ
-tail n ys = midOf n (length ys - n) ys
-
 module _ (b o y z : List ℕ) where
-  pub opaque-lies : (x : List ℕ) → opaqueSize (length b) ≤ length o → x ≡ laid (word .kind .write 0) (tail ((length b + 3) / 4 * 4) o)
-      → y ≡ laid (word .kind .write (length b)) (tail 0 (back ((length b + 3) / 4 * 4) o x))
-      → z ≡ take (length b) b ++ drop (length b) (tail 4 (back 0 (back ((length b + 3) / 4 * 4) o x) y))
-      → Put o (back 4 (back 0 (back ((length b + 3) / 4 * 4) o x) y) z) (opaqueSize (length b)) (opaque .kind .write b)
-  opaque-lies x h e f g = opaque-laid b o _ refl h e refl f refl g
+  pub opaque-laid : (x : List ℕ) → opaqueSize (length b) ≤ length o → x ≡ laid (word .kind .write 0) (tailOf ((length b + 3) / 4 * 4) o)
+      → y ≡ laid (word .kind .write (length b)) (tailOf 0 (after ((length b + 3) / 4 * 4) o x))
+      → z ≡ take (length b) b ++ drop (length b) (tailOf 4 (after 0 (after ((length b + 3) / 4 * 4) o x) y))
+      → Put o (after 4 (after 0 (after ((length b + 3) / 4 * 4) o x) y) z) (opaqueSize (length b)) (opaque .kind .write b)
+  opaque-laid x h e f g = zeroed-first b o _ refl h e refl f refl g
 
-  pub words-lie : (n : ℕ) → 4 + length b ≤ length o → y ≡ laid (word .kind .write n) (tail 0 o) → z ≡ take (length b) b ++ drop (length b) (tail 4 (back 0 o y))
-      → Put o (back 4 (back 0 o y) z) (4 + length b) (word .kind .write n ++ b)
-  words-lie n h f g = words-laid b o n h f refl g
+  -- a count and the words behind it
+  pub words-laid : (n : ℕ) → 4 + length b ≤ length o → y ≡ laid (word .kind .write n) (tailOf 0 o) → z ≡ take (length b) b ++ drop (length b) (tailOf 4 (after 0 o y))
+      → Put o (after 4 (after 0 o y) z) (4 + length b) (word .kind .write n ++ b)
+  words-laid n h f g = field (lent-first (word .kind .write n) (omega arith) (word-length n) f) (omega arith) (copy-put g)
 
 -- items that are written as a number
 pub true-bytes : {v : Bool} → v ≡ true → word .kind .write 1 ≡ flag .kind .write v
@@ -121,17 +108,11 @@ pub false-bytes : {v : Bool} → v ≡ false → word .kind .write 0 ≡ flag .k
 unfolding flag
 false-bytes e = sym (rw e)
 
-pub int-bytes : (v : ℤ) {n : ℕ} → n ≡ unsigned 2147483648 v → word .kind .write n ≡ int .kind .write v
-unfolding word int
-int-bytes v e = ap (number 4 .kind .write) e
-
-pub long-bytes : (v : ℤ) {n : ℕ} → n ≡ unsigned 9223372036854775808 v → hyper .kind .write n ≡ long .kind .write v
-unfolding hyper long
-long-bytes v e = ap (number 8 .kind .write) e
-
 -- the same, where a signed number was stored
 pub int-stored : (v : ℤ) (n : ℕ) → SFits w32 v → n ≡ unsigned 2147483648 (toZ w32 (ofZ w32 v)) → word .kind .write n ≡ int .kind .write v
-int-stored v n h e = int-bytes v (e ∙ ap (unsigned 2147483648) (toZ-ofZ w32 v h))
+unfolding word int
+int-stored v n h e = ap (number 4 .kind .write) (e ∙ ap (unsigned 2147483648) (toZ-ofZ w32 v h))
 
 pub long-stored : (v : ℤ) (n : ℕ) → SFits w64 v → n ≡ unsigned 9223372036854775808 (toZ w64 (ofZ w64 v)) → hyper .kind .write n ≡ long .kind .write v
-long-stored v n h e = long-bytes v (e ∙ ap (unsigned 9223372036854775808) (toZ-ofZ w64 v h))
+unfolding hyper long
+long-stored v n h e = ap (number 8 .kind .write) (e ∙ ap (unsigned 9223372036854775808) (toZ-ofZ w64 v h))

@@ -8,13 +8,12 @@ use native.Mathlib.Nat.{add-assoc}
 use native.Mathlib.Numerals.{add-one}
 use native.Mathlib.Omega.{arith}
 use lib.Dec.{eqb, leb}
-use lib.IntN.{ℤ}
 use lib.ListN.{length, getD, take, drop, replicate, length-append, length-drop, length-replicate}
 use lib.Seq.{drop-cons, length-take-le}
 use borrow.Author.Tests.{eq-eqb, ne-eqb, eqb-true, eqb-false, le-leb, lt-leb, leb-true}
-use Rattle.xdr.specs.Meaning.Bytes.{value, digits, unsigned, numberAt, padding, zeros}
+use Rattle.xdr.specs.Meaning.Bytes.{value, digits, numberAt, padding, zeros}
 use Rattle.xdr.specs.Meaning.Answer.{took, refused, most}
-use Rattle.xdr.specs.Meaning.Items.{number, word, hyper, word-pair, hyper-pair, flag, fromFlag, int, long, eight, opaque}
+use Rattle.xdr.specs.Meaning.Items.{number, word, hyper, word-pair, hyper-pair, flag, fromFlag, eight, opaque}
 use Rattle.xdr.specs.Meaning.Pieces.{bytesIn, isInside, pieceAnswer, opaqueSize, sizeUpTo, wordsUpTo}
 use Rattle.xdr.specs.Laws.Digits.{length-digits}
 use Rattle.xdr.specs.Laws.Pieces.{inside-le}
@@ -117,20 +116,9 @@ hyper-pair-bytes a b = refl
 pub word-pair-length : (a b : ℕ) → length (word-pair .kind .write (a, b)) ≡ 8
 word-pair-length a b = ap length (sym (word-pair-bytes a b)) ∙ simp (length-append, word-length)
 
-pub hyper-pair-length : (a b : ℕ) → length (hyper-pair .kind .write (a, b)) ≡ 16
-hyper-pair-length a b = ap length (sym (hyper-pair-bytes a b)) ∙ simp (length-append, hyper-length)
-
 pub flag-length : (v : Bool) → length (flag .kind .write v) ≡ 4
 unfolding flag
 flag-length v = word-length (fromFlag v)
-
-pub int-length : (v : ℤ) → length (int .kind .write v) ≡ 4
-unfolding int number
-int-length v = length-digits 4 (unsigned 2147483648 v)
-
-pub long-length : (v : ℤ) → length (long .kind .write v) ≡ 8
-unfolding long number
-long-length v = length-digits 8 (unsigned 9223372036854775808 v)
 
 pub eight-length : (n : ℕ) → n < 18446744073709551616 → length (eight .kind .write (digits 8 n)) ≡ 8
 unfolding eight

@@ -1,5 +1,5 @@
 use borrow.Author.Needs.{needs}
-use Rattle.xdr.specs.Laws.Lay.{opaque-lies}
+use Rattle.xdr.specs.Laws.Lay.{opaque-laid}
 use Rattle.xdr.proofs.inner.lay_opaque.Statement.{statement}
 use Rattle.xdr.proofs.inner.lay_opaque.Tie as tie
 
@@ -9,4 +9,4 @@ lay-opaque-spec =
     (tie.spec
     (search needs) (search needs) (search needs) (search needs) (search needs) (search needs) (search needs) (search needs)
     (search needs) (search needs) (search needs) (search needs) (search needs) (search needs) (search needs) (search needs)
-    (λ c. search opaque-lies))
+    (λ c. search opaque-laid))

@@ -1,5 +1,5 @@
 use borrow.Author.Needs.{needs}
-use Rattle.xdr.specs.Laws.Lay.{words-lie}
+use Rattle.xdr.specs.Laws.Lay.{words-laid}
 use Rattle.xdr.proofs.inner.lay_words.Statement.{statement}
 use Rattle.xdr.proofs.inner.lay_words.Tie as tie
 
@@ -8,4 +8,4 @@ lay-words-spec =
     tie.close
     (tie.spec
     (search needs) (search needs) (search needs) (search needs) (search needs) (search needs) (search needs) (search needs)
-    (search needs) (search needs) (λ c. search words-lie))
+    (search needs) (search needs) (λ c. search words-laid))
