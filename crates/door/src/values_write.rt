@@ -2,13 +2,12 @@
 // place `start` of out. 0: info holds the place after the value. A refusal: 0. Where a list is too short the answer is 254, and where a
 // number does not fit its field 253; then nothing is touched.
 ghost use mathlib.Core.Path.{_≡_};
-ghost use mathlib.Core.Bool.{true};
 ghost use Prim.Native.Nat.{_≤_};
 ghost use lib.ListN.{length};
 ghost use Rattle.xdr.specs.Meaning.Combinators.{among};
 ghost use Rattle.nfs.specs.Meaning.Set.{modeTo, uidTo, gidTo, sizeTo, atimeTo, mtimeTo};
 ghost use Rattle.rpc.specs.Meaning.Closed.{flavorNumber, flavors};
-ghost use Rattle.door.specs.Meaning.Given.{areWords, fattr3Words, fattr3Given, viewGivenFattr3, WriteFattr3Called, WriteDiropargs3Called, optionFits, timeFits, sattr3Fits, optionOf, timeOf, sattr3Of, WriteSattr3Called, foundFlavor, callWords, callGiven, viewGivenCall, WriteCallCalled};
+ghost use Rattle.door.specs.Meaning.Given.{Is, low, areWords, fattr3Words, fattr3By, fattr3Given, viewGivenFattr3, WriteFattr3Called, WriteDiropargs3Called, optionFits, timeFits, sattr3Fits, optionOf, timeOf, sattr3By, WriteSattr3Called, foundFlavor, callWords, callBy, callGiven, viewGivenCall, WriteCallCalled};
 use crate::exports::SHORT_LIST;
 use crate::exports::tell_wrote;
 use nfs::diropargs3;
@@ -39,6 +38,9 @@ use xdr::Piece;
 // A number of a list does not fit its field.
 pub const WIDE_NUMBER: u32 = 253;
 
+// How many numbers fit a word. A number that was tested is its own rest.
+const WORDS: u64 = 4294967296;
+
 // What a list's numbers are: a fattr3, or not.
 pub enum GivenFattr3 {
     Wide,
@@ -47,61 +49,68 @@ pub enum GivenFattr3 {
 
 fn fattr3_words(fields: &[u64]) -> bool
     requires { ⌜ 17 ≤ length (now fields) ⌝ }
-    ensures { λ r. ⌜ r ≡ areWords fattr3Words (now (fields .entry)) ⌝ }
+    ensures { λ r. ⌜ Is (areWords fattr3Words) (now (fields .entry)) r ⌝ }
 {
-    (fields[0] < 4294967296)
-        & (fields[1] < 4294967296)
-        & (fields[2] < 4294967296)
-        & (fields[3] < 4294967296)
-        & (fields[4] < 4294967296)
-        & (fields[7] < 4294967296)
-        & (fields[8] < 4294967296)
-        & (fields[11] < 4294967296)
-        & (fields[12] < 4294967296)
-        & (fields[13] < 4294967296)
-        & (fields[14] < 4294967296)
-        & (fields[15] < 4294967296)
-        & (fields[16] < 4294967296)
+    (fields[0] < WORDS)
+        & (fields[1] < WORDS)
+        & (fields[2] < WORDS)
+        & (fields[3] < WORDS)
+        & (fields[4] < WORDS)
+        & (fields[7] < WORDS)
+        & (fields[8] < WORDS)
+        & (fields[11] < WORDS)
+        & (fields[12] < WORDS)
+        & (fields[13] < WORDS)
+        & (fields[14] < WORDS)
+        & (fields[15] < WORDS)
+        & (fields[16] < WORDS)
 }
 
-fn given_fattr3(fields: &[u64]) -> GivenFattr3
+fn fattr3_of(fields: &[u64], ftype: ftype3) -> fattr3
     requires { ⌜ 17 ≤ length (now fields) ⌝ }
-    ensures { λ r. ⌜ viewGivenFattr3 r ≡ fattr3Given (now (fields .entry)) ⌝ }
+    ensures { λ r. ⌜ r ≡ fattr3By low (now (fields .entry)) ftype ⌝ }
 {
-    if !fattr3_words(fields) {
-        return GivenFattr3::Wide;
-    }
-    let found = ftype3::of(fields[0] as u32);
-    let FtypeFound::Is(ftype) = found else {
-        return GivenFattr3::Wide;
-    };
-    GivenFattr3::Is(fattr3 {
+    fattr3 {
         ftype,
-        mode: fields[1] as u32,
-        nlink: fields[2] as u32,
-        uid: fields[3] as u32,
-        gid: fields[4] as u32,
+        mode: (fields[1] % WORDS) as u32,
+        nlink: (fields[2] % WORDS) as u32,
+        uid: (fields[3] % WORDS) as u32,
+        gid: (fields[4] % WORDS) as u32,
         size: fields[5],
         used: fields[6],
         rdev: specdata3 {
-            specdata1: fields[7] as u32,
-            specdata2: fields[8] as u32,
+            specdata1: (fields[7] % WORDS) as u32,
+            specdata2: (fields[8] % WORDS) as u32,
         },
         fsid: fields[9],
         fileid: fields[10],
         atime: nfstime3 {
-            seconds: fields[11] as u32,
-            nseconds: fields[12] as u32,
+            seconds: (fields[11] % WORDS) as u32,
+            nseconds: (fields[12] % WORDS) as u32,
         },
         mtime: nfstime3 {
-            seconds: fields[13] as u32,
-            nseconds: fields[14] as u32,
+            seconds: (fields[13] % WORDS) as u32,
+            nseconds: (fields[14] % WORDS) as u32,
         },
         ctime: nfstime3 {
-            seconds: fields[15] as u32,
-            nseconds: fields[16] as u32,
+            seconds: (fields[15] % WORDS) as u32,
+            nseconds: (fields[16] % WORDS) as u32,
         },
-    })
+    }
+}
+
+fn given_fattr3(fields: &[u64]) -> GivenFattr3
+    requires { ⌜ 17 ≤ length (now fields) ⌝ }
+    ensures { λ r. ⌜ Is fattr3Given (now (fields .entry)) (viewGivenFattr3 r) ⌝ }
+{
+    if !fattr3_words(fields) {
+        return GivenFattr3::Wide;
+    }
+    let found = ftype3::of((fields[0] % WORDS) as u32);
+    let FtypeFound::Is(ftype) = found else {
+        return GivenFattr3::Wide;
+    };
+    GivenFattr3::Is(fattr3_of(fields, ftype))
 }
 
 #[no_mangle]
@@ -163,18 +172,18 @@ pub extern "C" fn yugerzat_write_diropargs3(
 fn option_fits(flag: u64, v: u64) -> bool
     ensures { λ r. ⌜ r ≡ optionFits flag v ⌝ }
 {
-    (flag == 0) | (v < 4294967296)
+    (flag == 0) | (v < WORDS)
 }
 
 fn time_fits(tag: u64, seconds: u64, nseconds: u64) -> bool
     ensures { λ r. ⌜ r ≡ timeFits tag seconds nseconds ⌝ }
 {
-    (tag < 2) | ((tag == 2) & ((seconds < 4294967296) & (nseconds < 4294967296)))
+    (tag < 2) | ((tag == 2) & ((seconds < WORDS) & (nseconds < WORDS)))
 }
 
 fn sattr3_fits(fields: &[u64]) -> bool
     requires { ⌜ 14 ≤ length (now fields) ⌝ }
-    ensures { λ r. ⌜ r ≡ sattr3Fits (now (fields .entry)) ⌝ }
+    ensures { λ r. ⌜ Is sattr3Fits (now (fields .entry)) r ⌝ }
 {
     let mode = option_fits(fields[0], fields[1]);
     let uid = option_fits(fields[2], fields[3]);
@@ -185,33 +194,30 @@ fn sattr3_fits(fields: &[u64]) -> bool
 }
 
 fn mode_of(flag: u64, v: u64) -> set_mode3
-    requires { ⌜ optionFits flag v ≡ true ⌝ }
-    ensures { λ r. ⌜ r ≡ modeTo (optionOf flag v) ⌝ }
+    ensures { λ r. ⌜ r ≡ modeTo (optionOf flag (low v)) ⌝ }
 {
     if flag == 0 {
         return set_mode3::Void;
     }
-    set_mode3::mode(v as u32)
+    set_mode3::mode((v % WORDS) as u32)
 }
 
 fn uid_of(flag: u64, v: u64) -> set_uid3
-    requires { ⌜ optionFits flag v ≡ true ⌝ }
-    ensures { λ r. ⌜ r ≡ uidTo (optionOf flag v) ⌝ }
+    ensures { λ r. ⌜ r ≡ uidTo (optionOf flag (low v)) ⌝ }
 {
     if flag == 0 {
         return set_uid3::Void;
     }
-    set_uid3::uid(v as u32)
+    set_uid3::uid((v % WORDS) as u32)
 }
 
 fn gid_of(flag: u64, v: u64) -> set_gid3
-    requires { ⌜ optionFits flag v ≡ true ⌝ }
-    ensures { λ r. ⌜ r ≡ gidTo (optionOf flag v) ⌝ }
+    ensures { λ r. ⌜ r ≡ gidTo (optionOf flag (low v)) ⌝ }
 {
     if flag == 0 {
         return set_gid3::Void;
     }
-    set_gid3::gid(v as u32)
+    set_gid3::gid((v % WORDS) as u32)
 }
 
 fn size_of(flag: u64, v: u64) -> set_size3
@@ -224,8 +230,7 @@ fn size_of(flag: u64, v: u64) -> set_size3
 }
 
 fn atime_of(tag: u64, seconds: u64, nseconds: u64) -> set_atime
-    requires { ⌜ timeFits tag seconds nseconds ≡ true ⌝ }
-    ensures { λ r. ⌜ r ≡ atimeTo (timeOf tag seconds nseconds) ⌝ }
+    ensures { λ r. ⌜ r ≡ atimeTo (timeOf tag (low seconds) (low nseconds)) ⌝ }
 {
     if tag == 0 {
         return set_atime::DONT_CHANGE;
@@ -234,14 +239,13 @@ fn atime_of(tag: u64, seconds: u64, nseconds: u64) -> set_atime
         return set_atime::SET_TO_SERVER_TIME;
     }
     set_atime::SET_TO_CLIENT_TIME(nfstime3 {
-        seconds: seconds as u32,
-        nseconds: nseconds as u32,
+        seconds: (seconds % WORDS) as u32,
+        nseconds: (nseconds % WORDS) as u32,
     })
 }
 
 fn mtime_of(tag: u64, seconds: u64, nseconds: u64) -> set_mtime
-    requires { ⌜ timeFits tag seconds nseconds ≡ true ⌝ }
-    ensures { λ r. ⌜ r ≡ mtimeTo (timeOf tag seconds nseconds) ⌝ }
+    ensures { λ r. ⌜ r ≡ mtimeTo (timeOf tag (low seconds) (low nseconds)) ⌝ }
 {
     if tag == 0 {
         return set_mtime::DONT_CHANGE;
@@ -250,14 +254,14 @@ fn mtime_of(tag: u64, seconds: u64, nseconds: u64) -> set_mtime
         return set_mtime::SET_TO_SERVER_TIME;
     }
     set_mtime::SET_TO_CLIENT_TIME(nfstime3 {
-        seconds: seconds as u32,
-        nseconds: nseconds as u32,
+        seconds: (seconds % WORDS) as u32,
+        nseconds: (nseconds % WORDS) as u32,
     })
 }
 
 fn sattr3_of(fields: &[u64]) -> sattr3
-    requires { ⌜ (14 ≤ length (now fields)) × (sattr3Fits (now fields) ≡ true) ⌝ }
-    ensures { λ r. ⌜ r ≡ sattr3Of (now (fields .entry)) ⌝ }
+    requires { ⌜ 14 ≤ length (now fields) ⌝ }
+    ensures { λ r. ⌜ r ≡ sattr3By low (now (fields .entry)) ⌝ }
 {
     let mode = mode_of(fields[0], fields[1]);
     let uid = uid_of(fields[2], fields[3]);
@@ -318,13 +322,13 @@ fn flavor_of(v: u64) -> FlavorFound
 
 fn call_words(fields: &[u64]) -> bool
     requires { ⌜ 11 ≤ length (now fields) ⌝ }
-    ensures { λ r. ⌜ r ≡ areWords callWords (now (fields .entry)) ⌝ }
+    ensures { λ r. ⌜ Is (areWords callWords) (now (fields .entry)) r ⌝ }
 {
-    (fields[0] < 4294967296)
-        & (fields[1] < 4294967296)
-        & (fields[2] < 4294967296)
-        & (fields[3] < 4294967296)
-        & (fields[4] < 4294967296)
+    (fields[0] < WORDS)
+        & (fields[1] < WORDS)
+        & (fields[2] < WORDS)
+        & (fields[3] < WORDS)
+        & (fields[4] < WORDS)
 }
 
 // What a list's numbers are: a call, or not.
@@ -333,28 +337,17 @@ pub enum GivenCall {
     Is(rpc_msg),
 }
 
-fn given_call(fields: &[u64]) -> GivenCall
+fn call_of(fields: &[u64], cred: auth_flavor, verf: auth_flavor) -> rpc_msg
     requires { ⌜ 11 ≤ length (now fields) ⌝ }
-    ensures { λ r. ⌜ viewGivenCall r ≡ callGiven (now (fields .entry)) ⌝ }
+    ensures { λ r. ⌜ r ≡ callBy low (now (fields .entry)) cred verf ⌝ }
 {
-    if !call_words(fields) {
-        return GivenCall::Wide;
-    }
-    let f1 = flavor_of(fields[5]);
-    let FlavorFound::Is(cred) = f1 else {
-        return GivenCall::Wide;
-    };
-    let f2 = flavor_of(fields[8]);
-    let FlavorFound::Is(verf) = f2 else {
-        return GivenCall::Wide;
-    };
-    GivenCall::Is(rpc_msg {
-        xid: fields[0] as u32,
+    rpc_msg {
+        xid: (fields[0] % WORDS) as u32,
         body: rpc_body::CALL(call_body {
-            rpcvers: fields[1] as u32,
-            prog: fields[2] as u32,
-            vers: fields[3] as u32,
-            proc: fields[4] as u32,
+            rpcvers: (fields[1] % WORDS) as u32,
+            prog: (fields[2] % WORDS) as u32,
+            vers: (fields[3] % WORDS) as u32,
+            proc: (fields[4] % WORDS) as u32,
             cred: opaque_auth {
                 flavor: cred,
                 body: Piece {
@@ -370,7 +363,25 @@ fn given_call(fields: &[u64]) -> GivenCall
                 },
             },
         }),
-    })
+    }
+}
+
+fn given_call(fields: &[u64]) -> GivenCall
+    requires { ⌜ 11 ≤ length (now fields) ⌝ }
+    ensures { λ r. ⌜ Is callGiven (now (fields .entry)) (viewGivenCall r) ⌝ }
+{
+    if !call_words(fields) {
+        return GivenCall::Wide;
+    }
+    let f1 = flavor_of(fields[5]);
+    let FlavorFound::Is(cred) = f1 else {
+        return GivenCall::Wide;
+    };
+    let f2 = flavor_of(fields[8]);
+    let FlavorFound::Is(verf) = f2 else {
+        return GivenCall::Wide;
+    };
+    GivenCall::Is(call_of(fields, cred, verf))
 }
 
 // The figures of a call: xid, rpcvers, prog, vers, proc, then flavor, place and count of the credential and of the verifier, which are of source.

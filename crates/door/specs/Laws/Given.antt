@@ -1,76 +1,155 @@
 -- What the proofs of the exported writers of values cite.
 -- Assumes nothing.
 use mathlib.Core.Path.{_≡_, refl, sym, ap, _∙_, subst}
-use mathlib.Core.Bool.{Bool, true, false, cond, _&&_, _||_, and-true, and-assoc, false≢true}
+use mathlib.Core.Bool.{Bool, true, false, not, _&&_, and-true, and-assoc, false≢true}
 use mathlib.Core.List.{List, [], _∷_}
+use mathlib.Core.Logic.{⊎-elim}
 use mathlib.Core.Option.{Option, none, some}
-use Prim.Native.Nat.{ℕ, _≤_, _<_}
+use Prim.Native.Nat.{ℕ, zero, suc, _≤_, _<_}
+use native.Mathlib.Nat.{mod-eq-of-lt}
 use native.Mathlib.Omega.{arith}
 use lib.Dec.{ltb, eqb}
-use lib.ListN.{getD}
-use lib.Seq.{sets}
-use borrow.Author.Tests.{ltb-true, le-ltb, ne-eqb}
+use lib.ListN.{length, getD}
+use borrow.Author.Tests.{ltb-true, eqb-false}
 use Rattle.xdr.specs.Meaning.Answer.{Written}
-use Rattle.xdr.specs.Meaning.Combinators.{Seen, means, undeclared}
+use Rattle.xdr.specs.Meaning.Combinators.{Seen, means, undeclared, among}
+use Rattle.xdr.specs.Laws.LayPieces.{yes, no}
 use Rattle.xdr.specs.Laws.Marks.{and-left, and-right}
-use Rattle.door.specs.Meaning.Exports.{wroteCode, wroteFigure}
-use Rattle.door.specs.Meaning.Given.{GivenTold, isWord, areWords, seenOr, optionFits, timeFits, sattr3Fits}
+use Rattle.nfsattr.specs.Meaning.Attr.{ftypeNumber, ftypes}
+use Rattle.nfsattr.specs.Meaning.Views.{foundFtype}
+use Rattle.nfsattr.specs.declared.attr.ftype3.{ftype3}
+use Rattle.nfsattr.specs.declared.attr.fattr3.{fattr3}
+use Rattle.nfsattr.specs.declared.attr.FtypeFound.{FtypeFound}
+use Rattle.nfs.specs.declared.set.sattr3.{sattr3}
+use Rattle.nfs.specs.declared.set.set_mode3.{«set_mode3»}
+use Rattle.nfs.specs.declared.set.set_uid3.{«set_uid3»}
+use Rattle.nfs.specs.declared.set.set_gid3.{«set_gid3»}
+use Rattle.nfs.specs.declared.set.set_size3.{«set_size3»}
+use Rattle.nfs.specs.declared.set.set_atime.{«set_atime»}
+use Rattle.nfs.specs.declared.set.set_mtime.{«set_mtime»}
+use Rattle.rpc.specs.Meaning.Closed.{flavorNumber, flavors}
+use Rattle.rpc.specs.declared.auth.auth_flavor.{«auth_flavor»}
+use Rattle.rpc.specs.declared.message.rpc_msg.{«rpc_msg»}
+use Rattle.door.specs.Meaning.Figures.{Says}
+use Rattle.door.specs.Meaning.Exports.{wroteCode, wroteFigures}
+use Rattle.door.specs.Meaning.Given.{GivenTold, WriteCalled, Is, low, isWord, areWords, seenOr, fattr3Words, fattr3By, fattr3Of, fattr3Given, optionFits, timeFits, sattr3Fits, optionOf, timeOf, sattr3By, sattr3Of, sattr3Given, foundFlavor, callWords, callBy, callOf, callGiven}
+use Rattle.door.specs.declared.values_write.FlavorFound.{FlavorFound}
 
-module _ {S : Type 0} (W : S → Written → List ℕ → Type 0) {g : Option S} (o i : List ℕ) {r : ℕ} {o′ i′ : List ℕ} where
-  -- numbers that do not fit
-  pub tell-wide : g ≡ none → (r ≡ 253) × (o′ ≡ o) × (i′ ≡ i) → GivenTold W g o i r o′ i′
-  tell-wide e t = subst (λ z. GivenTold W z o i r o′ i′) (sym e) t
+-- by the room, and by what the numbers are
+module _ {S : Type 0} (W : S → Written → List ℕ → Type 0) (k : ℕ) (given : List ℕ → Option S) (l o i : List ℕ) where
+  pub write-no-fields : length l < k → WriteCalled W k given l o i 254 o i
+  write-no-fields h = record { room = λ g m. absurd (omega arith); short = λ g. (refl, refl, refl) }
 
-  -- numbers that are a value, and its writing
-  pub tell-given : {x : S} → g ≡ some x → (w : Written) → W x w o′ → (r ≡ wroteCode w) × (i′ ≡ sets i 0 (wroteFigure w ∷ [])) → GivenTold W g o i r o′ i′
-  tell-given {x} e w d t =
-      subst (λ z. GivenTold W z o i r o′ i′) (sym e) (record { answer = w; writes = d; number = t .0; list = t .1 })
+  pub write-short : length i < 1 → WriteCalled W k given l o i 254 o i
+  write-short h = record { room = λ g m. absurd (omega arith); short = λ g. (refl, refl, refl) }
 
--- what a test of words shows of each
-abbrev pub Words : List ℕ → List ℕ → Type 0
-Words [] l = Unit {0}
-Words (p ∷ ps) l = (getD l p 0 < 4294967296) × Words ps l
+  module _ (h : k ≤ length l) (g : 1 ≤ length i) {r : ℕ} {o′ i′ : List ℕ} where
+    called : GivenTold W (given l) o i r o′ i′ → WriteCalled W k given l o i r o′ i′
+    called t = record { room = λ _ _. t; short = λ w. absurd (⊎-elim (λ w. omega arith) (λ w. omega arith) w) }
 
-pub words-hold : (ps l : List ℕ) → areWords ps l ≡ true → Words ps l
-words-hold [] l e = tt
-words-hold (p ∷ ps) l e =
-    (ltb-true (getD l p 0) 4294967296 (and-left (isWord (getD l p 0)) (areWords ps l) e), words-hold ps l (and-right (isWord (getD l p 0)) (areWords ps l) e))
+    pub write-as : {x : S} {w : Written} → W x w o′ → Says wroteCode wroteFigures w i r i′ → Is given l (some x) → WriteCalled W k given l o i r o′ i′
+    write-as {x} {w} d t e =
+        called (subst (λ z. GivenTold W z o i r o′ i′) (e .is) (record { answer = w; writes = d; number = t .number; list = t .shown .list }))
+
+  pub write-wide : k ≤ length l → 1 ≤ length i → Is given l none → WriteCalled W k given l o i 253 o i
+  write-wide h g e = called h g (subst (λ z. GivenTold W z o i 253 o i) (e .is) (refl, refl, refl))
+
+-- what a function found of numbers, taken apart
+pub is-case : {B R : Type 0} (view : R → B) {f : List ℕ → B} {a : List ℕ} {r t : R} {y : B} → Is f a (view r) → r ≡ t → view t ≡ y → Is f a y
+is-case view d e h = record { is = sym (ap view e ∙ h) ∙ d .is }
+
+-- a word is its own rest, and so is each number that a test of words holds of
+low-is : (n : ℕ) → isWord n ≡ true → low n ≡ n
+low-is n e = mod-eq-of-lt (ltb-true n 4294967296 e)
+
+low-at : (ps l : List ℕ) → areWords ps l ≡ true → (k : ℕ) → k < length ps → low (getD l (getD ps k 0) 0) ≡ getD l (getD ps k 0) 0
+low-at [] l e k h = absurd (omega arith)
+low-at (p ∷ ps) l e zero h = low-is (getD l p 0) (and-left (isWord (getD l p 0)) (areWords ps l) e)
+low-at (p ∷ ps) l e (suc k) h = low-at ps l (and-right (isWord (getD l p 0)) (areWords ps l) e) k (omega arith)
 
 -- a test of words from the left
-abbrev pub wordsLeft : Bool → List ℕ → List ℕ → Bool
+abbrev wordsLeft : Bool → List ℕ → List ℕ → Bool
 wordsLeft b [] l = b
 wordsLeft b (p ∷ ps) l = wordsLeft (b && isWord (getD l p 0)) ps l
 
-pub words-left : (b : Bool) (ps l : List ℕ) → wordsLeft b ps l ≡ (b && areWords ps l)
+words-left : (b : Bool) (ps l : List ℕ) → wordsLeft b ps l ≡ (b && areWords ps l)
 words-left b [] l = sym (and-true b)
 words-left b (p ∷ ps) l = words-left (b && isWord (getD l p 0)) ps l ∙ and-assoc b (isWord (getD l p 0)) (areWords ps l)
 
--- a value behind a test is none where the test fails, or where a number is not declared
-pub test-fails : {A : Type 0} {b : Bool} (x : Option A) → b ≡ false → none ≡ cond b x none
-test-fails x e = ap (λ b. cond b x none) (sym e)
+abbrev pub wordsTested : List ℕ → List ℕ → Bool
+wordsTested [] l = true
+wordsTested (p ∷ ps) l = wordsLeft (isWord (getD l p 0)) ps l
 
-module _ {A B : Type 0} (f : A → Option B) {b : Bool} {s : Seen A} (h : b ≡ true) where
-  pub seen-none : s ≡ undeclared → none ≡ cond b (seenOr f s) none
-  seen-none e = ap (λ s. seenOr f s) (sym e) ∙ ap (λ b. cond b (seenOr f s) none) (sym h)
+pub words-are : (ps l : List ℕ) → Is (areWords ps) l (wordsTested ps l)
+words-are [] l = record { is = refl }
+words-are (p ∷ ps) l = record { is = words-left (isWord (getD l p 0)) ps l }
 
-  pub seen-some : {a : A} → s ≡ means a [] → f a ≡ cond b (seenOr f s) none
-  seen-some e = ap (λ s. seenOr f s) (sym e) ∙ ap (λ b. cond b (seenOr f s) none) (sym h)
+fattr3-low : (l : List ℕ) (t : ftype3) → areWords fattr3Words l ≡ true → fattr3By low l t ≡ fattr3Of l t
+fattr3-low l t e =
+    let w = low-at fattr3Words l e in
+    rw (w 1 (omega arith), w 2 (omega arith), w 3 (omega arith), w 4 (omega arith), w 5 (omega arith), w 6 (omega arith), w 7 (omega arith), w 8 (omega arith), w 9 (omega arith), w 10 (omega arith), w 11 (omega arith), w 12 (omega arith))
 
--- an optional word whose flag is set, and a client's time, fit
-pub option-word : (flag v : ℕ) → optionFits flag v ≡ true → (flag ≡ 0 → ⊥) → v < 4294967296
-option-word flag v e n = ltb-true v 4294967296 (sym (ap (λ b. b || isWord v) (ne-eqb flag 0 n)) ∙ e)
+call-low : (l : List ℕ) (a b : «auth_flavor») → areWords callWords l ≡ true → callBy low l a b ≡ callOf l a b
+call-low l a b e =
+    let w = low-at callWords l e in
+    rw (w 0 (omega arith), w 1 (omega arith), w 2 (omega arith), w 3 (omega arith), w 4 (omega arith))
 
-pub time-words : (tag s n : ℕ) → timeFits tag s n ≡ true → (tag ≡ 0 → ⊥) → (tag ≡ 1 → ⊥) → (s < 4294967296) × (n < 4294967296)
-time-words tag s n e h g =
-    let a : 2 ≤ tag = above (ltb tag 2) refl in
-    let b : (eqb tag 2 && (isWord s && isWord n)) ≡ true = sym (ap (λ b. b || (eqb tag 2 && (isWord s && isWord n))) (le-ltb tag 2 a)) ∙ e in
-    let d : (isWord s && isWord n) ≡ true = and-right (eqb tag 2) (isWord s && isWord n) b in
-    (ltb-true s 4294967296 (and-left (isWord s) (isWord n) d), ltb-true n 4294967296 (and-right (isWord s) (isWord n) d))
+none-seen : {A B : Type 0} (s : Seen A) → seenOr {A = A} {B = B} (λ a. none) s ≡ none
+none-seen (means a w) = refl
+none-seen undeclared = refl
+
+-- what numbers give, by a test and by what is found of them
+module _ {l : List ℕ} {b : Bool} where
+  pub fattr3-wide : Is (areWords fattr3Words) l b → not b ≡ true → Is fattr3Given l none
+  fattr3-wide d e = record { is = rw (no (d .is) e) }
+
+  module _ (d : Is (areWords fattr3Words) l b) (e : not b ≡ false) {r t : FtypeFound} (f : foundFtype r ≡ among ftypeNumber ftypes (low (getD l 0 0))) (g : r ≡ t) where
+    found : among ftypeNumber ftypes (getD l 0 0) ≡ foundFtype t
+    found = ap (among ftypeNumber ftypes) (sym (low-at fattr3Words l (yes (d .is) e) 0 (omega arith))) ∙ sym f ∙ ap foundFtype g
+
+    pub fattr3-none : foundFtype t ≡ undeclared → Is fattr3Given l none
+    fattr3-none h = record { is = rw (yes (d .is) e, found, h) }
+
+    pub fattr3-some : {a : ftype3} → foundFtype t ≡ means a [] → {x : fattr3} → x ≡ fattr3By low l a → Is fattr3Given l (some x)
+    fattr3-some {a} h k = record { is = rw (k, fattr3-low l a (yes (d .is) e), yes (d .is) e, found, h) }
+
+  pub call-wide : Is (areWords callWords) l b → not b ≡ true → Is callGiven l none
+  call-wide d e = record { is = rw (no (d .is) e) }
+
+  module _ (d : Is (areWords callWords) l b) (e : not b ≡ false) {r t : FlavorFound} (f : foundFlavor r ≡ among flavorNumber flavors (getD l 5 0)) (g : r ≡ t) where
+    pub call-no-cred : foundFlavor t ≡ undeclared → Is callGiven l none
+    call-no-cred h = record { is = rw (yes (d .is) e, ← f, g, h) }
+
+    pub call-some : {a a′ : «auth_flavor»} {x : «rpc_msg»} → x ≡ callBy low l a a′ → foundFlavor t ≡ means a [] → {r′ t′ : FlavorFound}
+        → foundFlavor r′ ≡ among flavorNumber flavors (getD l 8 0) → r′ ≡ t′ → foundFlavor t′ ≡ means a′ [] → Is callGiven l (some x)
+    call-some {a} {a′} m h f′ g′ k = record { is = rw (m, call-low l a a′ (yes (d .is) e), yes (d .is) e, ← f, g, h, ← f′, g′, k) }
+
+  pub call-no-verf : Is (areWords callWords) l b → not b ≡ false → {r t : FlavorFound} → foundFlavor r ≡ among flavorNumber flavors (getD l 8 0) → r ≡ t
+      → foundFlavor t ≡ undeclared → Is callGiven l none
+  call-no-verf d e f g h = record { is = rw (yes (d .is) e, ← f, g, h) (sym (none-seen (among flavorNumber flavors (getD l 5 0)))) }
+
+-- a sattr3
+option-low : (flag v : ℕ) → optionFits flag v ≡ true → optionOf flag (low v) ≡ optionOf flag v
+option-low flag v e = by (eqb flag 0) refl
   where
-    above : (t : Bool) → ltb tag 2 ≡ t → 2 ≤ tag
-    above t k = omega (arith, h, g)
+    by : (b : Bool) → eqb flag 0 ≡ b → optionOf flag (low v) ≡ optionOf flag v
+    by true h = rw h
+    by false h = rw (h, low-is v (rw h at e))
 
--- each part of a sattr3 that fits
+time-low : (tag s n : ℕ) → timeFits tag s n ≡ true → timeOf tag (low s) (low n) ≡ timeOf tag s n
+time-low tag s n e = by (ltb tag 2) refl
+  where
+    late : (b c : Bool) → eqb tag 0 ≡ b → eqb tag 1 ≡ c → tag < 2 → timeOf tag (low s) (low n) ≡ timeOf tag s n
+    late true c h g k = rw h
+    late false true h g k = rw (h, g)
+    late false false h g k = absurd (omega (arith, eqb-false tag 0 h, eqb-false tag 1 g))
+
+    by : (b : Bool) → ltb tag 2 ≡ b → timeOf tag (low s) (low n) ≡ timeOf tag s n
+    by true h = late (eqb tag 0) (eqb tag 1) refl refl (ltb-true tag 2 h)
+    by false h =
+        let d : (isWord s && isWord n) ≡ true = and-right (eqb tag 2) (isWord s && isWord n) (rw h at e) in
+        rw (low-is s (and-left (isWord s) (isWord n) d), low-is n (and-right (isWord s) (isWord n) d))
+
 all-five : (a b c d e : Bool) → (a && b && c && d && e) ≡ true → (a ≡ true) × (b ≡ true) × (c ≡ true) × (d ≡ true) × (e ≡ true)
 all-five true true true true true h = (refl, refl, refl, refl, refl)
 all-five true true true true false h = absurd (false≢true h)
@@ -79,14 +158,25 @@ all-five true true false d e h = absurd (false≢true h)
 all-five true false c d e h = absurd (false≢true h)
 all-five false b c d e h = absurd (false≢true h)
 
-pub record Sattr3Parts (l : List ℕ) : Type 0 where
-  pub mode : optionFits (getD l 0 0) (getD l 1 0) ≡ true
-  pub uid : optionFits (getD l 2 0) (getD l 3 0) ≡ true
-  pub gid : optionFits (getD l 4 0) (getD l 5 0) ≡ true
-  pub atime : timeFits (getD l 8 0) (getD l 9 0) (getD l 10 0) ≡ true
-  pub mtime : timeFits (getD l 11 0) (getD l 12 0) (getD l 13 0) ≡ true
-
-pub sattr3-parts : (l : List ℕ) → sattr3Fits l ≡ true → Sattr3Parts l
-sattr3-parts l h =
+sattr3-low : (l : List ℕ) → sattr3Fits l ≡ true → sattr3By low l ≡ sattr3Of l
+sattr3-low l h =
     let p = all-five (optionFits (getD l 0 0) (getD l 1 0)) (optionFits (getD l 2 0) (getD l 3 0)) (optionFits (getD l 4 0) (getD l 5 0)) (timeFits (getD l 8 0) (getD l 9 0) (getD l 10 0)) (timeFits (getD l 11 0) (getD l 12 0) (getD l 13 0)) h in
-    record { mode = p .0; uid = p .1; gid = p .2; atime = p .3; mtime = p .4 }
+    rw (option-low (getD l 0 0) (getD l 1 0) (p .0), option-low (getD l 2 0) (getD l 3 0) (p .1), option-low (getD l 4 0) (getD l 5 0) (p .2), time-low (getD l 8 0) (getD l 9 0) (getD l 10 0) (p .3), time-low (getD l 11 0) (getD l 12 0) (getD l 13 0) (p .4))
+
+-- the parts of a sattr3 are as they are found
+pub sattr3-fits : {l : List ℕ} {a b c d e : Bool} → a ≡ optionFits (getD l 0 0) (getD l 1 0) → b ≡ optionFits (getD l 2 0) (getD l 3 0)
+    → c ≡ optionFits (getD l 4 0) (getD l 5 0) → d ≡ timeFits (getD l 8 0) (getD l 9 0) (getD l 10 0) → e ≡ timeFits (getD l 11 0) (getD l 12 0) (getD l 13 0)
+    → Is sattr3Fits l (a && b && c && d && e)
+sattr3-fits p q r s t = record { is = rw (p, q, r, s, t) }
+
+pub sattr3-of : {a a′ : «set_mode3»} {b b′ : «set_uid3»} {c c′ : «set_gid3»} {d d′ : «set_size3»} {e e′ : «set_atime»} {f f′ : «set_mtime»}
+    → a ≡ a′ → b ≡ b′ → c ≡ c′ → d ≡ d′ → e ≡ e′ → f ≡ f′
+    → _≡_ {A = sattr3} (record { mode = a; uid = b; gid = c; size = d; atime = e; mtime = f }) (record { mode = a′; uid = b′; gid = c′; size = d′; atime = e′; mtime = f′ })
+sattr3-of p q r s t u = rw (p, q, r, s, t, u)
+
+module _ {l : List ℕ} {b : Bool} where
+  pub sattr3-wide : Is sattr3Fits l b → not b ≡ true → Is sattr3Given l none
+  sattr3-wide d e = record { is = rw (no (d .is) e) }
+
+  pub sattr3-some : Is sattr3Fits l b → not b ≡ false → {x : sattr3} → x ≡ sattr3By low l → Is sattr3Given l (some x)
+  sattr3-some d e k = record { is = rw (k, sattr3-low l (yes (d .is) e), yes (d .is) e) }

@@ -6,7 +6,7 @@ use mathlib.Core.Bool.{Bool, true, cond, _&&_, _||_}
 use mathlib.Core.List.{List, [], _∷_}
 use mathlib.Core.Option.{Option, none, some}
 use mathlib.Core.Logic.{_⊎_}
-use Prim.Native.Nat.{ℕ, _≤_, _<_}
+use Prim.Native.Nat.{ℕ, _%_, _≤_, _<_}
 use lib.Dec.{ltb, eqb}
 use lib.ListN.{length, getD}
 use lib.Seq.{sets}
@@ -53,6 +53,14 @@ module _ {S : Type 0} (Wrote : S → Written → List ℕ → Type 0) where
     pub room : k ≤ length l → 1 ≤ length i → GivenTold (given l) o i r o′ i′
     pub short : (length l < k) ⊎ (length i < 1) → (r ≡ 254) × (o′ ≡ o) × (i′ ≡ i)
 
+-- y is what f makes of x
+pub record Is {A B : Type 0} (f : A → B) (x : A) (y : B) : Type 0 where
+  pub is : y ≡ f x
+
+-- the rest of a number by the count of words; its own, where it is a word
+abbrev pub low : ℕ → ℕ
+low n = n % 4294967296
+
 -- the numbers at some places of a list are words
 abbrev pub isWord : ℕ → Bool
 isWord n = ltb n 4294967296
@@ -70,23 +78,27 @@ seenOr f undeclared = none
 abbrev pub fattr3Words : List ℕ
 fattr3Words = 0 ∷ 1 ∷ 2 ∷ 3 ∷ 4 ∷ 7 ∷ 8 ∷ 11 ∷ 12 ∷ 13 ∷ 14 ∷ 15 ∷ 16 ∷ []
 
-abbrev pub fattr3Of : List ℕ → ftype3 → fattr3
-fattr3Of l t =
+-- of a list's numbers, words passed through w
+abbrev pub fattr3By : (ℕ → ℕ) → List ℕ → ftype3 → fattr3
+fattr3By w l t =
     record {
       ftype = t;
-      mode = getD l 1 0;
-      nlink = getD l 2 0;
-      uid = getD l 3 0;
-      gid = getD l 4 0;
+      mode = w (getD l 1 0);
+      nlink = w (getD l 2 0);
+      uid = w (getD l 3 0);
+      gid = w (getD l 4 0);
       size = getD l 5 0;
       used = getD l 6 0;
-      rdev = record { specdata1 = getD l 7 0; specdata2 = getD l 8 0 };
+      rdev = record { specdata1 = w (getD l 7 0); specdata2 = w (getD l 8 0) };
       fsid = getD l 9 0;
       fileid = getD l 10 0;
-      atime = record { seconds = getD l 11 0; nseconds = getD l 12 0 };
-      mtime = record { seconds = getD l 13 0; nseconds = getD l 14 0 };
-      ctime = record { seconds = getD l 15 0; nseconds = getD l 16 0 };
+      atime = record { seconds = w (getD l 11 0); nseconds = w (getD l 12 0) };
+      mtime = record { seconds = w (getD l 13 0); nseconds = w (getD l 14 0) };
+      ctime = record { seconds = w (getD l 15 0); nseconds = w (getD l 16 0) };
     }
+
+abbrev pub fattr3Of : List ℕ → ftype3 → fattr3
+fattr3Of = fattr3By (λ n. n)
 
 abbrev pub fattr3Given : List ℕ → Option fattr3
 fattr3Given l =
@@ -130,16 +142,19 @@ abbrev pub timeOf : ℕ → ℕ → ℕ → SetTime
 timeOf tag s n =
     cond (eqb tag 0) dont-change (cond (eqb tag 1) server-time (client-time (record { seconds = s; nseconds = n })))
 
-abbrev pub sattr3Of : List ℕ → sattr3
-sattr3Of l =
+abbrev pub sattr3By : (ℕ → ℕ) → List ℕ → sattr3
+sattr3By w l =
     record {
-      mode = modeTo (optionOf (getD l 0 0) (getD l 1 0));
-      uid = uidTo (optionOf (getD l 2 0) (getD l 3 0));
-      gid = gidTo (optionOf (getD l 4 0) (getD l 5 0));
+      mode = modeTo (optionOf (getD l 0 0) (w (getD l 1 0)));
+      uid = uidTo (optionOf (getD l 2 0) (w (getD l 3 0)));
+      gid = gidTo (optionOf (getD l 4 0) (w (getD l 5 0)));
       size = sizeTo (optionOf (getD l 6 0) (getD l 7 0));
-      atime = atimeTo (timeOf (getD l 8 0) (getD l 9 0) (getD l 10 0));
-      mtime = mtimeTo (timeOf (getD l 11 0) (getD l 12 0) (getD l 13 0));
+      atime = atimeTo (timeOf (getD l 8 0) (w (getD l 9 0)) (w (getD l 10 0)));
+      mtime = mtimeTo (timeOf (getD l 11 0) (w (getD l 12 0)) (w (getD l 13 0)));
     }
+
+abbrev pub sattr3Of : List ℕ → sattr3
+sattr3Of = sattr3By (λ n. n)
 
 abbrev pub sattr3Given : List ℕ → Option sattr3
 sattr3Given l = cond (sattr3Fits l) (some (sattr3Of l)) none
@@ -156,21 +171,24 @@ foundFlavor (flavor·.Is a) = means a []
 abbrev pub callWords : List ℕ
 callWords = 0 ∷ 1 ∷ 2 ∷ 3 ∷ 4 ∷ []
 
-abbrev pub callOf : List ℕ → «auth_flavor» → «auth_flavor» → «rpc_msg»
-callOf l a b =
+abbrev pub callBy : (ℕ → ℕ) → List ℕ → «auth_flavor» → «auth_flavor» → «rpc_msg»
+callBy w l a b =
     record {
-      xid = getD l 0 0;
+      xid = w (getD l 0 0);
       body =
           CALL
           (record {
-            rpcvers = getD l 1 0;
-            prog = getD l 2 0;
-            vers = getD l 3 0;
-            proc = getD l 4 0;
+            rpcvers = w (getD l 1 0);
+            prog = w (getD l 2 0);
+            vers = w (getD l 3 0);
+            proc = w (getD l 4 0);
             cred = record { flavor = a; body = pieceOf l 6 7 };
             verf = record { flavor = b; body = pieceOf l 9 10 };
           });
     }
+
+abbrev pub callOf : List ℕ → «auth_flavor» → «auth_flavor» → «rpc_msg»
+callOf = callBy (λ n. n)
 
 abbrev pub callGiven : List ℕ → Option «rpc_msg»
 callGiven l =
