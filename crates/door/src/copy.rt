@@ -1,7 +1,6 @@
 // What copying a message answers: it is read from one buffer and written, in published form, into another.
-ghost use mathlib.Core.Path.{_≡_};
 ghost use Rattle.xdr.specs.Meaning.Views.{viewWrote};
-ghost use Rattle.door.specs.Meaning.Copy.{viewCopied, saidOf};
+ghost use Rattle.door.specs.Meaning.Copy.{Is, viewCopied, saidOf};
 use xdr::Refusal;
 use xdr::Wrote;
 
@@ -22,7 +21,7 @@ pub enum Copied {
 
 // The answer of a reading that was taken, by what its writer says.
 pub(crate) fn copied_to(next: usize, plain: bool, w: Wrote) -> Copied
-    ensures { λ r. ⌜ viewCopied r ≡ saidOf next plain (viewWrote w) ⌝ }
+    ensures { λ r. ⌜ Is (saidOf next plain) (viewWrote w) (viewCopied r) ⌝ }
 {
     match w {
         Wrote::Refused(r) => Copied::Unwritten(r),

@@ -1,6 +1,6 @@
 // A message of a kind that is named by its number.
 ghost use Rattle.door.specs.Meaning.Copy.{viewCopied};
-ghost use Rattle.door.specs.Meaning.Kinds.{itemKinds, closedKinds, messageKinds, attributeKinds, changeKinds, kinds, CopiesOf};
+ghost use Rattle.door.specs.Meaning.Kinds.{itemKinds, closedKinds, messageKinds, attributeKinds, changeKinds, kinds, CopiesOf, CopiesIn};
 use crate::copy::Copied;
 use crate::files::copy_diropargs3;
 use crate::files::copy_fattr3;
@@ -51,7 +51,7 @@ use crate::messages::copy_rpc_msg;
 
 // The items.
 fn copy_item(kind: u32, src: &[u8], at: usize, out: &mut [u8], start: usize) -> Copied
-    ensures { λ r. ⌜ CopiesOf itemKinds kind (now (src .entry)) at start (now (out .entry)) (viewCopied r) (now (out .exit)) ⌝ }
+    ensures { λ r. ⌜ CopiesIn itemKinds kind (now (src .entry)) at start (now (out .entry)) (viewCopied r) (now (out .exit)) ⌝ }
 {
     match kind {
         0 => copy_bool(src, at, out, start),
@@ -69,7 +69,7 @@ fn copy_item(kind: u32, src: &[u8], at: usize, out: &mut [u8], start: usize) -> 
 
 // The closed enumerations.
 fn copy_closed(kind: u32, src: &[u8], at: usize, out: &mut [u8], start: usize) -> Copied
-    ensures { λ r. ⌜ CopiesOf closedKinds kind (now (src .entry)) at start (now (out .entry)) (viewCopied r) (now (out .exit)) ⌝ }
+    ensures { λ r. ⌜ CopiesIn closedKinds kind (now (src .entry)) at start (now (out .entry)) (viewCopied r) (now (out .exit)) ⌝ }
 {
     match kind {
         0 => copy_msg_type(src, at, out, start),
@@ -87,7 +87,7 @@ fn copy_closed(kind: u32, src: &[u8], at: usize, out: &mut [u8], start: usize) -
 
 // The messages of RFC 5531.
 fn copy_message(kind: u32, src: &[u8], at: usize, out: &mut [u8], start: usize) -> Copied
-    ensures { λ r. ⌜ CopiesOf messageKinds kind (now (src .entry)) at start (now (out .entry)) (viewCopied r) (now (out .exit)) ⌝ }
+    ensures { λ r. ⌜ CopiesIn messageKinds kind (now (src .entry)) at start (now (out .entry)) (viewCopied r) (now (out .exit)) ⌝ }
 {
     match kind {
         0 => copy_auth_unix(src, at, out, start),
@@ -106,7 +106,7 @@ fn copy_message(kind: u32, src: &[u8], at: usize, out: &mut [u8], start: usize) 
 
 // Attributes and what holds them (RFC 1813).
 fn copy_attributes(kind: u32, src: &[u8], at: usize, out: &mut [u8], start: usize) -> Copied
-    ensures { λ r. ⌜ CopiesOf attributeKinds kind (now (src .entry)) at start (now (out .entry)) (viewCopied r) (now (out .exit)) ⌝ }
+    ensures { λ r. ⌜ CopiesIn attributeKinds kind (now (src .entry)) at start (now (out .entry)) (viewCopied r) (now (out .exit)) ⌝ }
 {
     match kind {
         0 => copy_specdata3(src, at, out, start),
@@ -125,7 +125,7 @@ fn copy_attributes(kind: u32, src: &[u8], at: usize, out: &mut [u8], start: usiz
 
 // What a call changes, and names (RFC 1813).
 fn copy_change(kind: u32, src: &[u8], at: usize, out: &mut [u8], start: usize) -> Copied
-    ensures { λ r. ⌜ CopiesOf changeKinds kind (now (src .entry)) at start (now (out .entry)) (viewCopied r) (now (out .exit)) ⌝ }
+    ensures { λ r. ⌜ CopiesIn changeKinds kind (now (src .entry)) at start (now (out .entry)) (viewCopied r) (now (out .exit)) ⌝ }
 {
     match kind {
         0 => copy_set_mode3(src, at, out, start),

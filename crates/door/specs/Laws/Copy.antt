@@ -3,20 +3,28 @@
 use mathlib.Core.Path.{_≡_, refl, sym, ap, subst, _∙_}
 use mathlib.Core.Bool.{Bool, true, false}
 use mathlib.Core.List.{List, [], _∷_, _++_}
-use Prim.Native.Nat.{ℕ, zero, suc, _+_, _≤_, _<_}
+use Prim.Native.Nat.{ℕ, zero, suc, _+_, _-_, _≤_, _<_}
 use native.Mathlib.Omega.{arith}
+use lib.IntN.{ℤ}
 use lib.ListN.{length, take, drop}
-use lib.Dec.{leb}
-use borrow.Author.Tests.{le-leb, leb-true, leb-false}
+use borrow.Author.Tests.{le-leb}
 use Rattle.xdr.specs.Meaning.Answer.{Answer, took, refused, opened, most, Written, done, unwritten}
 use Rattle.xdr.specs.Meaning.Kind.{Codec}
 use Rattle.xdr.specs.Meaning.Format.{Format, Branch, exactly}
+use Rattle.xdr.specs.Meaning.Formats.{eightBytes, eightHeld}
 use Rattle.xdr.specs.Meaning.Order.{placing}
+use Rattle.xdr.specs.Meaning.Views.{viewU64, viewWrote}
+use Rattle.xdr.specs.declared.answer.U64Read.{U64Read}
+use Rattle.xdr.specs.declared.answer.Wrote.{Wrote}
 use Rattle.xdr.specs.Meaning.Public.{Answers, output, writing, Writes}
 use Rattle.xdr.specs.Laws.Public.{kept}
-use Rattle.door.specs.Meaning.Copy.{Copy, unknown, unread, saidOf, Copies}
-use Rattle.door.specs.Meaning.Kinds.{CopiesOf}
+use Rattle.door.specs.Meaning.Copy.{Is, Copy, unknown, unread, saidOf, Copies}
+use Rattle.door.specs.Meaning.Kinds.{CopiesOf, CopiesIn}
 use Rattle.xdr.specs.declared.refusal.Refusal.{Refusal}
+
+-- by the case t that a writer's answer is
+pub said-at : {f : Written → Copy} {w t : Wrote} {y : Copy} → w ≡ t → y ≡ f (viewWrote t) → Is f (viewWrote w) y
+said-at {f} e h = record { is = h ∙ ap (λ z. f (viewWrote z)) (sym e) }
 
 module _ {M S R : Type 0} (F : Format M S) (view : R → Answer S) (s : List ℕ) (at start : ℕ) (o : List ℕ) {r t : R} (c : Answers F s at (view r)) (e : r ≡ t) where
   -- the reading was refused
@@ -68,29 +76,64 @@ module _ {M R : Type 0} (C : Codec M) (view : R → Answer M) (s : List ℕ) (at
       was-read (exactly C) view s at start o c e v
       (freed (exactly C) s (short (exactly C) s at c (ap view e ∙ v)) (λ t. (refl, refl)) refl start o w d) f
 
--- past the end of the list there is no kind
-pub past : (l : List Branch) (k : ℕ) (s : List ℕ) (at start : ℕ) (o : List ℕ) → length l ≤ k → CopiesOf l k s at start o unknown o
-past [] k s at start o h = (refl, refl)
-past (b ∷ l) zero s at start o h = absurd (omega arith)
-past (b ∷ l) (suc k) s at start o h = past l k s at start o (omega arith)
+-- a signed number, which is passed on by its bits
+module _ {R : Type 0} (C : Codec ℤ) (view : R → Answer ℤ) (take : ℤ → ℕ → R) (s : List ℕ) (at start : ℕ) (o : List ℕ) {r : R} where
+  pub signed-read : {x x′ : ℤ} {n : ℕ} {o′ : List ℕ} {w : Written} {a : Copy} → Answers (exactly C) s at (view r) → r ≡ take x n
+      → Writes (exactly C) [] x′ start o w o′ → x′ ≡ x → a ≡ saidOf n true w → view (take x n) ≡ took x n true → Copies (exactly C) s at start o a o′
+  signed-read {w = w} c e d g f v =
+      was-read (exactly C) view s at start o c e v
+      (freed (exactly C) s (short (exactly C) s at c (ap view e ∙ v)) (λ t. (refl, refl)) g start o w d) f
+
+module _ (s : List ℕ) (at start : ℕ) (o : List ℕ) {r t : U64Read} where
+  pub eight-read : {x n : ℕ} {b : Bool} {o′ : List ℕ} {w : Written} {a : Copy} → Answers eightBytes s at (viewU64 r) → r ≡ t
+      → Writes eightBytes [] x start o w o′ → a ≡ saidOf n b w → viewU64 t ≡ took x n b → Copies eightBytes s at start o a o′
+  unfolding eightHeld
+  eight-read {w = w} c e d f v =
+      was-read eightBytes viewU64 s at start o c e v
+      (freed eightBytes s (short eightBytes s at c (ap viewU64 e ∙ v)) (λ t. (refl, refl)) refl start o w d) f
 
 -- a number that is none of the first is above them
-pub none-of : {m k : ℕ} → m ≤ k → (k ≡ m → ⊥) → suc m ≤ k
-none-of {m} {k} h n = by-order (leb (suc m) k) refl
-  where
-    by-order : (t : Bool) → leb (suc m) k ≡ t → suc m ≤ k
-    by-order true e = leb-true (suc m) k e
-    by-order false e = let g : k < suc m = leb-false (suc m) k e in absurd (n (omega arith))
+abbrev NoneOf : ℕ → ℕ → Type 0
+NoneOf zero k = Unit {0}
+NoneOf (suc n) k = NoneOf n k × (k ≡ n → ⊥)
 
--- a kind of the front of a list, and one behind it
-pub in-front : (l r : List Branch) (k : ℕ) (s : List ℕ) (at start : ℕ) (o : List ℕ) (c : Copy) (o′ : List ℕ) → k < length l → CopiesOf l k s at start o c o′
-    → CopiesOf (l ++ r) k s at start o c o′
-in-front [] r k s at start o c o′ h p = absurd (omega arith)
-in-front (b ∷ l) r zero s at start o c o′ h p = p
-in-front (b ∷ l) r (suc k) s at start o c o′ h p = in-front l r k s at start o c o′ (omega arith) p
+none-of : (n k : ℕ) → NoneOf n k → n ≤ k
+none-of zero k h = omega arith
+none-of (suc n) k h = let g : n ≤ k = none-of n k (h .0) in let m : k ≡ n → ⊥ = h .1 in omega (arith, m)
 
-pub behind : (l r : List Branch) (j k : ℕ) (s : List ℕ) (at start : ℕ) (o : List ℕ) (c : Copy) (o′ : List ℕ) → k ≡ length l + j → CopiesOf r j s at start o c o′
-    → CopiesOf (l ++ r) k s at start o c o′
-behind [] r j k s at start o c o′ e p = let f : j ≡ k = omega arith in subst (λ i. CopiesOf r i s at start o c o′) f p
-behind (b ∷ l) r j zero s at start o c o′ e p = absurd (omega arith)
-behind (b ∷ l) r j (suc k) s at start o c o′ e p = behind l r j k s at start o c o′ (omega arith) p
+-- the kind of a number, and past the end of the list none
+module _ {l : List Branch} {s : List ℕ} {at start : ℕ} {o : List ℕ} where
+  pub of-kind : {k n : ℕ} {c : Copy} {o′ : List ℕ} → k ≡ n → CopiesOf l n s at start o c o′ → CopiesIn l k s at start o c o′
+  of-kind e d = record { copies = rw e d }
+
+  pub no-kind : {k : ℕ} → NoneOf (length l) k → CopiesIn l k s at start o unknown o
+  no-kind {k} h = record { copies = past l k (none-of (length l) k h) }
+    where
+      past : (l : List Branch) (k : ℕ) → length l ≤ k → CopiesOf l k s at start o unknown o
+      past [] k h = (refl, refl)
+      past (b ∷ l) zero h = absurd (omega arith)
+      past (b ∷ l) (suc k) h = past l k (omega arith)
+
+-- a kind of a list, in a list that it is a part of
+module _ (s : List ℕ) (at start : ℕ) (o : List ℕ) (c : Copy) (o′ : List ℕ) where
+  in-front : (l r : List Branch) (k : ℕ) → k < length l → CopiesOf l k s at start o c o′ → CopiesOf (l ++ r) k s at start o c o′
+  in-front [] r k h p = absurd (omega arith)
+  in-front (b ∷ l) r zero h p = p
+  in-front (b ∷ l) r (suc k) h p = in-front l r k (omega arith) p
+
+  behind : (f l : List Branch) (j k : ℕ) → k ≡ length f + j → CopiesOf l j s at start o c o′ → CopiesOf (f ++ l) k s at start o c o′
+  behind [] l j k e p = let g : j ≡ k = omega arith in subst (λ i. CopiesOf l i s at start o c o′) g p
+  behind (b ∷ f) l j zero e p = absurd (omega arith)
+  behind (b ∷ f) l j (suc k) e p = behind f l j k (omega arith) p
+
+module _ {s : List ℕ} {at start : ℕ} {o : List ℕ} {c : Copy} {o′ : List ℕ} where
+  pub kind-first : (l r : List Branch) {k : ℕ} → CopiesIn l k s at start o c o′ → k < length l → CopiesOf (l ++ r) k s at start o c o′
+  kind-first l r {k} d h = in-front s at start o c o′ l r k h (d .copies)
+
+  module _ (f l : List Branch) (k n : ℕ) where
+    pub kind-amid : (r : List Branch) → CopiesIn l (k - n) s at start o c o′ → n ≤ k → k - n < length l → n ≡ length f
+        → CopiesOf (f ++ (l ++ r)) k s at start o c o′
+    kind-amid r d h g e = behind s at start o c o′ f (l ++ r) (k - n) k (omega arith) (kind-first l r d g)
+
+    pub kind-last : CopiesIn l (k - n) s at start o c o′ → n ≤ k → n ≡ length f → CopiesOf (f ++ l) k s at start o c o′
+    kind-last d h e = behind s at start o c o′ f l (k - n) k (omega arith) (d .copies)

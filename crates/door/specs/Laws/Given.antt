@@ -30,9 +30,10 @@ use Rattle.nfs.specs.declared.set.set_mtime.{«set_mtime»}
 use Rattle.rpc.specs.Meaning.Closed.{flavorNumber, flavors}
 use Rattle.rpc.specs.declared.auth.auth_flavor.{«auth_flavor»}
 use Rattle.rpc.specs.declared.message.rpc_msg.{«rpc_msg»}
+use Rattle.door.specs.Meaning.Copy.{Is}
 use Rattle.door.specs.Meaning.Figures.{Says}
 use Rattle.door.specs.Meaning.Exports.{wroteCode, wroteFigures}
-use Rattle.door.specs.Meaning.Given.{GivenTold, WriteCalled, Is, low, isWord, areWords, seenOr, fattr3Words, fattr3By, fattr3Of, fattr3Given, optionFits, timeFits, sattr3Fits, optionOf, timeOf, sattr3By, sattr3Of, sattr3Given, foundFlavor, callWords, callBy, callOf, callGiven}
+use Rattle.door.specs.Meaning.Given.{GivenTold, WriteCalled, low, isWord, areWords, seenOr, fattr3Words, fattr3By, fattr3Of, fattr3Given, optionFits, timeFits, sattr3Fits, optionOf, timeOf, sattr3By, sattr3Of, sattr3Given, foundFlavor, callWords, callBy, callOf, callGiven}
 use Rattle.door.specs.declared.values_write.FlavorFound.{FlavorFound}
 
 -- by the room, and by what the numbers are

@@ -12,6 +12,10 @@ use Rattle.xdr.specs.declared.refusal.Refusal.{Refusal}
 use Rattle.door.specs.declared.copy.Copied.{Copied}
 use Rattle.door.specs.declared.copy.Copied.the-variants.{Unknown, Unread, Unwritten, Done}
 
+-- y is what f makes of x
+pub record Is {A B : Type 0} (f : A → B) (x : A) (y : B) : Type 0 where
+  pub is : y ≡ f x
+
 -- what is said: no such kind; the reading's refusal; the writing's refusal; or the three figures
 pub data Copy : Type 0 where
   unknown : Copy

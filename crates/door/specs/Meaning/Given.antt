@@ -53,10 +53,6 @@ module _ {S : Type 0} (Wrote : S → Written → List ℕ → Type 0) where
     pub room : k ≤ length l → 1 ≤ length i → GivenTold (given l) o i r o′ i′
     pub short : (length l < k) ⊎ (length i < 1) → (r ≡ 254) × (o′ ≡ o) × (i′ ≡ i)
 
--- y is what f makes of x
-pub record Is {A B : Type 0} (f : A → B) (x : A) (y : B) : Type 0 where
-  pub is : y ≡ f x
-
 -- the rest of a number by the count of words; its own, where it is a word
 abbrev pub low : ℕ → ℕ
 low n = n % 4294967296

@@ -96,3 +96,6 @@ abbrev pub CopiesOf : List Branch → ℕ → List ℕ → ℕ → ℕ → List 
 CopiesOf [] k s at start o c o′ = (c ≡ unknown) × (o′ ≡ o)
 CopiesOf (b ∷ l) zero s at start o c o′ = Copies (b .format) s at start o c o′
 CopiesOf (b ∷ l) (suc k) s at start o c o′ = CopiesOf l k s at start o c o′
+
+pub record CopiesIn (l : List Branch) (k : ℕ) (s : List ℕ) (at start : ℕ) (o : List ℕ) (c : Copy) (o′ : List ℕ) : Type 0 where
+  pub copies : CopiesOf l k s at start o c o′

@@ -1,44 +1,7 @@
 use borrow.Author.Needs.{needs}
-use Rattle.door.specs.Meaning.Kinds.{attributeKinds}
-use Rattle.door.specs.Laws.Copy.{past, none-of}
+use Rattle.door.specs.Laws.Copy.{of-kind, no-kind}
 use Rattle.door.proofs.kinds.copy_attributes.Statement.{statement}
 use Rattle.door.proofs.kinds.copy_attributes.Tie as tie
 
-returns : tie.Need-returns
-returns c = rw (c .before .before .before .before .match .keys1) (c .before .before .copy-specdata3 .ensures)
-
-returns-2 : tie.Need-returns-2
-returns-2 c = rw (c .before .before .before .before .match .keys2) (c .before .before .copy-nfs-fh3 .ensures)
-
-returns-3 : tie.Need-returns-3
-returns-3 c = rw (c .before .before .before .before .match .keys3) (c .before .before .copy-nfstime3 .ensures)
-
-returns-4 : tie.Need-returns-4
-returns-4 c = rw (c .before .before .before .before .match .keys4) (c .before .before .copy-fattr3 .ensures)
-
-returns-5 : tie.Need-returns-5
-returns-5 c = rw (c .before .before .before .before .match .keys5) (c .before .before .copy-fsinfo3 .ensures)
-
-returns-6 : tie.Need-returns-6
-returns-6 c = rw (c .before .before .before .before .match .keys6) (c .before .before .copy-wcc-attr .ensures)
-
-returns-7 : tie.Need-returns-7
-returns-7 c = rw (c .before .before .before .before .match .keys7) (c .before .before .copy-pre-op-attr .ensures)
-
-returns-8 : tie.Need-returns-8
-returns-8 c = rw (c .before .before .before .before .match .keys8) (c .before .before .copy-post-op-attr .ensures)
-
-returns-9 : tie.Need-returns-9
-returns-9 c = rw (c .before .before .before .before .match .keys9) (c .before .before .copy-wcc-data .ensures)
-
-returns-10 : tie.Need-returns-10
-returns-10 c = rw (c .before .before .before .before .match .keys10) (c .before .before .copy-post-op-fh3 .ensures)
-
-returns-11 : tie.Need-returns-11
-returns-11 c = past attributeKinds (c .before .before .before .args .kind) _ _ _ _ (none-of (none-of (none-of (none-of (none-of (none-of (none-of (none-of (none-of (none-of (search needs) (c .match .rest .0 .0 .0 .0 .0 .0 .0 .0 .0 .1)) (c .match .rest .0 .0 .0 .0 .0 .0 .0 .0 .1)) (c .match .rest .0 .0 .0 .0 .0 .0 .0 .1)) (c .match .rest .0 .0 .0 .0 .0 .0 .1)) (c .match .rest .0 .0 .0 .0 .0 .1)) (c .match .rest .0 .0 .0 .0 .1)) (c .match .rest .0 .0 .0 .1)) (c .match .rest .0 .0 .1)) (c .match .rest .0 .1)) (c .match .rest .1))
-
 pub copy-attributes-spec : {M : Type 1} → statement M
-copy-attributes-spec =
-    tie.close
-    (tie.spec
-    (search needs) (search needs) (search needs) (search needs) (search needs) (search needs) (search needs) (search needs) (search needs) (search needs) (search needs) returns (search needs) returns-2 (search needs) returns-3 (search needs) returns-4 (search needs) returns-5 (search needs) returns-6 (search needs) returns-7 (search needs) returns-8 (search needs) returns-9 (search needs) returns-10 returns-11)
+copy-attributes-spec = tie.close (tie.spec (search needs) (search needs) (search needs) (search needs) (search needs) (search needs) (search needs) (search needs) (search needs) (search needs) (search needs) (λ c. search of-kind) (search needs) (λ c. search of-kind) (search needs) (λ c. search of-kind) (search needs) (λ c. search of-kind) (search needs) (λ c. search of-kind) (search needs) (λ c. search of-kind) (search needs) (λ c. search of-kind) (search needs) (λ c. search of-kind) (search needs) (λ c. search of-kind) (search needs) (λ c. search of-kind) (λ c. search no-kind))
