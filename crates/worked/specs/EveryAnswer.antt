@@ -52,149 +52,60 @@ abbrev pub Readers : List Branch → Type 1
 Readers [] = Unit {1}
 Readers (b ∷ l) = Reader (b .format) × Readers l
 
+infixr 15 _next_
+abbrev _next_ : {A B : Type 1} → A → B → A × B
+a next b = (a, b)
+
 abbrev pub readers : Readers kinds
-readers = (
-  by viewBool bool-told,
-  (
-    by viewI32 i32-told,
-    (
-      by viewI64 i64-told,
-      (
-        by viewU32 u32-told,
-        (
-          by viewU64 u64-told,
-          (
-            by viewU64 u64-told,
-            (
-              by viewPiece piece-told,
-              (
-                by viewPiece piece-told,
-                (
-                  by viewPiece piece-told,
-                  (
-                    by viewMsgType msg-type-told,
-                    (
-                      by viewReplyStat reply-stat-told,
-                      (
-                        by viewAcceptStat accept-stat-told,
-                        (
-                          by viewRejectStat reject-stat-told,
-                          (
-                            by viewAuthStat auth-stat-told,
-                            (
-                              by viewAuthFlavor auth-flavor-told,
-                              (
-                                by viewTimeHow time-how-told,
-                                (
-                                  by viewNfsstat3 nfsstat3-told,
-                                  (
-                                    by viewFtype3 ftype3-told,
-                                    (
-                                      by viewAuthUnix auth-unix-told,
-                                      (
-                                        by viewOpaqueAuth opaque-auth-told,
-                                        (
-                                          by viewRpcMsg rpc-msg-told,
-                                          (
-                                            by viewRpcBody rpc-body-told,
-                                            (
-                                              by viewCallBody call-body-told,
-                                              (
-                                                by viewReplyBody reply-body-told,
-                                                (
-                                                  by viewAcceptedReply accepted-reply-told,
-                                                  (
-                                                    by viewAcceptBody accept-body-told,
-                                                    (
-                                                      by viewRejectedReply rejected-reply-told,
-                                                      (
-                                                        by viewMismatchInfo mismatch-info-told,
-                                                        (
-                                                          by viewSpecdata3 specdata3-told,
-                                                          (
-                                                            by viewNfsFh3 nfs-fh3-told,
-                                                            (
-                                                              by viewNfstime3 nfstime3-told,
-                                                              (
-                                                                by viewFattr3 fattr3-told,
-                                                                (
-                                                                  by viewFsinfo3 fsinfo3-told,
-                                                                  (
-                                                                    by viewWccAttr wcc-attr-told,
-                                                                    (
-                                                                      by viewPreOpAttr pre-op-attr-told,
-                                                                      (
-                                                                        by viewPostOpAttr post-op-attr-told,
-                                                                        (
-                                                                          by viewWccData wcc-data-told,
-                                                                          (
-                                                                            by viewPostOpFh3 post-op-fh3-told,
-                                                                            (
-                                                                              by viewSetMode3 set-mode3-told,
-                                                                              (
-                                                                                by viewSetUid3 set-uid3-told,
-                                                                                (
-                                                                                  by viewSetGid3 set-gid3-told,
-                                                                                  (
-                                                                                    by viewSetSize3 set-size3-told,
-                                                                                    (
-                                                                                      by viewSetAtime set-atime-told,
-                                                                                      (
-                                                                                        by viewSetMtime set-mtime-told,
-                                                                                        (
-                                                                                          by viewSattr3 sattr3-told,
-                                                                                          (
-                                                                                            by viewDiropargs3 diropargs3-told,
-                                                                                            (
-                                                                                              by viewSymlinkdata3 symlinkdata3-told,
-                                                                                              tt,
-                                                                                            ),
-                                                                                          ),
-                                                                                        ),
-                                                                                      ),
-                                                                                    ),
-                                                                                  ),
-                                                                                ),
-                                                                              ),
-                                                                            ),
-                                                                          ),
-                                                                        ),
-                                                                      ),
-                                                                    ),
-                                                                  ),
-                                                                ),
-                                                              ),
-                                                            ),
-                                                          ),
-                                                        ),
-                                                      ),
-                                                    ),
-                                                  ),
-                                                ),
-                                              ),
-                                            ),
-                                          ),
-                                        ),
-                                      ),
-                                    ),
-                                  ),
-                                ),
-                              ),
-                            ),
-                          ),
-                        ),
-                      ),
-                    ),
-                  ),
-                ),
-              ),
-            ),
-          ),
-        ),
-      ),
-    ),
-  ),
-)
+readers =
+    by viewBool bool-told
+    next by viewI32 i32-told
+    next by viewI64 i64-told
+    next by viewU32 u32-told
+    next by viewU64 u64-told
+    next by viewU64 u64-told
+    next by viewPiece piece-told
+    next by viewPiece piece-told
+    next by viewPiece piece-told
+    next by viewMsgType msg-type-told
+    next by viewReplyStat reply-stat-told
+    next by viewAcceptStat accept-stat-told
+    next by viewRejectStat reject-stat-told
+    next by viewAuthStat auth-stat-told
+    next by viewAuthFlavor auth-flavor-told
+    next by viewTimeHow time-how-told
+    next by viewNfsstat3 nfsstat3-told
+    next by viewFtype3 ftype3-told
+    next by viewAuthUnix auth-unix-told
+    next by viewOpaqueAuth opaque-auth-told
+    next by viewRpcMsg rpc-msg-told
+    next by viewRpcBody rpc-body-told
+    next by viewCallBody call-body-told
+    next by viewReplyBody reply-body-told
+    next by viewAcceptedReply accepted-reply-told
+    next by viewAcceptBody accept-body-told
+    next by viewRejectedReply rejected-reply-told
+    next by viewMismatchInfo mismatch-info-told
+    next by viewSpecdata3 specdata3-told
+    next by viewNfsFh3 nfs-fh3-told
+    next by viewNfstime3 nfstime3-told
+    next by viewFattr3 fattr3-told
+    next by viewFsinfo3 fsinfo3-told
+    next by viewWccAttr wcc-attr-told
+    next by viewPreOpAttr pre-op-attr-told
+    next by viewPostOpAttr post-op-attr-told
+    next by viewWccData wcc-data-told
+    next by viewPostOpFh3 post-op-fh3-told
+    next by viewSetMode3 set-mode3-told
+    next by viewSetUid3 set-uid3-told
+    next by viewSetGid3 set-gid3-told
+    next by viewSetSize3 set-size3-told
+    next by viewSetAtime set-atime-told
+    next by viewSetMtime set-mtime-told
+    next by viewSattr3 sattr3-told
+    next by viewDiropargs3 diropargs3-told
+    next by viewSymlinkdata3 symlinkdata3-told
+    next tt
 
 abbrev pub EachOne : (l : List Branch) → Readers l → Type 0
 EachOne [] r = Unit {0}
@@ -214,149 +125,60 @@ abbrev pub EachWithin : List Branch → Type 0
 EachWithin [] = Unit {0}
 EachWithin (b ∷ l) = Within 40 (b .format .codec .kind) × EachWithin l
 
+infixr 15 _also_
+_also_ : {A B : Type 0} → A → B → A × B
+a also b = (a, b)
+
 every-within : EachWithin kinds
-every-within = (
-  weaken (omega arith) flag-within,
-  (
-    weaken (omega arith) int-within,
-    (
-      weaken (omega arith) long-within,
-      (
-        weaken (omega arith) word-within,
-        (
-          weaken (omega arith) hyper-within,
-          (
-            weaken (omega arith) eight-within,
-            (
-              weaken (omega arith) opaque-within,
-              (
-                weaken (omega arith) opaque-within,
-                (
-                  weaken (omega arith) words-within,
-                  (
-                    weaken (omega arith) msg-type-within,
-                    (
-                      weaken (omega arith) reply-stat-within,
-                      (
-                        weaken (omega arith) accept-stat-within,
-                        (
-                          weaken (omega arith) reject-stat-within,
-                          (
-                            weaken (omega arith) auth-stat-within,
-                            (
-                              weaken (omega arith) auth-flavor-within,
-                              (
-                                weaken (omega arith) time-how-within,
-                                (
-                                  weaken (omega arith) nfsstat-within,
-                                  (
-                                    weaken (omega arith) ftype-within,
-                                    (
-                                      weaken (omega arith) auth-unix-within,
-                                      (
-                                        weaken (omega arith) opaque-auth-within,
-                                        (
-                                          rpc-msg-within,
-                                          (
-                                            weaken (omega arith) rpc-body-within,
-                                            (
-                                              weaken (omega arith) call-body-within,
-                                              (
-                                                weaken (omega arith) reply-body-within,
-                                                (
-                                                  weaken (omega arith) accepted-reply-within,
-                                                  (
-                                                    weaken (omega arith) accept-body-within,
-                                                    (
-                                                      weaken (omega arith) rejected-reply-within,
-                                                      (
-                                                        weaken (omega arith) mismatch-info-within,
-                                                        (
-                                                          weaken (omega arith) specdata-within,
-                                                          (
-                                                            weaken (omega arith) nfs-fh-within,
-                                                            (
-                                                              weaken (omega arith) nfstime-within,
-                                                              (
-                                                                weaken (omega arith) fattr-within,
-                                                                (
-                                                                  weaken (omega arith) fsinfo-within,
-                                                                  (
-                                                                    weaken (omega arith) wcc-attr-within,
-                                                                    (
-                                                                      weaken (omega arith) pre-op-attr-within,
-                                                                      (
-                                                                        weaken (omega arith) post-op-attr-within,
-                                                                        (
-                                                                          weaken (omega arith) wcc-data-within,
-                                                                          (
-                                                                            weaken (omega arith) post-op-fh-within,
-                                                                            (
-                                                                              weaken (omega arith) set-mode-within,
-                                                                              (
-                                                                                weaken (omega arith) set-uid-within,
-                                                                                (
-                                                                                  weaken (omega arith) set-gid-within,
-                                                                                  (
-                                                                                    weaken (omega arith) set-size-within,
-                                                                                    (
-                                                                                      weaken (omega arith) set-atime-within,
-                                                                                      (
-                                                                                        weaken (omega arith) set-mtime-within,
-                                                                                        (
-                                                                                          weaken (omega arith) sattr-within,
-                                                                                          (
-                                                                                            weaken (omega arith) diropargs-within,
-                                                                                            (
-                                                                                              weaken (omega arith) symlinkdata-within,
-                                                                                              tt,
-                                                                                            ),
-                                                                                          ),
-                                                                                        ),
-                                                                                      ),
-                                                                                    ),
-                                                                                  ),
-                                                                                ),
-                                                                              ),
-                                                                            ),
-                                                                          ),
-                                                                        ),
-                                                                      ),
-                                                                    ),
-                                                                  ),
-                                                                ),
-                                                              ),
-                                                            ),
-                                                          ),
-                                                        ),
-                                                      ),
-                                                    ),
-                                                  ),
-                                                ),
-                                              ),
-                                            ),
-                                          ),
-                                        ),
-                                      ),
-                                    ),
-                                  ),
-                                ),
-                              ),
-                            ),
-                          ),
-                        ),
-                      ),
-                    ),
-                  ),
-                ),
-              ),
-            ),
-          ),
-        ),
-      ),
-    ),
-  ),
-)
+every-within =
+    weaken (omega arith) flag-within
+    also weaken (omega arith) int-within
+    also weaken (omega arith) long-within
+    also weaken (omega arith) word-within
+    also weaken (omega arith) hyper-within
+    also weaken (omega arith) eight-within
+    also weaken (omega arith) opaque-within
+    also weaken (omega arith) opaque-within
+    also weaken (omega arith) words-within
+    also weaken (omega arith) msg-type-within
+    also weaken (omega arith) reply-stat-within
+    also weaken (omega arith) accept-stat-within
+    also weaken (omega arith) reject-stat-within
+    also weaken (omega arith) auth-stat-within
+    also weaken (omega arith) auth-flavor-within
+    also weaken (omega arith) time-how-within
+    also weaken (omega arith) nfsstat-within
+    also weaken (omega arith) ftype-within
+    also weaken (omega arith) auth-unix-within
+    also weaken (omega arith) opaque-auth-within
+    also rpc-msg-within
+    also weaken (omega arith) rpc-body-within
+    also weaken (omega arith) call-body-within
+    also weaken (omega arith) reply-body-within
+    also weaken (omega arith) accepted-reply-within
+    also weaken (omega arith) accept-body-within
+    also weaken (omega arith) rejected-reply-within
+    also weaken (omega arith) mismatch-info-within
+    also weaken (omega arith) specdata-within
+    also weaken (omega arith) nfs-fh-within
+    also weaken (omega arith) nfstime-within
+    also weaken (omega arith) fattr-within
+    also weaken (omega arith) fsinfo-within
+    also weaken (omega arith) wcc-attr-within
+    also weaken (omega arith) pre-op-attr-within
+    also weaken (omega arith) post-op-attr-within
+    also weaken (omega arith) wcc-data-within
+    also weaken (omega arith) post-op-fh-within
+    also weaken (omega arith) set-mode-within
+    also weaken (omega arith) set-uid-within
+    also weaken (omega arith) set-gid-within
+    also weaken (omega arith) set-size-within
+    also weaken (omega arith) set-atime-within
+    also weaken (omega arith) set-mtime-within
+    also weaken (omega arith) sattr-within
+    also weaken (omega arith) diropargs-within
+    also weaken (omega arith) symlinkdata-within
+    also tt
 
 abbrev pub EachShort : List Branch → Type 0
 EachShort [] = Unit {0}
