@@ -77,6 +77,7 @@ enum yugerzat_answer {
  * kinds.txt, and never change.
  */
 enum yugerzat_kind {
+    /* made by tools/generate: kinds */
     YUGERZAT_BOOL = 0,
     YUGERZAT_I32 = 1,
     YUGERZAT_I64 = 2,
@@ -125,6 +126,7 @@ enum yugerzat_kind {
     YUGERZAT_DIROPARGS3 = 45,
     YUGERZAT_SYMLINKDATA3 = 46,
     YUGERZAT_KINDS = 47 /* how many there are */
+    /* end of kinds */
 };
 
 /*

@@ -1,3 +1,4 @@
+// made by tools/generate from kinds.txt
 // Each kind of RFC 1813, copied.
 ghost use Rattle.xdr.specs.Meaning.Format.{exactly};
 ghost use Rattle.nfsattr.specs.Meaning.Stat.{nfsstat};

@@ -1,6 +1,7 @@
+// made by tools/generate from kinds.txt
 // Each item, copied.
-ghost use Rattle.xdr.specs.Meaning.Items.{word, hyper, flag, int, long};
 ghost use Rattle.xdr.specs.Meaning.Format.{exactly};
+ghost use Rattle.xdr.specs.Meaning.Items.{flag, int, long, word, hyper};
 ghost use Rattle.xdr.specs.Meaning.Formats.{eightBytes, bytes, wordList};
 ghost use Rattle.door.specs.Meaning.Copy.{viewCopied, Copies};
 use crate::copy::Copied;

@@ -1,3 +1,4 @@
+// made by tools/generate from kinds.txt
 // A message of a kind that is named by its number.
 ghost use Rattle.door.specs.Meaning.Copy.{viewCopied};
 ghost use Rattle.door.specs.Meaning.Kinds.{itemKinds, closedKinds, messageKinds, attributeKinds, changeKinds, kinds, CopiesOf, CopiesIn};
@@ -67,7 +68,7 @@ fn copy_item(kind: u32, src: &[u8], at: usize, out: &mut [u8], start: usize) -> 
     }
 }
 
-// The closed enumerations.
+// The closed enumerations of RFC 5531 and RFC 1813.
 fn copy_closed(kind: u32, src: &[u8], at: usize, out: &mut [u8], start: usize) -> Copied
     ensures { λ r. ⌜ CopiesIn closedKinds kind (now (src .entry)) at start (now (out .entry)) (viewCopied r) (now (out .exit)) ⌝ }
 {

@@ -2,10 +2,12 @@
 pub mod copy;
 pub mod exports;
 mod figures;
+// made by tools/generate: copiers
 mod files;
 mod items;
 mod kinds;
 mod messages;
+// end of copiers
 pub mod values_read;
 pub mod values_write;
 

@@ -1,3 +1,4 @@
+// made by tools/generate from kinds.txt
 // Each kind of RFC 5531, copied.
 ghost use Rattle.xdr.specs.Meaning.Format.{exactly};
 ghost use Rattle.rpc.specs.Meaning.Closed.{msg-type, reply-stat, accept-stat, reject-stat, auth-stat, auth-flavor};

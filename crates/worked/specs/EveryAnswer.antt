@@ -13,7 +13,7 @@ use Rattle.xdr.specs.Meaning.Public.{Answers, Took, rewritten}
 use Rattle.xdr.specs.Laws.Lengths.{Within, weaken, answer-no-longer}
 use Rattle.xdr.specs.Laws.One.{Told, one-read}
 use Rattle.xdr.specs.Laws.Owed.{Owed, owed}
-use Rattle.door.specs.Meaning.Kinds.{kinds}
+-- made by tools/generate: uses
 use Rattle.xdr.specs.Meaning.Views.{viewBool, viewI32, viewI64, viewU32, viewU64, viewPiece}
 use Rattle.rpc.specs.Meaning.Views.{viewMsgType, viewReplyStat, viewAcceptStat, viewRejectStat, viewAuthStat, viewAuthFlavor, viewAuthUnix, viewOpaqueAuth, viewRpcMsg, viewRpcBody, viewCallBody, viewReplyBody, viewAcceptedReply, viewAcceptBody, viewRejectedReply, viewMismatchInfo}
 use Rattle.nfsattr.specs.Meaning.Views.{viewNfsstat3, viewFtype3, viewSpecdata3, viewNfstime3, viewFattr3, viewFsinfo3, viewWccAttr, viewPreOpAttr, viewPostOpAttr, viewWccData}
@@ -26,6 +26,8 @@ use Rattle.xdr.specs.Laws.Lengths.{flag-within, int-within, long-within, word-w
 use Rattle.rpc.specs.Laws.Lengths.{msg-type-within, reply-stat-within, accept-stat-within, reject-stat-within, auth-stat-within, auth-flavor-within, auth-unix-within, opaque-auth-within, rpc-msg-within, rpc-body-within, call-body-within, reply-body-within, accepted-reply-within, accept-body-within, rejected-reply-within, mismatch-info-within}
 use Rattle.nfsattr.specs.Laws.Lengths.{nfsstat-within, ftype-within, specdata-within, nfstime-within, fattr-within, fsinfo-within, wcc-attr-within, pre-op-attr-within, post-op-attr-within, wcc-data-within}
 use Rattle.nfs.specs.Laws.Lengths.{time-how-within, nfs-fh-within, post-op-fh-within, set-mode-within, set-uid-within, set-gid-within, set-size-within, set-atime-within, set-mtime-within, sattr-within, diropargs-within, symlinkdata-within}
+-- end of uses
+use Rattle.door.specs.Meaning.Kinds.{kinds}
 
 -- demands 2 and 3, for any format, and so for these
 abbrev pub EachOwed : List Branch → Type 0
@@ -56,6 +58,7 @@ infixr 15 _next_
 abbrev _next_ : {A B : Type 1} → A → B → A × B
 a next b = (a, b)
 
+-- made by tools/generate: readers
 abbrev pub readers : Readers kinds
 readers =
     by viewBool bool-told
@@ -107,6 +110,8 @@ readers =
     next by viewSymlinkdata3 symlinkdata3-told
     next tt
 
+-- end of readers
+
 abbrev pub EachOne : (l : List Branch) → Readers l → Type 0
 EachOne [] r = Unit {0}
 EachOne (b ∷ l) r =
@@ -129,6 +134,7 @@ infixr 15 _also_
 _also_ : {A B : Type 0} → A → B → A × B
 a also b = (a, b)
 
+-- made by tools/generate: every-within
 every-within : EachWithin kinds
 every-within =
     weaken (omega arith) flag-within
@@ -179,6 +185,8 @@ every-within =
     also weaken (omega arith) diropargs-within
     also weaken (omega arith) symlinkdata-within
     also tt
+
+-- end of every-within
 
 abbrev pub EachShort : List Branch → Type 0
 EachShort [] = Unit {0}

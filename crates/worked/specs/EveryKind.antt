@@ -11,20 +11,22 @@ use lib.ListN.{length}
 use borrow.Author.Tests.{leb-true, ltb-true, eq-eqb}
 use Rattle.xdr.specs.Meaning.Bytes.{Bytes}
 use Rattle.xdr.specs.Meaning.Answer.{Answer, took, refused, Taken, most, opened, Written}
-use Rattle.xdr.specs.Meaning.Items.{number, word, word-pair, hyper-pair, hyper, flag, int, long, eight, opaque, words}
 use Rattle.xdr.specs.Meaning.Format.{Format, Branch}
-use Rattle.xdr.specs.Meaning.Formats.{eightHeld, pieceHeld, wordsHeld}
 use Rattle.xdr.specs.Meaning.Pieces.{partOf, wordsPartOf}
 use Rattle.xdr.specs.Meaning.Public.{Took, output}
 use Rattle.xdr.specs.Laws.Public.{kept}
-use Rattle.rpc.specs.Meaning.Closed.{msg-type, reply-stat, accept-stat, reject-stat, auth-stat, auth-flavor}
-use Rattle.rpc.specs.Meaning.Auth.{auth-unix, opaque-auth}
-use Rattle.rpc.specs.Meaning.Message.{rpc-msg, rpc-body, call-body}
-use Rattle.rpc.specs.Meaning.Reply.{reply-body, accepted-reply, accept-body, rejected-reply, mismatch-info}
+-- made by tools/generate: meanings
+use Rattle.xdr.specs.Meaning.Items.{number, word, hyper, word-pair, hyper-pair, flag, int, long, eight, opaque, words}
+use Rattle.xdr.specs.Meaning.Formats.{eightHeld, pieceHeld, wordsHeld}
+use Rattle.rpc.specs.Meaning.Closed.{msg-type, reply-stat, accept-stat, reject-stat, auth-flavor, auth-stat}
+use Rattle.rpc.specs.Meaning.Auth.{opaque-auth, auth-unix}
+use Rattle.rpc.specs.Meaning.Message.{call-body, rpc-body, rpc-msg}
+use Rattle.rpc.specs.Meaning.Reply.{mismatch-info, accept-body, accepted-reply, rejected-reply, reply-body}
 use Rattle.nfsattr.specs.Meaning.Stat.{nfsstat}
-use Rattle.nfsattr.specs.Meaning.Attr.{ftype, specdata, nfstime, ids, sizes, times, fattr, transfer, limits, fsinfo, wcc-attr, pre-op-attr, post-op-attr, wcc-data}
+use Rattle.nfsattr.specs.Meaning.Attr.{ftype, specdata, nfstime, ids, sizes, times, fattr, wcc-attr, pre-op-attr, post-op-attr, wcc-data, transfer, limits, fsinfo}
 use Rattle.nfs.specs.Meaning.Set.{time-how, set-mode, set-uid, set-gid, set-size, set-time, set-atime, set-mtime, sattr}
 use Rattle.nfs.specs.Meaning.Dir.{nfs-fh, post-op-fh, diropargs, symlinkdata}
+-- end of meanings
 use Rattle.door.specs.Meaning.Kinds.{kinds}
 use Rattle.worked.specs.Idle.{Sample, Reads, Refuses, refuses-all, one-for-all, Puts, idles}
 
@@ -108,10 +110,13 @@ module _ {M S : Type 0} (F : Format M S) where
       → same (tell F (again 1 1) (look (again 1 1))) (tell F (again 1 0) (look (again 1 0))) ≡ false → Different F
   by-zero = two (again 1 1) (again 1 0) (again-bytes 1 1 (omega arith)) (again-bytes 1 0 (omega arith))
 
+-- made by tools/generate: every-kind
 pub every-kind : Each kinds
-unfolding opened number word word-pair hyper-pair hyper flag int long eight opaque words eightHeld pieceHeld wordsHeld partOf wordsPartOf msg-type reply-stat accept-stat reject-stat auth-stat auth-flavor auth-unix opaque-auth rpc-msg rpc-body call-body reply-body accepted-reply accept-body rejected-reply mismatch-info nfsstat ftype specdata nfstime ids sizes times fattr transfer limits fsinfo wcc-attr pre-op-attr post-op-attr wcc-data time-how set-mode set-uid set-gid set-size set-time set-atime set-mtime sattr nfs-fh post-op-fh diropargs symlinkdata
+unfolding opened partOf wordsPartOf number word hyper word-pair hyper-pair flag int long eight opaque words eightHeld pieceHeld wordsHeld msg-type reply-stat accept-stat reject-stat auth-flavor auth-stat time-how set-mode set-uid set-gid set-size set-time set-atime set-mtime sattr nfsstat ftype specdata nfstime ids sizes times fattr wcc-attr pre-op-attr post-op-attr wcc-data transfer limits fsinfo opaque-auth auth-unix call-body rpc-body rpc-msg mismatch-info accept-body accepted-reply rejected-reply reply-body nfs-fh post-op-fh diropargs symlinkdata
 every-kind =
     (by-zero _ refl refl refl, (by-two _ refl refl refl, (by-two _ refl refl refl, (by-two _ refl refl refl, (by-two _ refl refl refl, (by-two _ refl refl refl, (by-two _ refl refl refl, (by-two _ refl refl refl, (by-two _ refl refl refl, (by-zero _ refl refl refl, (by-zero _ refl refl refl, (by-two _ refl refl refl, (by-zero _ refl refl refl, (by-two _ refl refl refl, (by-two _ refl refl refl, (by-two _ refl refl refl, (by-two _ refl refl refl, (by-two _ refl refl refl, (by-two _ refl refl refl, (by-two _ refl refl refl, (by-two _ refl refl refl, (by-two _ refl refl refl, (by-two _ refl refl refl, (by-two _ refl refl refl, (by-two _ refl refl refl, (by-two _ refl refl refl, (by-two _ refl refl refl, (by-two _ refl refl refl, (by-two _ refl refl refl, (by-two _ refl refl refl, (by-two _ refl refl refl, (by-two _ refl refl refl, (by-two _ refl refl refl, (by-two _ refl refl refl, (by-two _ refl refl refl, (by-two _ refl refl refl, (by-two _ refl refl refl, (by-two _ refl refl refl, (by-two _ refl refl refl, (by-two _ refl refl refl, (by-two _ refl refl refl, (by-two _ refl refl refl, (by-two _ refl refl refl, (by-two _ refl refl refl, (by-two _ refl refl refl, (by-two _ refl refl refl, (by-two _ refl refl refl, tt)))))))))))))))))))))))))))))))))))))))))))))))
+
+-- end of every-kind
 
 -- So no function that keeps the contract of a reader of one of them refuses all, or gives one message for all; and none that keeps the
 -- contract of a writer writes nothing.

@@ -30,6 +30,7 @@ macro_rules! kinds {
 }
 
 // In the order of kinds.txt, which numbers them; tools/kinds holds this list to it.
+// made by tools/generate: kinds
 kinds! {
     Bool "bool",
     I32 "i32",
@@ -79,6 +80,7 @@ kinds! {
     Diropargs3 "diropargs3",
     Symlinkdata3 "symlinkdata3",
 }
+// end of kinds
 
 impl Kind {
     /// The number that C programs have for it.

@@ -3,8 +3,9 @@
 use mathlib.Core.Path.{_≡_}
 use mathlib.Core.List.{List, [], _∷_, _++_}
 use Prim.Native.Nat.{ℕ, zero, suc}
-use Rattle.xdr.specs.Meaning.Items.{word, hyper, flag, int, long}
 use Rattle.xdr.specs.Meaning.Format.{Branch, branch, exactly}
+-- made by tools/generate: meanings
+use Rattle.xdr.specs.Meaning.Items.{flag, int, long, word, hyper}
 use Rattle.xdr.specs.Meaning.Formats.{eightBytes, bytes, wordList}
 use Rattle.rpc.specs.Meaning.Closed.{msg-type, reply-stat, accept-stat, reject-stat, auth-stat, auth-flavor}
 use Rattle.rpc.specs.Meaning.Auth.{auth-unix, opaque-auth}
@@ -14,8 +15,10 @@ use Rattle.nfsattr.specs.Meaning.Stat.{nfsstat}
 use Rattle.nfsattr.specs.Meaning.Attr.{ftype, specdata, nfstime, fattr, fsinfo, wcc-attr, pre-op-attr, post-op-attr, wcc-data}
 use Rattle.nfs.specs.Meaning.Set.{time-how, set-mode, set-uid, set-gid, set-size, set-atime, set-mtime, sattr}
 use Rattle.nfs.specs.Meaning.Dir.{nfs-fh, post-op-fh, diropargs, symlinkdata}
+-- end of meanings
 use Rattle.door.specs.Meaning.Copy.{Copy, unknown, Copies}
 
+-- made by tools/generate: lists
 -- the items
 abbrev pub itemKinds : List Branch
 itemKinds =
@@ -90,6 +93,8 @@ changeKinds =
 
 abbrev pub kinds : List Branch
 kinds = itemKinds ++ closedKinds ++ messageKinds ++ attributeKinds ++ changeKinds
+
+-- end of lists
 
 -- the message of the k-th kind of a list, copied; past the list's end the kind is unknown
 abbrev pub CopiesOf : List Branch → ℕ → List ℕ → ℕ → ℕ → List ℕ → Copy → List ℕ → Type 0

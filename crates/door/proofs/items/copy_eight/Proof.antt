@@ -1,3 +1,4 @@
+-- made by tools/generate from kinds.txt
 use borrow.Author.Needs.{needs}
 use Rattle.xdr.specs.Meaning.Formats.{eightBytes}
 use Rattle.xdr.specs.Meaning.Views.{viewU64}

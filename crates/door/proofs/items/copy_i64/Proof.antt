@@ -1,3 +1,4 @@
+-- made by tools/generate from kinds.txt
 use borrow.Author.Needs.{needs}
 use mir.ValLaws.{toZ-ofZ}
 use Rattle.xdr.specs.Meaning.Items.{long}

@@ -1,3 +1,4 @@
+-- made by tools/generate from kinds.txt
 use borrow.Author.Needs.{needs}
 use Rattle.door.specs.Laws.Copy.{of-kind, no-kind}
 use Rattle.door.proofs.kinds.copy_change.Statement.{statement}

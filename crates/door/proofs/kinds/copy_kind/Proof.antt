@@ -1,3 +1,4 @@
+-- made by tools/generate from kinds.txt
 use borrow.Author.Needs.{needs}
 use native.Mathlib.Omega.{arith}
 use mathlib.Core.Path.{refl}

@@ -1,0 +1,393 @@
+"""The lists of kinds: the copiers of the crate door and their proofs, and a region of each other file that lists the kinds.
+
+Not made here: the oracle's lists, which must not come from the same hand as what they judge, and what the oracle makes.
+"""
+
+import re
+
+from generator.crates import Crates
+from generator.table import Trouble, read_table
+
+HEADER = "made by tools/generate from kinds.txt"
+
+# The files of copiers: a name, what the first comment says, and the crates whose kinds they have.
+COPIERS = (
+    ("items", "Each item, copied.", ("xdr",)),
+    ("messages", "Each kind of RFC 5531, copied.", ("rpc",)),
+    ("files", "Each kind of RFC 1813, copied.", ("nfsattr", "nfs")),
+)
+
+# The kinds that take no word 00000002, so that their second message is of zeros: bool, and the closed enumerations without a 2.
+BY_ZERO = ("bool", "msg_type", "reply_stat", "reject_stat")
+
+# What else a reading unfolds, besides what the modules of the meanings declare.
+UNFOLDED = ("opened", "partOf", "wordsPartOf")
+
+# What the C header says of a kind, with the blanks before it.
+NOTES = {
+    "eight": "  /* eight bytes without a length: [u8; 8] */",
+    "opaque": " /* Vec<u8> */",
+    "words": " /* a counted list of words: Vec<u32> */",
+}
+
+EXACTLY = "Rattle.xdr.specs.Meaning.Format.{exactly}"
+
+# No rewriting is longer than the larger of this and the bytes read (`every-length`).
+LONGEST = 40
+
+
+def outputs(root):
+    """What is made: (path, text) of a whole file, (path, name, text) of a region."""
+    kinds, groups = read_table(root)
+    crates = Crates(root)
+    facts = [crates.facts(kind) for kind in kinds]
+    order = list(crates.uses)
+    copiers = copied_by(kinds)
+    made = []
+    for file, comment, of in COPIERS:
+        own = [fact for fact in facts if fact.kind.crate in of and copiers[fact.kind.name] == fact.kind.name]
+        made.append((f"crates/door/src/{file}.rt", copier_file(comment, own, order)))
+        made += [(f"crates/door/proofs/{file}/copy_{fact.kind.name}/Proof.antt", copier_proof(file, fact)) for fact in own]
+    made.append(("crates/door/src/lib.rt", "copiers", modules()))
+    made.append(("crates/door/src/kinds.rt", kinds_file(kinds, groups, copiers)))
+    made += [(f"crates/door/proofs/kinds/{group.function}/Proof.antt", group_proof(group)) for group in groups]
+    made.append(("crates/door/proofs/kinds/copy_kind/Proof.antt", chooser_proof(groups)))
+    made += door_meanings(facts, groups, order)
+    made += worked_answers(facts, order)
+    made += worked_kinds(facts, order)
+    made.append(("include/yugerzat.h", "kinds", header_list(kinds)))
+    made.append(("rust/yugerzat/src/kind.rs", "kinds", rust_list(kinds)))
+    made.append(("crates/answers/src/kinds.rt", "kinds", words_list(kinds)))
+    return made
+
+
+# ---------------------------------------------------------------- names and imports
+
+
+def copied_by(kinds):
+    """The kind whose copier each kind has: the first of the same meaning."""
+    first = {}
+    return {kind.name: first.setdefault(kind.format, kind.name) for kind in kinds}
+
+
+def file_of(kind):
+    for file, _, of in COPIERS:
+        if kind.crate in of:
+            return file
+    raise Trouble(f"tools/generator/lists.py: COPIERS has no file for the kinds of the crate {kind.crate}")
+
+
+def with_dashes(name):
+    return name.replace("_", "-")
+
+
+def camel_case(name):
+    return "".join(part[:1].upper() + part[1:] for part in name.split("_"))
+
+
+def sorted_paths(paths):
+    """In the order of `rt fmt`: _ before digits before letters, and numbers by their size."""
+
+    def part_key(part):
+        signs = re.findall(r"\d+|\D", part)
+        return [(0, 0) if sign == "_" else (1, int(sign)) if sign.isdigit() else (2, ord(sign)) for sign in signs]
+
+    return sorted(paths, key=lambda path: [part_key(part) for part in path.split("::")])
+
+
+def uses(names, order):
+    """MODULE.{NAME, ..} for each module of the names: crate by crate, and else as they come first."""
+    modules = {}
+    for name in names:
+        found = modules.setdefault((order.index(name.crate), name.module), [])
+        if name.name not in found:
+            found.append(name.name)
+    in_order = sorted(modules.items(), key=lambda item: item[0][0])
+    return [f"{module}.{{{', '.join(found)}}}" for (_, module), found in in_order]
+
+
+def lines(*parts):
+    return "".join(f"{line}\n" for line in parts)
+
+
+def definition(*parts):
+    """Lines of a region of .antt. `rt fmt` wants an empty line between a definition and the comment that ends the region."""
+    return lines(*parts, "")
+
+
+# ---------------------------------------------------------------- the copiers
+
+
+def copier_file(comment, facts, order):
+    ghosts = [EXACTLY] if any(fact.kind.exact for fact in facts) else []
+    ghosts += uses([fact.meaning for fact in facts], order)
+    ghosts.append("Rattle.door.specs.Meaning.Copy.{viewCopied, Copies}")
+    items = ["crate::copy::Copied", "crate::copy::copied_to"] + [f"{fact.answer_crate}::{fact.answer}" for fact in facts]
+    return lines(
+        f"// {HEADER}",
+        f"// {comment}",
+        *(f"ghost use {ghost};" for ghost in ghosts),
+        *(f"use {item};" for item in sorted_paths(set(items))),
+    ) + "".join("\n" + copier(fact) for fact in facts)
+
+
+def copier(fact):
+    name = fact.kind.name
+    return lines(
+        *signature(f"pub(crate) fn copy_{name}"),
+        f"    ensures {{ λ r. ⌜ Copies {fact.kind.format} (now (src .entry)) at start (now (out .entry)) (viewCopied r)"
+        " (now (out .exit)) ⌝ }",
+        "{",
+        f"    match {fact.called}::read_{name}(src, at) {{",
+        f"        {fact.answer}::Refused(r) => Copied::Unread(r),",
+        *took(fact),
+        "    }",
+        "}",
+    )
+
+
+def signature(head):
+    parameters = ("src: &[u8]", "at: usize", "out: &mut [u8]", "start: usize")
+    line = f"{head}({', '.join(parameters)}) -> Copied"
+    if len(line) <= 100:
+        return [line]
+    return [f"{head}(", *(f"    {parameter}," for parameter in parameters), ") -> Copied"]
+
+
+def took(fact):
+    """The arm of a reading that was taken. `rt fmt` breaks a line over 100 signs, and a call with over 60 of arguments."""
+    write = f"{fact.called}::write_{fact.kind.name}({'src, ' if fact.source else ''}v, out, start)"
+    if fact.plain:
+        front = [f"        {fact.answer}::Took {{", "            value: v,", "            next: n,", "            plain: p,"]
+        head, arguments = "        } => copied_to(", ("n", "p", write)
+    else:
+        front = []
+        head, arguments = f"        {fact.answer}::Took {{ value: v, next: n }} => copied_to(", ("n", "true", write)
+    joined = ", ".join(arguments)
+    if len(joined) <= 60 and len(f"{head}{joined}),") <= 100:
+        return [*front, f"{head}{joined}),"]
+    return [*front, head, *(f"            {argument}," for argument in arguments), "        ),"]
+
+
+def copier_proof(file, fact):
+    """The proof of a copier: what was not read, and what was, by the law for formats of its sort."""
+    kind, view = fact.kind, fact.view.name
+    signed = kind.exact and fact.meaning.type == "Codec ℤ"
+    if signed:
+        law, facts_used = "signed-read", f"(signed-read {kind.meaning} {view} Took, toZ-ofZ, needs)"
+    elif kind.exact:
+        law, facts_used = "plain-read", f"(plain-read {kind.meaning} {view})"
+    elif kind.meaning == "eightBytes":
+        law, facts_used = "eight-read", "eight-read"
+    else:
+        law, facts_used = "was-read", f"(was-read {kind.meaning} {view})"
+    needs = " ".join(["(search needs)"] * 5)
+    imports = ["borrow.Author.Needs.{needs}"]
+    imports += ["mir.ValLaws.{toZ-ofZ}"] if signed else []
+    imports.append(f"{fact.meaning.module}.{{{kind.meaning}}}")
+    imports += [EXACTLY] if kind.exact else []
+    imports.append(f"{fact.view.module}.{{{view}}}")
+    imports += [f"{fact.answer_module}.the-variants.{{Took}}"] if signed else []
+    imports.append(f"Rattle.door.specs.Laws.Copy.{{not-read, {law}}}")
+    return proof(
+        file,
+        f"copy_{kind.name}",
+        imports,
+        [f"tie.close (tie.spec {needs} (λ c. search (not-read {kind.format} {view})) (search needs) (λ c. search {facts_used}))"],
+    )
+
+
+def proof(file, function, imports, term, laws=()):
+    """A proof file: its imports, its laws, and the term of its statement, which stands in one line or below its name."""
+    module = f"Rattle.door.proofs.{file}.{function}"
+    spec = f"{with_dashes(function)}-spec"
+    return lines(
+        f"-- {HEADER}",
+        *(f"use {name}" for name in imports),
+        f"use {module}.Statement.{{statement}}",
+        f"use {module}.Tie as tie",
+        "",
+        *laws,
+        f"pub {spec} : {{M : Type 1}} → statement M",
+        *([f"{spec} = {term[0]}"] if len(term) == 1 else [f"{spec} =", *(f"    {line}" for line in term)]),
+    )
+
+
+def modules():
+    return lines(*(f"mod {name};" for name in sorted_paths([file for file, _, _ in COPIERS] + ["kinds"])))
+
+
+# ---------------------------------------------------------------- the kinds by their numbers
+
+
+def kinds_file(kinds, groups, copiers):
+    lists = ", ".join(group.list for group in groups)
+    by_name = {kind.name: kind for kind in kinds}
+    called = {f"crate::{file_of(by_name[name])}::copy_{name}" for name in copiers.values()}
+    return lines(
+        f"// {HEADER}",
+        "// A message of a kind that is named by its number.",
+        "ghost use Rattle.door.specs.Meaning.Copy.{viewCopied};",
+        f"ghost use Rattle.door.specs.Meaning.Kinds.{{{lists}, kinds, CopiesOf, CopiesIn}};",
+        *(f"use {item};" for item in sorted_paths({"crate::copy::Copied", *called})),
+        *(line for group in groups for line in group_function(group, copiers)),
+        "",
+        *chooser(groups),
+    )
+
+
+def group_function(group, copiers):
+    arms = [f"        {at} => copy_{copiers[kind.name]}(src, at, out, start)," for at, kind in enumerate(group.kinds)]
+    return [
+        "",
+        f"// {group.comment[:1].upper()}{group.comment[1:]}.",
+        f"fn {group.function}(kind: u32, src: &[u8], at: usize, out: &mut [u8], start: usize) -> Copied",
+        f"    ensures {{ λ r. ⌜ CopiesIn {group.list} kind (now (src .entry)) at start (now (out .entry)) (viewCopied r)"
+        " (now (out .exit)) ⌝ }",
+        "{",
+        "    match kind {",
+        *arms,
+        "        _ => Copied::Unknown,",
+        "    }",
+        "}",
+    ]
+
+
+def chooser(groups):
+    body = []
+    for group, following in zip(groups, groups[1:]):
+        body += [f"    if kind < {following.first} {{", f"        return {group_call(group)};", "    }"]
+    return [
+        "// Reads a message of the kind from a place of one buffer and writes it, in published form, from a place of another.",
+        "pub fn copy_kind(kind: u32, src: &[u8], at: usize, out: &mut [u8], start: usize) -> Copied",
+        "    ensures { λ r. ⌜ CopiesOf kinds kind (now (src .entry)) at start (now (out .entry)) (viewCopied r)"
+        " (now (out .exit)) ⌝ }",
+        "{",
+        *body,
+        f"    {group_call(groups[-1])}",
+        "}",
+    ]
+
+
+def group_call(group):
+    kind = f"kind - {group.first}" if group.first else "kind"
+    return f"{group.function}({kind}, src, at, out, start)"
+
+
+def group_proof(group):
+    """A test for each arm, and the kind of each arm that is entered."""
+    count = len(group.kinds)
+    tests = " ".join(["(search needs)"] * (count + 1))
+    arms = " (search needs) ".join(["(λ c. search of-kind)"] * count)
+    imports = ["borrow.Author.Needs.{needs}", "Rattle.door.specs.Laws.Copy.{of-kind, no-kind}"]
+    return proof("kinds", group.function, imports, [f"tie.close (tie.spec {tests} {arms} (λ c. search no-kind))"])
+
+
+def chooser_proof(groups):
+    """What copy_kind returns is the kind of the joined list: a law for the first group, for each amid, and for the last."""
+    lists = [group.list for group in groups]
+    laws, returns = [], []
+    for at, group in enumerate(groups):
+        name = "returns" if at == 0 else f"returns-{at + 1}"
+        before, behind = joined(lists[:at]), joined(lists[at + 1 :])
+        given = f"(c .before .before .{with_dashes(group.function)} .ensures)"
+        if at == 0:
+            law = f"kind-first {group.list} {behind} {given} (omega arith)"
+        elif at + 1 < len(groups):
+            law = f"kind-amid {before} {group.list} _ {group.first} {behind} {given} (omega arith) (omega arith) refl"
+        else:
+            law = f"kind-last {before} {group.list} _ {group.first} {given} (omega arith) refl"
+        laws += [f"{name} : tie.Need-{name}", f"{name} c = {law}", ""]
+        returns.append(name)
+    imports = [
+        "borrow.Author.Needs.{needs}",
+        "native.Mathlib.Omega.{arith}",
+        "mathlib.Core.Path.{refl}",
+        "mathlib.Core.List.{_++_}",
+        f"Rattle.door.specs.Meaning.Kinds.{{{', '.join(lists)}}}",
+        "Rattle.door.specs.Laws.Copy.{kind-first, kind-amid, kind-last}",
+    ]
+    needs = " ".join(f"(search needs) (search needs) {name}" for name in returns)
+    return proof("kinds", "copy_kind", imports, ["tie.close", "(tie.spec", f"{needs})"], laws)
+
+
+def joined(lists):
+    """Lists behind one another, as an argument."""
+    return lists[0] if len(lists) == 1 else f"({' ++ '.join(lists)})"
+
+
+def door_meanings(facts, groups, order):
+    path = "crates/door/specs/Meaning/Kinds.antt"
+    text = "".join(group_list(group) for group in groups)
+    text += definition("abbrev pub kinds : List Branch", f"kinds = {' ++ '.join(group.list for group in groups)}")
+    return [
+        (path, "meanings", lines(*(f"use {use}" for use in uses([fact.meaning for fact in facts], order)))),
+        (path, "lists", text),
+    ]
+
+
+def group_list(group):
+    entries = [f"branch {kind.format}" for kind in group.kinds] + ["[]"]
+    return definition(
+        f"-- {group.comment}",
+        f"abbrev pub {group.list} : List Branch",
+        f"{group.list} =",
+        *chain("∷", entries),
+    )
+
+
+def chain(sign, entries):
+    """Entries below one another, each but the first behind a sign."""
+    return [f"    {entries[0]}", *(f"    {sign} {entry}" for entry in entries[1:])]
+
+
+# ---------------------------------------------------------------- the laws of every kind
+
+
+def worked_answers(facts, order):
+    path = "crates/worked/specs/EveryAnswer.antt"
+    views = uses([fact.view for fact in facts], order)
+    told = uses([fact.told for fact in facts], order)
+    within = uses([fact.within for fact in facts], order)
+    readers = [f"by {fact.view.name} {fact.told.name}" for fact in facts] + ["tt"]
+    lengths = [fact.within.name if fact.bound == LONGEST else f"weaken (omega arith) {fact.within.name}" for fact in facts]
+    return [
+        (path, "uses", lines(*(f"use {use}" for use in views + told + within))),
+        (path, "readers", definition("abbrev pub readers : Readers kinds", "readers =", *chain("next", readers))),
+        (path, "every-within", definition("every-within : EachWithin kinds", "every-within =", *chain("also", lengths + ["tt"]))),
+    ]
+
+
+def worked_kinds(facts, order):
+    path = "crates/worked/specs/EveryKind.antt"
+    unfoldable = {name.name: name for fact in facts for name in fact.unfoldable}
+    entries = [f"({'by-zero' if fact.kind.name in BY_ZERO else 'by-two'} _ refl refl refl, " for fact in facts]
+    return [
+        (path, "meanings", lines(*(f"use {use}" for use in uses(unfoldable.values(), order)))),
+        (
+            path,
+            "every-kind",
+            definition(
+                "pub every-kind : Each kinds",
+                f"unfolding {' '.join([*UNFOLDED, *unfoldable])}",
+                "every-kind =",
+                f"    {''.join(entries)}tt{')' * len(entries)}",
+            ),
+        ),
+    ]
+
+
+# ---------------------------------------------------------------- the lists of names
+
+
+def header_list(kinds):
+    rows = [f"    YUGERZAT_{kind.name.upper()} = {kind.number},{NOTES.get(kind.name, '')}" for kind in kinds]
+    return lines(*rows, f"    YUGERZAT_KINDS = {len(kinds)} /* how many there are */")
+
+
+def rust_list(kinds):
+    return lines("kinds! {", *(f'    {camel_case(kind.name)} "{kind.name}",' for kind in kinds), "}")
+
+
+def words_list(kinds):
+    return lines(f'        b"{" ".join(kind.name for kind in kinds)}",')
