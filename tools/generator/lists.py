@@ -30,6 +30,9 @@ NOTES = {
     "words": " /* a counted list of words: Vec<u32> */",
 }
 
+# What every copier takes.
+PARAMETERS = ("src: &[u8]", "at: usize", "out: &mut [u8]", "start: usize")
+
 EXACTLY = "Rattle.xdr.specs.Meaning.Format.{exactly}"
 
 # No rewriting is longer than the larger of this and the bytes read (`every-length`).
@@ -134,7 +137,7 @@ def copier_file(comment, facts, order):
 def copier(fact):
     name = fact.kind.name
     return lines(
-        *signature(f"pub(crate) fn copy_{name}"),
+        *signature(f"pub(crate) fn copy_{name}", PARAMETERS),
         f"    ensures {{ λ r. ⌜ Copies {fact.kind.format} (now (src .entry)) at start (now (out .entry)) (viewCopied r)"
         " (now (out .exit)) ⌝ }",
         "{",
@@ -146,8 +149,7 @@ def copier(fact):
     )
 
 
-def signature(head):
-    parameters = ("src: &[u8]", "at: usize", "out: &mut [u8]", "start: usize")
+def signature(head, parameters):
     line = f"{head}({', '.join(parameters)}) -> Copied"
     if len(line) <= 100:
         return [line]
@@ -241,7 +243,7 @@ def group_function(group, copiers):
     return [
         "",
         f"// {group.comment[:1].upper()}{group.comment[1:]}.",
-        f"fn {group.function}(kind: u32, src: &[u8], at: usize, out: &mut [u8], start: usize) -> Copied",
+        *signature(f"fn {group.function}", ("kind: u32", *PARAMETERS)),
         f"    ensures {{ λ r. ⌜ CopiesIn {group.list} kind (now (src .entry)) at start (now (out .entry)) (viewCopied r)"
         " (now (out .exit)) ⌝ }",
         "{",
@@ -259,7 +261,7 @@ def chooser(groups):
         body += [f"    if kind < {following.first} {{", f"        return {group_call(group)};", "    }"]
     return [
         "// Reads a message of the kind from a place of one buffer and writes it, in published form, from a place of another.",
-        "pub fn copy_kind(kind: u32, src: &[u8], at: usize, out: &mut [u8], start: usize) -> Copied",
+        *signature("pub fn copy_kind", ("kind: u32", *PARAMETERS)),
         "    ensures { λ r. ⌜ CopiesOf kinds kind (now (src .entry)) at start (now (out .entry)) (viewCopied r)"
         " (now (out .exit)) ⌝ }",
         "{",

@@ -29,7 +29,7 @@ macro_rules! kinds {
     };
 }
 
-// In the order of kinds.txt, which numbers them; tools/kinds holds this list to it.
+// In the order of kinds.txt, which numbers them.
 // made by tools/generate: kinds
 kinds! {
     Bool "bool",
