@@ -171,19 +171,23 @@ def took(fact):
     return [*front, head, *(f"            {argument}," for argument in arguments), "        ),"]
 
 
+def reading_law(fact):
+    """The law that what was read and written is the copy, and what the proof is to search with."""
+    meaning, view = fact.kind.meaning, fact.view.name
+    if fact.kind.exact and fact.meaning.type == "Codec ℤ":
+        return "signed-read", f"(signed-read {meaning} {view} Took, toZ-ofZ, needs)"
+    if fact.kind.exact:
+        return "plain-read", f"(plain-read {meaning} {view})"
+    if meaning == "eightBytes":
+        return "eight-read", "eight-read"
+    return "was-read", f"(was-read {meaning} {view})"
+
+
 def copier_proof(file, fact):
-    """The proof of a copier: what was not read, and what was, by the law for formats of its sort."""
+    """What was refused, and what was taken, is as the contract says."""
     kind, view = fact.kind, fact.view.name
-    signed = kind.exact and fact.meaning.type == "Codec ℤ"
-    if signed:
-        law, facts_used = "signed-read", f"(signed-read {kind.meaning} {view} Took, toZ-ofZ, needs)"
-    elif kind.exact:
-        law, facts_used = "plain-read", f"(plain-read {kind.meaning} {view})"
-    elif kind.meaning == "eightBytes":
-        law, facts_used = "eight-read", "eight-read"
-    else:
-        law, facts_used = "was-read", f"(was-read {kind.meaning} {view})"
-    needs = " ".join(["(search needs)"] * 5)
+    law, given = reading_law(fact)
+    signed = law == "signed-read"
     imports = ["borrow.Author.Needs.{needs}"]
     imports += ["mir.ValLaws.{toZ-ofZ}"] if signed else []
     imports.append(f"{fact.meaning.module}.{{{kind.meaning}}}")
@@ -191,12 +195,10 @@ def copier_proof(file, fact):
     imports.append(f"{fact.view.module}.{{{view}}}")
     imports += [f"{fact.answer_module}.the-variants.{{Took}}"] if signed else []
     imports.append(f"Rattle.door.specs.Laws.Copy.{{not-read, {law}}}")
-    return proof(
-        file,
-        f"copy_{kind.name}",
-        imports,
-        [f"tie.close (tie.spec {needs} (λ c. search (not-read {kind.format} {view})) (search needs) (λ c. search {facts_used}))"],
-    )
+    needs = " ".join(["(search needs)"] * 5)
+    refused = f"(λ c. search (not-read {kind.format} {view}))"
+    term = f"tie.close (tie.spec {needs} {refused} (search needs) (λ c. search {given}))"
+    return proof(file, f"copy_{kind.name}", imports, [term])
 
 
 def proof(file, function, imports, term, laws=()):
