@@ -136,16 +136,19 @@ class Crates:
                 return other
         return crate
 
+    def measured(self, kind):
+        """What a law of the kind's lengths may be about. A format that has none has that of its codec."""
+        if kind.exact:
+            return [f"({kind.meaning} .kind)"]
+        codecs = [self.index(crate).codecs.get(kind.meaning) for crate in self.reached(kind.crate)]
+        return [f"({kind.meaning} .codec .kind)"] + [f"({codec} .kind)" for codec in codecs if codec]
+
     def length_law(self, kind):
-        """The law of a kind's lengths. A format without one has that of its codec."""
-        found = self.find(kind.crate, "within", f"({kind.meaning} .kind)" if kind.exact else f"({kind.meaning} .codec .kind)")
-        for crate in self.reached(kind.crate):
-            codec = self.index(crate).codecs.get(kind.meaning)
-            if not found and codec:
-                found = self.find(crate, "within", f"({codec} .kind)")
-        if not found:
-            raise Trouble(f"crates/{kind.crate}/specs: there is no law of lengths (`Within`) of {kind.meaning}")
-        return found
+        for measured in self.measured(kind):
+            found = self.find(kind.crate, "within", measured)
+            if found:
+                return found
+        raise Trouble(f"crates/{kind.crate}/specs: there is no law of lengths (`Within`) of {kind.meaning}")
 
     def facts(self, kind):
         crate = kind.crate

@@ -352,14 +352,18 @@ def worked_answers(facts, order):
     path = "crates/worked/specs/EveryAnswer.antt"
     views = uses([fact.view for fact in facts], order)
     told = uses([fact.told for fact in facts], order)
-    within = uses([fact.within for fact in facts], order)
+    bounds = uses([fact.within for fact in facts], order)
     readers = [f"by {fact.view.name} {fact.told.name}" for fact in facts] + ["tt"]
-    lengths = [fact.within.name if fact.bound == LONGEST else f"weaken (omega arith) {fact.within.name}" for fact in facts]
+    lengths = [within(fact) for fact in facts] + ["tt"]
     return [
-        (path, "uses", lines(*(f"use {use}" for use in views + told + within))),
+        (path, "uses", lines(*(f"use {use}" for use in views + told + bounds))),
         (path, "readers", definition("abbrev pub readers : Readers kinds", "readers =", *chain("next", readers))),
-        (path, "every-within", definition("every-within : EachWithin kinds", "every-within =", *chain("also", lengths + ["tt"]))),
+        (path, "every-within", definition("every-within : EachWithin kinds", "every-within =", *chain("also", lengths))),
     ]
+
+
+def within(fact):
+    return fact.within.name if fact.bound == LONGEST else f"weaken (omega arith) {fact.within.name}"
 
 
 def worked_kinds(facts, order):
