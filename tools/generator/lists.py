@@ -6,6 +6,7 @@ Not made here: the oracle's lists, which must not come from the same hand as wha
 import re
 
 from generator.crates import Crates
+from generator.language import read_topic
 from generator.table import Trouble, read_table
 
 HEADER = "made by tools/generate from kinds.txt"
@@ -17,8 +18,9 @@ COPIERS = (
     ("files", "Each kind of RFC 1813, copied.", ("nfsattr", "nfs")),
 )
 
-# The kinds that take no word 00000002, so that their second message is of zeros: bool, and the closed enumerations without a 2.
-BY_ZERO = ("bool", "msg_type", "reply_stat", "reject_stat")
+# The kinds that take no word 00000002, so that their second message is of zeros: bool, and the closed enumerations without a 2. Those of
+# the topics are found by themselves.
+BY_ZERO = {"bool", "msg_type", "reply_stat", "reject_stat"}
 
 # What else a reading unfolds, besides what the modules of the meanings declare.
 UNFOLDED = ("opened", "partOf", "wordsPartOf")
@@ -57,7 +59,7 @@ def outputs(root):
     made.append(("crates/door/proofs/kinds/copy_kind/Proof.antt", chooser_proof(groups)))
     made += door_meanings(facts, groups, order)
     made += worked_answers(facts, order)
-    made += worked_kinds(facts, order)
+    made += worked_kinds(facts, order, BY_ZERO | without_two(root))
     made.append(("include/yugerzat.h", "kinds", header_list(kinds)))
     made.append(("rust/yugerzat/src/kind.rs", "kinds", rust_list(kinds)))
     made.append(("crates/answers/src/kinds.rt", "kinds", words_list(kinds)))
@@ -366,10 +368,16 @@ def within(fact):
     return fact.within.name if fact.bound == LONGEST else f"weaken (omega arith) {fact.within.name}"
 
 
-def worked_kinds(facts, order):
+def without_two(root):
+    """The enumerations of the topics that do not declare 2."""
+    declared = [one for path in sorted(root.glob("crates/*/rfc/*.x")) for one in read_topic(root, path).declared]
+    return {one.name for one in declared if one.shape == "enum" and 2 not in dict(one.parts).values()}
+
+
+def worked_kinds(facts, order, by_zero):
     path = "crates/worked/specs/EveryKind.antt"
     unfoldable = {name.name: name for fact in facts for name in fact.unfoldable}
-    entries = [f"({'by-zero' if fact.kind.name in BY_ZERO else 'by-two'} _ refl refl refl, " for fact in facts]
+    entries = [f"({'by-zero' if fact.kind.name in by_zero else 'by-two'} _ refl refl refl, " for fact in facts]
     return [
         (path, "meanings", lines(*(f"use {use}" for use in uses(unfoldable.values(), order)))),
         (

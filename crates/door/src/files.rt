@@ -3,8 +3,9 @@
 ghost use Rattle.xdr.specs.Meaning.Format.{exactly};
 ghost use Rattle.nfsattr.specs.Meaning.Stat.{nfsstat};
 ghost use Rattle.nfsattr.specs.Meaning.Attr.{ftype, specdata, nfstime, fattr, fsinfo, wcc-attr, pre-op-attr, post-op-attr, wcc-data};
-ghost use Rattle.nfs.specs.Meaning.Set.{time-how, set-mode, set-uid, set-gid, set-size, set-atime, set-mtime, sattr};
+ghost use Rattle.nfs.specs.Meaning.Set.{time-how, set-atime, set-mtime, sattr};
 ghost use Rattle.nfs.specs.Meaning.Dir.{nfs-fh, post-op-fh, diropargs, symlinkdata};
+ghost use Rattle.nfs.specs.Meaning.Change.{set-mode, set-uid, set-gid, set-size};
 ghost use Rattle.door.specs.Meaning.Copy.{viewCopied, Copies};
 use crate::copy::Copied;
 use crate::copy::copied_to;

@@ -6,7 +6,8 @@ ghost use mathlib.Core.List.{[], _∷_, _++_};
 ghost use Prim.Native.Nat.{_+_, _≤_};
 ghost use lib.ListN.{length, drop, replicate};
 ghost use Rattle.xdr.specs.Meaning.Refusal.{numberOf, placeOf};
-ghost use Rattle.nfs.specs.Meaning.Set.{modeFrom, uidFrom, gidFrom, sizeFrom, atimeFrom, mtimeFrom};
+ghost use Rattle.nfs.specs.Meaning.Change.{setModeFrom, setUidFrom, setGidFrom, setSizeFrom};
+ghost use Rattle.nfs.specs.Meaning.Set.{atimeFrom, mtimeFrom};
 ghost use Rattle.rpc.specs.declared.message.rpc_body.the-variants.{CALL, REPLY};
 ghost use Rattle.rpc.specs.declared.reply.reply_body.the-variants.{«MSG_ACCEPTED», «MSG_DENIED»};
 ghost use Rattle.door.specs.Meaning.Figures.{Shown, Shows};
@@ -397,7 +398,7 @@ struct Three {
 }
 
 fn mode_figures(m: set_mode3) -> Two
-    ensures { λ r. ⌜ (r .first ∷ r .second ∷ []) ≡ optionFigures (modeFrom m) ⌝ }
+    ensures { λ r. ⌜ (r .first ∷ r .second ∷ []) ≡ optionFigures (setModeFrom m) ⌝ }
 {
     match m {
         set_mode3::Void => Two {
@@ -412,7 +413,7 @@ fn mode_figures(m: set_mode3) -> Two
 }
 
 fn uid_figures(m: set_uid3) -> Two
-    ensures { λ r. ⌜ (r .first ∷ r .second ∷ []) ≡ optionFigures (uidFrom m) ⌝ }
+    ensures { λ r. ⌜ (r .first ∷ r .second ∷ []) ≡ optionFigures (setUidFrom m) ⌝ }
 {
     match m {
         set_uid3::Void => Two {
@@ -427,7 +428,7 @@ fn uid_figures(m: set_uid3) -> Two
 }
 
 fn gid_figures(m: set_gid3) -> Two
-    ensures { λ r. ⌜ (r .first ∷ r .second ∷ []) ≡ optionFigures (gidFrom m) ⌝ }
+    ensures { λ r. ⌜ (r .first ∷ r .second ∷ []) ≡ optionFigures (setGidFrom m) ⌝ }
 {
     match m {
         set_gid3::Void => Two {
@@ -442,7 +443,7 @@ fn gid_figures(m: set_gid3) -> Two
 }
 
 fn size_figures(m: set_size3) -> Two
-    ensures { λ r. ⌜ (r .first ∷ r .second ∷ []) ≡ optionFigures (sizeFrom m) ⌝ }
+    ensures { λ r. ⌜ (r .first ∷ r .second ∷ []) ≡ optionFigures (setSizeFrom m) ⌝ }
 {
     match m {
         set_size3::Void => Two {

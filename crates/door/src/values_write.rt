@@ -5,7 +5,8 @@ ghost use mathlib.Core.Path.{_≡_};
 ghost use Prim.Native.Nat.{_≤_};
 ghost use lib.ListN.{length};
 ghost use Rattle.xdr.specs.Meaning.Combinators.{among};
-ghost use Rattle.nfs.specs.Meaning.Set.{modeTo, uidTo, gidTo, sizeTo, atimeTo, mtimeTo};
+ghost use Rattle.nfs.specs.Meaning.Change.{setModeTo, setUidTo, setGidTo, setSizeTo};
+ghost use Rattle.nfs.specs.Meaning.Set.{atimeTo, mtimeTo};
 ghost use Rattle.rpc.specs.Meaning.Closed.{flavorNumber, flavors};
 ghost use Rattle.door.specs.Meaning.Copy.{Is};
 ghost use Rattle.door.specs.Meaning.Given.{low, areWords, fattr3Words, fattr3By, fattr3Given, viewGivenFattr3, WriteFattr3Called, WriteDiropargs3Called, optionFits, timeFits, sattr3Fits, optionOf, timeOf, sattr3By, WriteSattr3Called, foundFlavor, callWords, callBy, callGiven, viewGivenCall, WriteCallCalled};
@@ -195,7 +196,7 @@ fn sattr3_fits(fields: &[u64]) -> bool
 }
 
 fn mode_of(flag: u64, v: u64) -> set_mode3
-    ensures { λ r. ⌜ r ≡ modeTo (optionOf flag (low v)) ⌝ }
+    ensures { λ r. ⌜ r ≡ setModeTo (optionOf flag (low v)) ⌝ }
 {
     if flag == 0 {
         return set_mode3::Void;
@@ -204,7 +205,7 @@ fn mode_of(flag: u64, v: u64) -> set_mode3
 }
 
 fn uid_of(flag: u64, v: u64) -> set_uid3
-    ensures { λ r. ⌜ r ≡ uidTo (optionOf flag (low v)) ⌝ }
+    ensures { λ r. ⌜ r ≡ setUidTo (optionOf flag (low v)) ⌝ }
 {
     if flag == 0 {
         return set_uid3::Void;
@@ -213,7 +214,7 @@ fn uid_of(flag: u64, v: u64) -> set_uid3
 }
 
 fn gid_of(flag: u64, v: u64) -> set_gid3
-    ensures { λ r. ⌜ r ≡ gidTo (optionOf flag (low v)) ⌝ }
+    ensures { λ r. ⌜ r ≡ setGidTo (optionOf flag (low v)) ⌝ }
 {
     if flag == 0 {
         return set_gid3::Void;
@@ -222,7 +223,7 @@ fn gid_of(flag: u64, v: u64) -> set_gid3
 }
 
 fn size_of(flag: u64, v: u64) -> set_size3
-    ensures { λ r. ⌜ r ≡ sizeTo (optionOf flag v) ⌝ }
+    ensures { λ r. ⌜ r ≡ setSizeTo (optionOf flag v) ⌝ }
 {
     if flag == 0 {
         return set_size3::Void;

@@ -5,7 +5,10 @@ pub mod Plans
 pub mod Tags
 pub mod Write
 pub mod Bytes
-pub mod Pieces
 pub mod Lengths
 pub mod One
-pub mod Writers
+-- made by tools/generate: laws
+pub mod Change
+pub mod Dir
+
+-- end of laws

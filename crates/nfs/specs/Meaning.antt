@@ -2,5 +2,9 @@
 -- without the 3. Statuses and attributes stand in the crate nfsattr.
 pub mod Constants
 pub mod Set
-pub mod Dir
 pub mod Views
+-- made by tools/generate: meanings
+pub mod Change
+pub mod Dir
+
+-- end of meanings

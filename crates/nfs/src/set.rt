@@ -4,11 +4,11 @@ ghost use Rattle.nfs.specs.Meaning.Set.{howNumber, hows, time-how};
 ghost use Rattle.nfs.specs.Meaning.Views.{foundHow};
 ghost use Rattle.xdr.specs.Meaning.Combinators.{among};
 ghost use Rattle.xdr.specs.Meaning.Sizes.{OfSize};
-use nfsattr::attr::gid3;
-use nfsattr::attr::mode3;
+use crate::change::set_gid3;
+use crate::change::set_mode3;
+use crate::change::set_size3;
+use crate::change::set_uid3;
 use nfsattr::attr::nfstime3;
-use nfsattr::attr::size3;
-use nfsattr::attr::uid3;
 
 // The tag of `set_atime` and `set_mtime`.
 pub enum _time_how {
@@ -52,26 +52,6 @@ impl _time_how {
             _ => HowFound::None,
         }
     }
-}
-
-pub enum set_mode3 {
-    Void,
-    mode(mode3),
-}
-
-pub enum set_uid3 {
-    Void,
-    uid(uid3),
-}
-
-pub enum set_gid3 {
-    Void,
-    gid(gid3),
-}
-
-pub enum set_size3 {
-    Void,
-    size(size3),
 }
 
 pub enum set_atime {

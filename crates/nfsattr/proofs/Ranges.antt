@@ -5,8 +5,8 @@ use mathlib.Core.List.{List}
 use native.Mathlib.Omega.{arith}
 use mir.Val.{Val}
 use denote.Laws.{Is}
-use Rattle.xdr.specs.Laws.Ranges.{word-good, hyper-good, word-pair-good, hyper-pair-good, flag-good}
-use Rattle.nfsattr.specs.Meaning.Attr.{ftype, specdata, nfstime, ids, sizes, times, fattr, wcc-attr, pre-op-attr, post-op-attr, wcc-data, transfer, limits, fsinfo}
+use Rattle.xdr.specs.Laws.Ranges.{word-good, hyper-good, flag-good}
+use Rattle.nfsattr.specs.Meaning.Attr.{ftype, specdata, nfstime, fattr, wcc-attr, pre-op-attr, post-op-attr, wcc-data, fsinfo}
 use Rattle.nfsattr.specs.declared.attr.ftype3.{ftype3}
 use Rattle.nfsattr.specs.declared.attr.specdata3.{specdata3}
 use Rattle.nfsattr.specs.declared.attr.nfstime3.{nfstime3}
@@ -40,7 +40,7 @@ ftype-good NF3SOCK = word-good _ (omega arith)
 ftype-good NF3FIFO = word-good _ (omega arith)
 
 -- the numbers of the source, each in its range
-pub ruleset goods = (word-good, hyper-good, word-pair-good, hyper-pair-good, flag-good, ftype-good)
+pub ruleset goods = (word-good, hyper-good, flag-good, ftype-good)
 
 pub specdata-good : (m : specdata3) {vs : List Val} → Is specdata3·.the-row m vs → specdata .kind .Good m
 unfolding specdata
@@ -51,8 +51,8 @@ unfolding nfstime
 nfstime-good m p = search goods
 
 pub fattr-good : (m : fattr3) {vs : List Val} → Is fattr3·.the-row m vs → fattr .kind .Good m
-unfolding fattr ids sizes times
-fattr-good m p = search (goods, specdata-good, nfstime-good)
+unfolding fattr
+fattr-good m p = search (goods, specdata-good, nfstime-good) depth 20
 
 pub wcc-attr-good : (m : «wcc_attr») {vs : List Val} → Is wcc-attr·.the-row m vs → wcc-attr .kind .Good m
 unfolding wcc-attr
@@ -73,5 +73,5 @@ unfolding wcc-data
 wcc-data-good m p = search (pre-op-attr-good, post-op-attr-good)
 
 pub fsinfo-good : (m : fsinfo3) {vs : List Val} → Is fsinfo3·.the-row m vs → fsinfo .kind .Good m
-unfolding fsinfo transfer limits
-fsinfo-good m p = search (goods, nfstime-good, post-op-attr-good)
+unfolding fsinfo
+fsinfo-good m p = search (goods, nfstime-good, post-op-attr-good) depth 20

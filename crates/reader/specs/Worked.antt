@@ -15,11 +15,12 @@ use Rattle.rpc.specs.declared.auth.auth_flavor.the-variants.{«AUTH_NULL»}
 use Rattle.rpc.specs.declared.message.rpc_body.the-variants.{CALL}
 use Rattle.nfsattr.specs.Meaning.Attr.{nfstime}
 use Rattle.nfs.specs.Meaning.Dir.{nfs-fh, diropargs}
-use Rattle.nfs.specs.Meaning.Set.{set-mode, set-uid, set-gid, set-size, set-time, set-atime, set-mtime, sattr}
-use Rattle.nfs.specs.declared.set.set_mode3.the-variants as mode
-use Rattle.nfs.specs.declared.set.set_uid3.the-variants as uid
-use Rattle.nfs.specs.declared.set.set_gid3.the-variants as gid
-use Rattle.nfs.specs.declared.set.set_size3.the-variants as size
+use Rattle.nfs.specs.Meaning.Change.{set-mode, set-uid, set-gid, set-size}
+use Rattle.nfs.specs.Meaning.Set.{set-time, set-atime, set-mtime, sattr}
+use Rattle.nfs.specs.declared.change.set_mode3.the-variants as mode
+use Rattle.nfs.specs.declared.change.set_uid3.the-variants as uid
+use Rattle.nfs.specs.declared.change.set_gid3.the-variants as gid
+use Rattle.nfs.specs.declared.change.set_size3.the-variants as size
 use Rattle.nfs.specs.declared.set.set_atime.the-variants as atime
 use Rattle.nfs.specs.declared.set.set_mtime.the-variants as mtime
 use Rattle.reader.specs.Meaning.Call.{mkdir}

@@ -1,7 +1,8 @@
 // Where the reader stands after an answer.
 ghost use mathlib.Core.Path.{_≡_};
 ghost use Rattle.nfsattr.specs.Meaning.Views.{viewFattr3};
-ghost use Rattle.nfs.specs.Meaning.Views.{viewNfsFh3, viewDiropargs3, viewSattr3};
+ghost use Rattle.nfs.specs.Meaning.Dir.{viewNfsFh3, viewDiropargs3};
+ghost use Rattle.nfs.specs.Meaning.Views.{viewSattr3};
 ghost use Rattle.rpc.specs.Meaning.Views.{viewRpcMsg};
 ghost use Rattle.xdr.specs.Meaning.Views.{viewU32, viewU64, viewBool, viewPiece};
 ghost use Rattle.reader.specs.Meaning.Step.{onward};

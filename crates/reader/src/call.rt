@@ -1,7 +1,8 @@
 // A call read whole, by steps of a reader. Its own parameters are plain, so a caller of it needs no walk by hand.
 ghost use mathlib.Core.Path.{_≡_};
 ghost use Rattle.xdr.specs.Meaning.Public.{Answers};
-ghost use Rattle.nfs.specs.Meaning.Views.{viewDiropargs3, viewSattr3};
+ghost use Rattle.nfs.specs.Meaning.Dir.{viewDiropargs3};
+ghost use Rattle.nfs.specs.Meaning.Views.{viewSattr3};
 ghost use Rattle.rpc.specs.Meaning.Views.{viewRpcMsg};
 ghost use Rattle.reader.specs.Meaning.Step.{joined};
 ghost use Rattle.reader.specs.Meaning.Call.{mkdir, viewMkdir};

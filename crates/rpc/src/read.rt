@@ -40,6 +40,7 @@ use crate::inner::reply_body_at;
 use crate::inner::reply_stat_at;
 use crate::inner::rpc_body_at;
 use crate::inner::rpc_msg_at;
+use xdr::MOST;
 use xdr::Piece;
 use xdr::Refusal;
 use xdr::order::Opening;
@@ -125,7 +126,7 @@ pub fn read_auth_unix(src: &[u8], at: usize) -> AuthUnixRead
 pub fn read_auth_unix_in(src: &[u8], body: Piece) -> AuthUnixRead
     ensures { λ r. ⌜ AnswersIn (now (src .entry)) body (viewAuthUnix r) ⌝ }
 {
-    if 1048576 < src.len() {
+    if MOST < src.len() {
         return AuthUnixRead::Refused(Refusal::TooLong);
     }
     auth_unix_in(src, body)

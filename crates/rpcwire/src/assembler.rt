@@ -4,6 +4,7 @@ ghost use mathlib.Core.Path.{_≡_};
 ghost use Prim.Native.Nat.{_≤_, _^_, min};
 ghost use Rattle.rpcwire.specs.Meaning.Stream.{inHeader, inFragment, halted, fitsOf, flagsFit, settled, headerByte, freshOf, Feeds};
 ghost use Rattle.rpcwire.specs.Meaning.Views.{viewMade, viewFed};
+use xdr::MOST;
 use xdr::Refusal;
 
 // Where the assembler stands between two runs.
@@ -98,7 +99,7 @@ impl Assembler {
 pub fn fresh_assembler(capacity: usize) -> AssemblerMade
     ensures { λ r. ⌜ viewMade r ≡ freshOf capacity ⌝ }
 {
-    if 1048576 < capacity {
+    if MOST < capacity {
         return AssemblerMade::Refused(Refusal::TooLong);
     }
     AssemblerMade::Ready(Assembler::in_header(capacity, 0, 0, 0))
@@ -147,7 +148,7 @@ pub fn fits(s: Assembler, n: usize) -> bool
     if s.capacity != n {
         return false;
     }
-    if 1048576 < s.capacity {
+    if MOST < s.capacity {
         return false;
     }
     if s.capacity < s.placed {

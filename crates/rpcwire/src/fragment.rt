@@ -1,6 +1,7 @@
 // A record written as one fragment. (The crate's own comment: it could be split into many.)
 ghost use Rattle.rpcwire.specs.Meaning.Fragment.{WritesFragment};
 ghost use Rattle.xdr.specs.Meaning.Views.{viewWrote};
+use xdr::MOST;
 use xdr::Refusal;
 use xdr::Wrote;
 use xdr::inner::put_u32;
@@ -14,7 +15,7 @@ pub fn write_fragment(message: &[u8], out: &mut [u8], at: usize) -> Wrote
         return Wrote::Refused(Refusal::PastEnd);
     }
     let n = message.len();
-    if 1048576 < n {
+    if MOST < n {
         return Wrote::Refused(Refusal::TooLong);
     }
     if out.len() - at < 4 + n {

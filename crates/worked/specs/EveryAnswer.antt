@@ -17,15 +17,21 @@ use Rattle.xdr.specs.Laws.Owed.{Owed, owed}
 use Rattle.xdr.specs.Meaning.Views.{viewBool, viewI32, viewI64, viewU32, viewU64, viewPiece}
 use Rattle.rpc.specs.Meaning.Views.{viewMsgType, viewReplyStat, viewAcceptStat, viewRejectStat, viewAuthStat, viewAuthFlavor, viewAuthUnix, viewOpaqueAuth, viewRpcMsg, viewRpcBody, viewCallBody, viewReplyBody, viewAcceptedReply, viewAcceptBody, viewRejectedReply, viewMismatchInfo}
 use Rattle.nfsattr.specs.Meaning.Views.{viewNfsstat3, viewFtype3, viewSpecdata3, viewNfstime3, viewFattr3, viewFsinfo3, viewWccAttr, viewPreOpAttr, viewPostOpAttr, viewWccData}
-use Rattle.nfs.specs.Meaning.Views.{viewTimeHow, viewNfsFh3, viewPostOpFh3, viewSetMode3, viewSetUid3, viewSetGid3, viewSetSize3, viewSetAtime, viewSetMtime, viewSattr3, viewDiropargs3, viewSymlinkdata3}
+use Rattle.nfs.specs.Meaning.Views.{viewTimeHow, viewSetAtime, viewSetMtime, viewSattr3}
+use Rattle.nfs.specs.Meaning.Dir.{viewNfsFh3, viewPostOpFh3, viewDiropargs3, viewSymlinkdata3}
+use Rattle.nfs.specs.Meaning.Change.{viewSetMode3, viewSetUid3, viewSetGid3, viewSetSize3}
 use Rattle.xdr.specs.Laws.One.{bool-told, i32-told, i64-told, u32-told, u64-told, piece-told}
 use Rattle.rpc.specs.Laws.One.{msg-type-told, reply-stat-told, accept-stat-told, reject-stat-told, auth-stat-told, auth-flavor-told, auth-unix-told, opaque-auth-told, rpc-msg-told, rpc-body-told, call-body-told, reply-body-told, accepted-reply-told, accept-body-told, rejected-reply-told, mismatch-info-told}
 use Rattle.nfsattr.specs.Laws.One.{nfsstat3-told, ftype3-told, specdata3-told, nfstime3-told, fattr3-told, fsinfo3-told, wcc-attr-told, pre-op-attr-told, post-op-attr-told, wcc-data-told}
-use Rattle.nfs.specs.Laws.One.{time-how-told, nfs-fh3-told, post-op-fh3-told, set-mode3-told, set-uid3-told, set-gid3-told, set-size3-told, set-atime-told, set-mtime-told, sattr3-told, diropargs3-told, symlinkdata3-told}
+use Rattle.nfs.specs.Laws.One.{time-how-told, set-atime-told, set-mtime-told, sattr3-told}
+use Rattle.nfs.specs.Laws.Dir.{nfs-fh3-told, post-op-fh3-told, diropargs3-told, symlinkdata3-told}
+use Rattle.nfs.specs.Laws.Change.{set-mode3-told, set-uid3-told, set-gid3-told, set-size3-told}
 use Rattle.xdr.specs.Laws.Lengths.{flag-within, int-within, long-within, word-within, hyper-within, eight-within, opaque-within, words-within}
 use Rattle.rpc.specs.Laws.Lengths.{msg-type-within, reply-stat-within, accept-stat-within, reject-stat-within, auth-stat-within, auth-flavor-within, auth-unix-within, opaque-auth-within, rpc-msg-within, rpc-body-within, call-body-within, reply-body-within, accepted-reply-within, accept-body-within, rejected-reply-within, mismatch-info-within}
 use Rattle.nfsattr.specs.Laws.Lengths.{nfsstat-within, ftype-within, specdata-within, nfstime-within, fattr-within, fsinfo-within, wcc-attr-within, pre-op-attr-within, post-op-attr-within, wcc-data-within}
-use Rattle.nfs.specs.Laws.Lengths.{time-how-within, nfs-fh-within, post-op-fh-within, set-mode-within, set-uid-within, set-gid-within, set-size-within, set-atime-within, set-mtime-within, sattr-within, diropargs-within, symlinkdata-within}
+use Rattle.nfs.specs.Laws.Lengths.{time-how-within, set-atime-within, set-mtime-within, sattr-within}
+use Rattle.nfs.specs.Laws.Dir.{nfs-fh-within, post-op-fh-within, diropargs-within, symlinkdata-within}
+use Rattle.nfs.specs.Laws.Change.{set-mode-within, set-uid-within, set-gid-within, set-size-within}
 -- end of uses
 use Rattle.door.specs.Meaning.Kinds.{kinds}
 

@@ -23,9 +23,10 @@ use Rattle.rpc.specs.Meaning.Auth.{opaque-auth, auth-unix}
 use Rattle.rpc.specs.Meaning.Message.{call-body, rpc-body, rpc-msg}
 use Rattle.rpc.specs.Meaning.Reply.{mismatch-info, accept-body, accepted-reply, rejected-reply, reply-body}
 use Rattle.nfsattr.specs.Meaning.Stat.{nfsstat}
-use Rattle.nfsattr.specs.Meaning.Attr.{ftype, specdata, nfstime, ids, sizes, times, fattr, wcc-attr, pre-op-attr, post-op-attr, wcc-data, transfer, limits, fsinfo}
-use Rattle.nfs.specs.Meaning.Set.{time-how, set-mode, set-uid, set-gid, set-size, set-time, set-atime, set-mtime, sattr}
+use Rattle.nfsattr.specs.Meaning.Attr.{ftype, specdata, nfstime, fattr, wcc-attr, pre-op-attr, post-op-attr, wcc-data, fsinfo}
+use Rattle.nfs.specs.Meaning.Set.{time-how, set-time, set-atime, set-mtime, sattr}
 use Rattle.nfs.specs.Meaning.Dir.{nfs-fh, post-op-fh, diropargs, symlinkdata}
+use Rattle.nfs.specs.Meaning.Change.{set-mode, set-uid, set-gid, set-size}
 -- end of meanings
 use Rattle.door.specs.Meaning.Kinds.{kinds}
 use Rattle.worked.specs.Idle.{Sample, Reads, Refuses, refuses-all, one-for-all, Puts, idles}
@@ -112,7 +113,7 @@ module _ {M S : Type 0} (F : Format M S) where
 
 -- made by tools/generate: every-kind
 pub every-kind : Each kinds
-unfolding opened partOf wordsPartOf number word hyper word-pair hyper-pair flag int long eight opaque words eightHeld pieceHeld wordsHeld msg-type reply-stat accept-stat reject-stat auth-flavor auth-stat time-how set-mode set-uid set-gid set-size set-time set-atime set-mtime sattr nfsstat ftype specdata nfstime ids sizes times fattr wcc-attr pre-op-attr post-op-attr wcc-data transfer limits fsinfo opaque-auth auth-unix call-body rpc-body rpc-msg mismatch-info accept-body accepted-reply rejected-reply reply-body nfs-fh post-op-fh diropargs symlinkdata
+unfolding opened partOf wordsPartOf number word hyper word-pair hyper-pair flag int long eight opaque words eightHeld pieceHeld wordsHeld msg-type reply-stat accept-stat reject-stat auth-flavor auth-stat time-how set-time set-atime set-mtime sattr nfsstat ftype specdata nfstime fattr wcc-attr pre-op-attr post-op-attr wcc-data fsinfo opaque-auth auth-unix call-body rpc-body rpc-msg mismatch-info accept-body accepted-reply rejected-reply reply-body nfs-fh post-op-fh diropargs symlinkdata set-mode set-uid set-gid set-size
 every-kind =
     (by-zero _ refl refl refl, (by-two _ refl refl refl, (by-two _ refl refl refl, (by-two _ refl refl refl, (by-two _ refl refl refl, (by-two _ refl refl refl, (by-two _ refl refl refl, (by-two _ refl refl refl, (by-two _ refl refl refl, (by-zero _ refl refl refl, (by-zero _ refl refl refl, (by-two _ refl refl refl, (by-zero _ refl refl refl, (by-two _ refl refl refl, (by-two _ refl refl refl, (by-two _ refl refl refl, (by-two _ refl refl refl, (by-two _ refl refl refl, (by-two _ refl refl refl, (by-two _ refl refl refl, (by-two _ refl refl refl, (by-two _ refl refl refl, (by-two _ refl refl refl, (by-two _ refl refl refl, (by-two _ refl refl refl, (by-two _ refl refl refl, (by-two _ refl refl refl, (by-two _ refl refl refl, (by-two _ refl refl refl, (by-two _ refl refl refl, (by-two _ refl refl refl, (by-two _ refl refl refl, (by-two _ refl refl refl, (by-two _ refl refl refl, (by-two _ refl refl refl, (by-two _ refl refl refl, (by-two _ refl refl refl, (by-two _ refl refl refl, (by-two _ refl refl refl, (by-two _ refl refl refl, (by-two _ refl refl refl, (by-two _ refl refl refl, (by-two _ refl refl refl, (by-two _ refl refl refl, (by-two _ refl refl refl, (by-two _ refl refl refl, (by-two _ refl refl refl, tt)))))))))))))))))))))))))))))))))))))))))))))))
 

@@ -15,10 +15,10 @@ use Rattle.rpc.specs.declared.auth.auth_flavor.the-variants.{«AUTH_NULL»}
 use Rattle.rpc.specs.declared.reply.accept_body.the-variants.{«GARBAGE_ARGS»}
 use Rattle.nfs.specs.Meaning.Set.{set-atime, sattr}
 use Rattle.nfs.specs.Meaning.Dir.{diropargs}
-use Rattle.nfs.specs.declared.set.set_mode3.the-variants as mode
-use Rattle.nfs.specs.declared.set.set_uid3.the-variants as uid
-use Rattle.nfs.specs.declared.set.set_gid3.the-variants as gid
-use Rattle.nfs.specs.declared.set.set_size3.the-variants as size
+use Rattle.nfs.specs.declared.change.set_mode3.the-variants as mode
+use Rattle.nfs.specs.declared.change.set_uid3.the-variants as uid
+use Rattle.nfs.specs.declared.change.set_gid3.the-variants as gid
+use Rattle.nfs.specs.declared.change.set_size3.the-variants as size
 use Rattle.nfs.specs.declared.set.set_atime.the-variants as atime
 use Rattle.nfs.specs.declared.set.set_mtime.the-variants as mtime
 use Rattle.rpcwire.specs.Meaning.Stream.{stand, more, complete, fresh, inFragment, halted}

@@ -9,7 +9,8 @@ use Rattle.rpc.specs.Meaning.Auth.{opaque-auth}
 use Rattle.rpc.specs.Meaning.Reply.{mismatch-info, accept-body, accepted-reply, rejected-reply, reply-body}
 use Rattle.rpc.specs.Meaning.Message.{call-body, rpc-body, rpc-msg}
 use Rattle.nfsattr.specs.Meaning.Attr.{nfstime}
-use Rattle.nfs.specs.Meaning.Set.{set-mode, set-uid, set-gid, set-size, set-time, set-atime, set-mtime, sattr}
+use Rattle.nfs.specs.Meaning.Change.{set-mode, set-uid, set-gid, set-size}
+use Rattle.nfs.specs.Meaning.Set.{set-time, set-atime, set-mtime, sattr}
 use Rattle.nfs.specs.Meaning.Dir.{nfs-fh, diropargs}
 use Rattle.rpcwire.specs.Meaning.Stream.{feedOf, begin, advance, after, stepAt, headerByte, headed, settled, fitsOf}
 use Rattle.worked.specs.Row.{All}

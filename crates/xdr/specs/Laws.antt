@@ -45,3 +45,5 @@ pub mod Keys
 pub mod Unions
 pub mod Putting
 pub mod ByNumber
+pub mod Fields
+pub mod Optional

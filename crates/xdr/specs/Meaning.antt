@@ -11,6 +11,7 @@ pub mod Items
 pub mod Forms
 pub mod Held
 pub mod Format
+pub mod Cases
 pub mod Pieces
 pub mod Formats
 pub mod Sizes

@@ -13,6 +13,7 @@ ghost use Rattle.xdr.specs.declared.refusal.Refusal.the-variants.{Ended}
 ghost use Rattle.xdr.specs.Laws.Answers.{pairEnd};
 ghost use Rattle.xdr.specs.Laws.Write.{Put};
 ghost use Rattle.xdr.specs.Laws.Padding.{lastZeros};
+use crate::MOST;
 use crate::answer::BoolRead;
 use crate::answer::I32Read;
 use crate::answer::I64Read;
@@ -265,6 +266,27 @@ pub fn put_u64_pair(first: u64, second: u64, out: &mut [u8])
     put_u64(second, &mut out[8..]);
 }
 
+// Twelve bytes that stand together: three words, or a word and a hyper.
+pub fn put_u32_three(first: u32, second: u32, third: u32, out: &mut [u8])
+    ensures { λ _. ⌜ now (out .exit) ≡ laid (word .kind .write first ++ word-pair .kind .write (second, third)) (now (out .entry)) ⌝ }
+{
+    if out.len() < 12 {
+        return;
+    }
+    put_u32(first, &mut out[0..]);
+    put_u32_pair(second, third, &mut out[4..]);
+}
+
+pub fn put_u32_u64(first: u32, second: u64, out: &mut [u8])
+    ensures { λ _. ⌜ now (out .exit) ≡ laid (word .kind .write first ++ hyper .kind .write second) (now (out .entry)) ⌝ }
+{
+    if out.len() < 12 {
+        return;
+    }
+    put_u32(first, &mut out[0..]);
+    put_u64(second, &mut out[4..]);
+}
+
 pub fn put_i32(v: i32, out: &mut [u8])
     ensures { λ _. ⌜ now (out .exit) ≡ laid (int .kind .write v) (now (out .entry)) ⌝ }
 {
@@ -291,7 +313,7 @@ pub fn put_bool(v: bool, out: &mut [u8])
 pub fn opaque_size(n: usize) -> usize
     ensures { λ r. ⌜ r ≡ sizeUpTo n ⌝ }
 {
-    if 1048576 < n {
+    if MOST < n {
         return 0;
     }
     4 + (n + 3) / 4 * 4
@@ -301,7 +323,7 @@ pub fn opaque_size(n: usize) -> usize
 pub fn words_size(n: usize) -> usize
     ensures { λ r. ⌜ r ≡ wordsUpTo n ⌝ }
 {
-    if 1048576 < n {
+    if MOST < n {
         return 0;
     }
     4 + n * 4
@@ -325,7 +347,7 @@ fn lay_opaque(body: &[u8], out: &mut [u8])
 pub fn put_opaque(src: &[u8], x: Piece, out: &mut [u8])
     ensures { λ _. ⌜ now (out .exit) ≡ laidOf bytes (now (src .entry)) x (now (out .entry)) ⌝ }
 {
-    if 1048576 < src.len() {
+    if MOST < src.len() {
         return;
     }
     if !inside(src, x) {
@@ -353,7 +375,7 @@ fn lay_words(body: &[u8], n: usize, out: &mut [u8])
 pub fn put_words(src: &[u8], x: Piece, out: &mut [u8])
     ensures { λ _. ⌜ now (out .exit) ≡ laidOf wordList (now (src .entry)) x (now (out .entry)) ⌝ }
 {
-    if 1048576 < src.len() {
+    if MOST < src.len() {
         return;
     }
     if !words_inside(src, x) {

@@ -4,6 +4,7 @@ ghost use mathlib.Core.Bool.{true};
 ghost use Rattle.xdr.specs.Meaning.Answer.{opened, took};
 ghost use Rattle.xdr.specs.Meaning.Views.{viewOpening, viewWrote};
 ghost use Rattle.xdr.specs.Meaning.Order.{roomed, placing};
+use crate::MOST;
 use crate::answer::Wrote;
 use crate::refusal::Refusal;
 
@@ -17,7 +18,7 @@ pub enum Opening {
 pub fn open_at(src: &[u8], at: usize) -> Opening
     ensures { λ r. ⌜ viewOpening at r ≡ opened (now (src .entry)) at (took tt at true) ⌝ }
 {
-    if 1048576 < src.len() {
+    if MOST < src.len() {
         return Opening::Refused(Refusal::TooLong);
     }
     if src.len() < at {
@@ -46,13 +47,13 @@ pub fn place(source: usize, inside: bool, size: usize, room: usize, at: usize) -
     if room < at {
         return Wrote::Refused(Refusal::PastEnd);
     }
-    if 1048576 < source {
+    if MOST < source {
         return Wrote::Refused(Refusal::TooLong);
     }
     if !inside {
         return Wrote::Refused(Refusal::Outside);
     }
-    if 1048576 < size {
+    if MOST < size {
         return Wrote::Refused(Refusal::TooLong);
     }
     if room - at < size {

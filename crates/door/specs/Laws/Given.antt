@@ -21,10 +21,10 @@ use Rattle.nfsattr.specs.declared.attr.ftype3.{ftype3}
 use Rattle.nfsattr.specs.declared.attr.fattr3.{fattr3}
 use Rattle.nfsattr.specs.declared.attr.FtypeFound.{FtypeFound}
 use Rattle.nfs.specs.declared.set.sattr3.{sattr3}
-use Rattle.nfs.specs.declared.set.set_mode3.{«set_mode3»}
-use Rattle.nfs.specs.declared.set.set_uid3.{«set_uid3»}
-use Rattle.nfs.specs.declared.set.set_gid3.{«set_gid3»}
-use Rattle.nfs.specs.declared.set.set_size3.{«set_size3»}
+use Rattle.nfs.specs.declared.change.set_mode3.{«set_mode3»}
+use Rattle.nfs.specs.declared.change.set_uid3.{«set_uid3»}
+use Rattle.nfs.specs.declared.change.set_gid3.{«set_gid3»}
+use Rattle.nfs.specs.declared.change.set_size3.{«set_size3»}
 use Rattle.nfs.specs.declared.set.set_atime.{«set_atime»}
 use Rattle.nfs.specs.declared.set.set_mtime.{«set_mtime»}
 use Rattle.rpc.specs.Meaning.Closed.{flavorNumber, flavors}

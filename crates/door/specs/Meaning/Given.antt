@@ -16,7 +16,8 @@ use Rattle.xdr.specs.Meaning.Format.{exactly}
 use Rattle.xdr.specs.Meaning.Public.{Writes}
 use Rattle.xdr.specs.declared.piece.Piece.{Piece}
 use Rattle.nfsattr.specs.Meaning.Attr.{ftypeNumber, ftypes, fattr}
-use Rattle.nfs.specs.Meaning.Set.{SetTime, dont-change, server-time, client-time, modeTo, uidTo, gidTo, sizeTo, atimeTo, mtimeTo, sattr}
+use Rattle.nfs.specs.Meaning.Change.{setModeTo, setUidTo, setGidTo, setSizeTo}
+use Rattle.nfs.specs.Meaning.Set.{SetTime, dont-change, server-time, client-time, atimeTo, mtimeTo, sattr}
 use Rattle.nfs.specs.Meaning.Dir.{diropargs}
 use Rattle.nfsattr.specs.declared.attr.ftype3.{ftype3}
 use Rattle.nfsattr.specs.declared.attr.fattr3.{fattr3}
@@ -141,10 +142,10 @@ timeOf tag s n =
 abbrev pub sattr3By : (ℕ → ℕ) → List ℕ → sattr3
 sattr3By w l =
     record {
-      mode = modeTo (optionOf (getD l 0 0) (w (getD l 1 0)));
-      uid = uidTo (optionOf (getD l 2 0) (w (getD l 3 0)));
-      gid = gidTo (optionOf (getD l 4 0) (w (getD l 5 0)));
-      size = sizeTo (optionOf (getD l 6 0) (getD l 7 0));
+      mode = setModeTo (optionOf (getD l 0 0) (w (getD l 1 0)));
+      uid = setUidTo (optionOf (getD l 2 0) (w (getD l 3 0)));
+      gid = setGidTo (optionOf (getD l 4 0) (w (getD l 5 0)));
+      size = setSizeTo (optionOf (getD l 6 0) (getD l 7 0));
       atime = atimeTo (timeOf (getD l 8 0) (w (getD l 9 0)) (w (getD l 10 0)));
       mtime = mtimeTo (timeOf (getD l 11 0) (w (getD l 12 0)) (w (getD l 13 0)));
     }

@@ -13,8 +13,9 @@ use Rattle.rpc.specs.Meaning.Message.{rpc-msg, rpc-body, call-body}
 use Rattle.rpc.specs.Meaning.Reply.{reply-body, accepted-reply, accept-body, rejected-reply, mismatch-info}
 use Rattle.nfsattr.specs.Meaning.Stat.{nfsstat}
 use Rattle.nfsattr.specs.Meaning.Attr.{ftype, specdata, nfstime, fattr, fsinfo, wcc-attr, pre-op-attr, post-op-attr, wcc-data}
-use Rattle.nfs.specs.Meaning.Set.{time-how, set-mode, set-uid, set-gid, set-size, set-atime, set-mtime, sattr}
+use Rattle.nfs.specs.Meaning.Set.{time-how, set-atime, set-mtime, sattr}
 use Rattle.nfs.specs.Meaning.Dir.{nfs-fh, post-op-fh, diropargs, symlinkdata}
+use Rattle.nfs.specs.Meaning.Change.{set-mode, set-uid, set-gid, set-size}
 -- end of meanings
 use Rattle.door.specs.Meaning.Copy.{Copy, unknown, Copies}
 

@@ -13,7 +13,8 @@ use Rattle.xdr.specs.Meaning.Public.{Answers}
 use Rattle.xdr.specs.Meaning.Pieces.{isInside}
 use Rattle.xdr.specs.declared.piece.Piece.{Piece}
 use Rattle.nfsattr.specs.Meaning.Attr.{ftypeNumber, fattr}
-use Rattle.nfs.specs.Meaning.Set.{SetTime, dont-change, server-time, client-time, modeFrom, uidFrom, gidFrom, sizeFrom, atimeFrom, mtimeFrom, sattr}
+use Rattle.nfs.specs.Meaning.Change.{setModeFrom, setUidFrom, setGidFrom, setSizeFrom}
+use Rattle.nfs.specs.Meaning.Set.{SetTime, dont-change, server-time, client-time, atimeFrom, mtimeFrom, sattr}
 use Rattle.nfs.specs.Meaning.Dir.{diropargs}
 use Rattle.nfsattr.specs.declared.attr.fattr3.{fattr3}
 use Rattle.nfs.specs.declared.set.sattr3.{sattr3}
@@ -87,8 +88,8 @@ timeFigures (client-time t) = 2 ∷ t .seconds ∷ t .nseconds ∷ []
 
 abbrev pub sattr3Figures : sattr3 → List ℕ
 sattr3Figures a =
-    optionFigures (modeFrom (a .mode)) ++ (optionFigures (uidFrom (a .uid)) ++ (optionFigures (gidFrom (a .gid))
-    ++ (optionFigures (sizeFrom (a .size)) ++ (timeFigures (atimeFrom (a .atime)) ++ timeFigures (mtimeFrom (a .mtime))))))
+    optionFigures (setModeFrom (a .mode)) ++ (optionFigures (setUidFrom (a .uid)) ++ (optionFigures (setGidFrom (a .gid))
+    ++ (optionFigures (setSizeFrom (a .size)) ++ (timeFigures (atimeFrom (a .atime)) ++ timeFigures (mtimeFrom (a .mtime))))))
 
 abbrev pub Sattr3Called : (s : List ℕ) (at : ℕ) (i : List ℕ) (r : ℕ) (i′ : List ℕ) → Type 0
 Sattr3Called s at = ValueCalled (Answers (exactly sattr) s at) sattr3Figures 14

@@ -7,34 +7,19 @@ use native.Mathlib.Omega.{arith}
 use lib.ListN.{length, length-append}
 use Rattle.xdr.specs.Meaning.Answer.{most}
 use Rattle.xdr.specs.Meaning.Items.{word, hyper}
-use Rattle.nfs.specs.Meaning.Set.{set-mode, modeCases, set-uid, uidCases, set-gid, gidCases, set-size, sizeCases, set-atime, atimeCases, set-mtime, mtimeCases, sattr}
+use Rattle.nfs.specs.Meaning.Change.{set-mode, set-uid, set-gid, set-size}
+use Rattle.nfs.specs.Meaning.Set.{set-atime, atimeCases, set-mtime, mtimeCases, sattr}
 use Rattle.xdr.specs.Laws.Fixed.{word-fixed, hyper-fixed}
-use Rattle.nfsattr.specs.Laws.Write.{Between, Optional, maybe-between}
+use Rattle.xdr.specs.Laws.Optional.{Between, Optional, maybe-between}
+use Rattle.nfs.specs.Laws.Change.{set-mode-between, set-uid-between, set-gid-between, set-size-between}
 use Rattle.nfs.specs.Laws.Write.{Timed, time-between}
 use Rattle.nfs.specs.declared.set.sattr3.{sattr3}
-use Rattle.nfs.specs.declared.set.set_mode3.{«set_mode3»}
-use Rattle.nfs.specs.declared.set.set_uid3.{«set_uid3»}
-use Rattle.nfs.specs.declared.set.set_gid3.{«set_gid3»}
-use Rattle.nfs.specs.declared.set.set_size3.{«set_size3»}
+use Rattle.nfs.specs.declared.change.set_mode3.{«set_mode3»}
+use Rattle.nfs.specs.declared.change.set_uid3.{«set_uid3»}
+use Rattle.nfs.specs.declared.change.set_gid3.{«set_gid3»}
+use Rattle.nfs.specs.declared.change.set_size3.{«set_size3»}
 use Rattle.nfs.specs.declared.set.set_atime.{«set_atime»}
 use Rattle.nfs.specs.declared.set.set_mtime.{«set_mtime»}
-
--- each case, under the names of its type
-pub set-mode-optional : Optional word modeCases set-mode
-unfolding set-mode
-set-mode-optional = record { is = refl }
-
-pub set-uid-optional : Optional word uidCases set-uid
-unfolding set-uid
-set-uid-optional = record { is = refl }
-
-pub set-gid-optional : Optional word gidCases set-gid
-unfolding set-gid
-set-gid-optional = record { is = refl }
-
-pub set-size-optional : Optional hyper sizeCases set-size
-unfolding set-size
-set-size-optional = record { is = refl }
 
 pub set-atime-timed : Timed atimeCases set-atime
 unfolding set-atime
@@ -44,23 +29,6 @@ pub set-mtime-timed : Timed mtimeCases set-mtime
 unfolding set-mtime
 set-mtime-timed = record { is = refl }
 
--- ranges
-pub set-mode-between : (v : «set_mode3») → Between 4 8 (length (set-mode .kind .write v))
-unfolding set-mode
-set-mode-between v = maybe-between word modeCases word-fixed v
-
-pub set-uid-between : (v : «set_uid3») → Between 4 8 (length (set-uid .kind .write v))
-unfolding set-uid
-set-uid-between v = maybe-between word uidCases word-fixed v
-
-pub set-gid-between : (v : «set_gid3») → Between 4 8 (length (set-gid .kind .write v))
-unfolding set-gid
-set-gid-between v = maybe-between word gidCases word-fixed v
-
-pub set-size-between : (v : «set_size3») → Between 4 12 (length (set-size .kind .write v))
-unfolding set-size
-set-size-between v = maybe-between hyper sizeCases hyper-fixed v
-
 pub set-atime-between : (v : «set_atime») → Between 4 12 (length (set-atime .kind .write v))
 unfolding set-atime
 set-atime-between v = time-between atimeCases v
@@ -68,19 +36,6 @@ set-atime-between v = time-between atimeCases v
 pub set-mtime-between : (v : «set_mtime») → Between 4 12 (length (set-mtime .kind .write v))
 unfolding set-mtime
 set-mtime-between v = time-between mtimeCases v
-
--- each is far below the limit
-pub set-mode-small : (v : «set_mode3») → length (set-mode .kind .write v) ≤ most
-set-mode-small v = omega (arith, set-mode-between v)
-
-pub set-uid-small : (v : «set_uid3») → length (set-uid .kind .write v) ≤ most
-set-uid-small v = omega (arith, set-uid-between v)
-
-pub set-gid-small : (v : «set_gid3») → length (set-gid .kind .write v) ≤ most
-set-gid-small v = omega (arith, set-gid-between v)
-
-pub set-size-small : (v : «set_size3») → length (set-size .kind .write v) ≤ most
-set-size-small v = omega (arith, set-size-between v)
 
 pub set-atime-small : (v : «set_atime») → length (set-atime .kind .write v) ≤ most
 set-atime-small v = omega (arith, set-atime-between v)

@@ -1,21 +1,20 @@
 -- How many bytes the kinds take, and that no rewriting is longer than the bytes read.
 -- Assumes nothing.
 use mathlib.Core.Path.{_≡_}
-use mathlib.Core.Bool.{Bool, true, false}
 use mathlib.Core.List.{List, _∷_}
 use Prim.Native.Nat.{ℕ, zero, suc}
 use native.Mathlib.Omega.{arith}
 use Rattle.xdr.specs.Meaning.Answer.{Way}
 use Rattle.xdr.specs.Meaning.Combinators.{means}
 use Rattle.xdr.specs.Meaning.Codecs.{_⨾_}
-use Rattle.xdr.specs.Meaning.Items.{word, hyper, opaque, option}
-use Rattle.xdr.specs.Meaning.Format.{exactly, _⨟_, flagged, optional, ifFormat, tagged}
-use Rattle.xdr.specs.Meaning.Formats.{bytes}
-use Rattle.xdr.specs.Laws.Lengths.{Lengths, Within, void-lengths, void-within, chain-lengths, chain-within, pair-within, pair-lengths, view-within, view-lengths, no-default, word-lengths, word-within, hyper-lengths, hyper-within, flag-within, opaque-within, closed-within, option-lengths, option-within}
+use Rattle.xdr.specs.Meaning.Items.{word, hyper, option}
+use Rattle.xdr.specs.Meaning.Format.{tagged}
+use Rattle.xdr.specs.Laws.Lengths.{Lengths, Within, void-lengths, void-within, chain-lengths, chain-within, pair-within, pair-lengths, view-within, view-lengths, no-default, word-lengths, word-within, hyper-lengths, hyper-within, closed-within, option-lengths, option-within}
 use Rattle.nfsattr.specs.Meaning.Attr.{nfstime}
 use Rattle.nfsattr.specs.Laws.Lengths.{nfstime-lengths, nfstime-within}
-use Rattle.nfs.specs.Meaning.Set.{SetTime, time-how, howNumber, hows, each-how, set-mode, set-uid, set-gid, set-size, set-time, timeArms, seeTime, set-atime, set-mtime, sattr}
-use Rattle.nfs.specs.Meaning.Dir.{nfs-fh, post-op-fh, diropargs, symlinkdata}
+use Rattle.nfs.specs.Meaning.Change.{set-mode, set-uid, set-gid, set-size}
+use Rattle.nfs.specs.Laws.Change.{set-mode-within, set-uid-within, set-gid-within, set-size-within}
+use Rattle.nfs.specs.Meaning.Set.{SetTime, time-how, howNumber, hows, each-how, set-time, timeArms, seeTime, set-atime, set-mtime, sattr}
 
 pub time-how-within : Within 0 (time-how .kind)
 unfolding time-how
@@ -26,33 +25,17 @@ pub set-mode-lengths : Lengths 4 8 (set-mode .kind)
 unfolding set-mode
 set-mode-lengths = view-lengths (option-lengths word word-lengths)
 
-pub set-mode-within : Within 0 (set-mode .kind)
-unfolding set-mode
-set-mode-within = view-within _ _ (option word .laws) (option-within word word-within) (λ x m l u w e s f. no-default s)
-
 pub set-uid-lengths : Lengths 4 8 (set-uid .kind)
 unfolding set-uid
 set-uid-lengths = view-lengths (option-lengths word word-lengths)
-
-pub set-uid-within : Within 0 (set-uid .kind)
-unfolding set-uid
-set-uid-within = view-within _ _ (option word .laws) (option-within word word-within) (λ x m l u w e s f. no-default s)
 
 pub set-gid-lengths : Lengths 4 8 (set-gid .kind)
 unfolding set-gid
 set-gid-lengths = view-lengths (option-lengths word word-lengths)
 
-pub set-gid-within : Within 0 (set-gid .kind)
-unfolding set-gid
-set-gid-within = view-within _ _ (option word .laws) (option-within word word-within) (λ x m l u w e s f. no-default s)
-
 pub set-size-lengths : Lengths 4 12 (set-size .kind)
 unfolding set-size
 set-size-lengths = view-lengths (option-lengths hyper hyper-lengths)
-
-pub set-size-within : Within 0 (set-size .kind)
-unfolding set-size
-set-size-within = view-within _ _ (option hyper .laws) (option-within hyper hyper-within) (λ x m l u w e s f. no-default s)
 
 time-arm-lengths : (tag : ℕ) → Lengths 0 8 (timeArms tag .format .codec .kind)
 time-arm-lengths zero = record { of = λ m w e f. omega (arith, void-lengths .of m w e f) }
@@ -112,27 +95,3 @@ sattr-within =
     (pair-within set-mode-within
     (pair-within set-uid-within (pair-within set-gid-within (pair-within set-size-within (pair-within set-atime-within set-mtime-within)))))
     (λ x m l u w e s f. no-default s)
-
--- handles and names
-pub nfs-fh-within : Within 0 (nfs-fh .codec .kind)
-unfolding nfs-fh
-nfs-fh-within = view-within _ _ (opaque .laws) opaque-within (λ x m l u w e s f. no-default s)
-
-if-fh-within : (b : Bool) → Within 0 (ifFormat nfs-fh b .codec .kind)
-if-fh-within true = nfs-fh-within
-if-fh-within false = void-within
-
-pub post-op-fh-within : Within 0 (post-op-fh .codec .kind)
-unfolding post-op-fh
-post-op-fh-within =
-    view-within _ _ (optional nfs-fh .codec .laws)
-    (view-within _ _ (flagged nfs-fh .codec .laws) (chain-within flag-within if-fh-within) (λ x m l u w e s f. no-default s))
-    (λ x m l u w e s f. no-default s)
-
-pub diropargs-within : Within 0 (diropargs .codec .kind)
-unfolding diropargs
-diropargs-within = view-within _ _ ((nfs-fh ⨟ bytes) .codec .laws) (pair-within nfs-fh-within opaque-within) (λ x m l u w e s f. no-default s)
-
-pub symlinkdata-within : Within 0 (symlinkdata .codec .kind)
-unfolding symlinkdata
-symlinkdata-within = view-within _ _ ((exactly sattr ⨟ bytes) .codec .laws) (pair-within sattr-within opaque-within) (λ x m l u w e s f. no-default s)

@@ -1,20 +1,18 @@
 -- What the writers' proofs cite: the bytes of times to be set, by their cases, and how many there are.
 -- Assumes nothing.
 use mathlib.Core.Path.{_≡_, refl, sym, ap, ap₂, _∙_}
-use mathlib.Core.Option.{some}
 use mathlib.Core.List.{List, _++_, append-nil}
 use Prim.Native.Nat.{ℕ, _+_}
 use native.Mathlib.Omega.{arith}
 use lib.ListN.{length, length-append}
 use Rattle.xdr.specs.Meaning.Kind.{Codec}
-use Rattle.xdr.specs.Meaning.Items.{word, hyper, word-pair}
+use Rattle.xdr.specs.Meaning.Items.{word, word-pair}
 use Rattle.xdr.specs.Laws.Padding.{word-length}
 use Rattle.nfsattr.specs.Meaning.Attr.{nfstime}
 use Rattle.nfs.specs.Meaning.Set.{SetTime, dont-change, server-time, client-time, set-time, Times, timed}
 use Rattle.nfsattr.specs.Laws.Sizes.{nfstime-fixed}
-use Rattle.nfsattr.specs.Meaning.Cases.{Cases}
-use Rattle.nfsattr.specs.Laws.Words.{flag-word, flag-hyper, tag-time}
-use Rattle.nfsattr.specs.Laws.Write.{Between, Optional, some-bytes}
+use Rattle.nfsattr.specs.Laws.Words.{tag-time}
+use Rattle.xdr.specs.Laws.Optional.{Between}
 use Rattle.nfsattr.specs.declared.attr.nfstime3.{nfstime3}
 
 -- what is done with a time: a tag, and the client's time where it is 2
@@ -83,11 +81,3 @@ module _ {T : Type 0} {U : Times T} {D : Codec T} (O : Timed U D) (v : T) where
 
   pub client-size : (t : nfstime3) → v ≡ U .to (client-time t) → 12 ≡ length (D .kind .write v)
   client-size t e = sized (client-time t) e
-
--- an optional number that is written together with its flag
-module _ {T : Type 0} {U : Cases ℕ T} {D : Codec T} where
-  pub some-word : Optional word U D → (v : T) (x : ℕ) → v ≡ U .to (some x) → word-pair .kind .write (1, x) ≡ D .kind .write v
-  some-word O v x e = flag-word x ∙ some-bytes O v x e
-
-  pub some-hyper : Optional hyper U D → (v : T) (x : ℕ) → v ≡ U .to (some x) → word .kind .write 1 ++ hyper .kind .write x ≡ D .kind .write v
-  some-hyper O v x e = flag-hyper x ∙ some-bytes O v x e

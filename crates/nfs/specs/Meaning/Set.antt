@@ -10,19 +10,11 @@ use Rattle.xdr.specs.Meaning.Codecs.{void, _⨾_, mapped}
 use Rattle.xdr.specs.Meaning.Items.{word, hyper, closed}
 use Rattle.xdr.specs.Meaning.Combinators.{among}
 use Rattle.xdr.specs.Meaning.Format.{exactly, Branch, branch, Kept, Back, union}
-use Rattle.nfsattr.specs.Meaning.Cases.{Cases, maybe}
 use Rattle.nfsattr.specs.Meaning.Attr.{nfstime}
 use Rattle.nfsattr.specs.declared.attr.nfstime3.{nfstime3}
+use Rattle.nfs.specs.Meaning.Change.{set-mode, set-uid, set-gid, set-size}
 use Rattle.nfs.specs.declared.set._time_how.{«_time_how»}
 use Rattle.nfs.specs.declared.set._time_how.the-variants as how
-use Rattle.nfs.specs.declared.set.set_mode3.{«set_mode3»}
-use Rattle.nfs.specs.declared.set.set_mode3.the-variants as mode·
-use Rattle.nfs.specs.declared.set.set_uid3.{«set_uid3»}
-use Rattle.nfs.specs.declared.set.set_uid3.the-variants as uid·
-use Rattle.nfs.specs.declared.set.set_gid3.{«set_gid3»}
-use Rattle.nfs.specs.declared.set.set_gid3.the-variants as gid·
-use Rattle.nfs.specs.declared.set.set_size3.{«set_size3»}
-use Rattle.nfs.specs.declared.set.set_size3.the-variants as size·
 use Rattle.nfs.specs.declared.set.set_atime.{«set_atime»}
 use Rattle.nfs.specs.declared.set.set_atime.the-variants as atime·
 use Rattle.nfs.specs.declared.set.set_mtime.{«set_mtime»}
@@ -45,98 +37,6 @@ each-how how.«SET_TO_CLIENT_TIME» = refl
 
 unfoldable pub time-how : Codec «_time_how»
 time-how = closed howNumber hows each-how
-
--- set_mode3
-abbrev pub modeTo : Option ℕ → «set_mode3»
-modeTo none = mode·.Void
-modeTo (some v) = mode·.mode v
-
-abbrev pub modeFrom : «set_mode3» → Option ℕ
-modeFrom mode·.Void = none
-modeFrom (mode·.mode v) = some v
-
-pub mode-from-to : (x : Option ℕ) → modeFrom (modeTo x) ≡ x
-mode-from-to none = refl
-mode-from-to (some v) = refl
-
-pub mode-to-from : (y : «set_mode3») → modeTo (modeFrom y) ≡ y
-mode-to-from mode·.Void = refl
-mode-to-from (mode·.mode v) = refl
-
-abbrev pub modeCases : Cases ℕ «set_mode3»
-modeCases = record { to = modeTo; from = modeFrom; from-to = mode-from-to; to-from = mode-to-from }
-
-unfoldable pub set-mode : Codec «set_mode3»
-set-mode = maybe word modeCases
-
--- set_uid3
-abbrev pub uidTo : Option ℕ → «set_uid3»
-uidTo none = uid·.Void
-uidTo (some v) = uid·.uid v
-
-abbrev pub uidFrom : «set_uid3» → Option ℕ
-uidFrom uid·.Void = none
-uidFrom (uid·.uid v) = some v
-
-pub uid-from-to : (x : Option ℕ) → uidFrom (uidTo x) ≡ x
-uid-from-to none = refl
-uid-from-to (some v) = refl
-
-pub uid-to-from : (y : «set_uid3») → uidTo (uidFrom y) ≡ y
-uid-to-from uid·.Void = refl
-uid-to-from (uid·.uid v) = refl
-
-abbrev pub uidCases : Cases ℕ «set_uid3»
-uidCases = record { to = uidTo; from = uidFrom; from-to = uid-from-to; to-from = uid-to-from }
-
-unfoldable pub set-uid : Codec «set_uid3»
-set-uid = maybe word uidCases
-
--- set_gid3
-abbrev pub gidTo : Option ℕ → «set_gid3»
-gidTo none = gid·.Void
-gidTo (some v) = gid·.gid v
-
-abbrev pub gidFrom : «set_gid3» → Option ℕ
-gidFrom gid·.Void = none
-gidFrom (gid·.gid v) = some v
-
-pub gid-from-to : (x : Option ℕ) → gidFrom (gidTo x) ≡ x
-gid-from-to none = refl
-gid-from-to (some v) = refl
-
-pub gid-to-from : (y : «set_gid3») → gidTo (gidFrom y) ≡ y
-gid-to-from gid·.Void = refl
-gid-to-from (gid·.gid v) = refl
-
-abbrev pub gidCases : Cases ℕ «set_gid3»
-gidCases = record { to = gidTo; from = gidFrom; from-to = gid-from-to; to-from = gid-to-from }
-
-unfoldable pub set-gid : Codec «set_gid3»
-set-gid = maybe word gidCases
-
--- set_size3
-abbrev pub sizeTo : Option ℕ → «set_size3»
-sizeTo none = size·.Void
-sizeTo (some v) = size·.size v
-
-abbrev pub sizeFrom : «set_size3» → Option ℕ
-sizeFrom size·.Void = none
-sizeFrom (size·.size v) = some v
-
-pub size-from-to : (x : Option ℕ) → sizeFrom (sizeTo x) ≡ x
-size-from-to none = refl
-size-from-to (some v) = refl
-
-pub size-to-from : (y : «set_size3») → sizeTo (sizeFrom y) ≡ y
-size-to-from size·.Void = refl
-size-to-from (size·.size v) = refl
-
-abbrev pub sizeCases : Cases ℕ «set_size3»
-sizeCases = record { to = sizeTo; from = sizeFrom; from-to = size-from-to; to-from = size-to-from }
-
-unfoldable pub set-size : Codec «set_size3»
-set-size = maybe hyper sizeCases
 
 -- set_atime and set_mtime: what is done with a time, by a tag of 0 to 2; any other tag is undeclared
 pub data SetTime : Type 0 where

@@ -1,24 +1,24 @@
 // What may be set.
 ghost use mathlib.Core.Path.{_≡_};
-ghost use Rattle.nfs.specs.Meaning.Set.{time-how, set-mode, set-uid, set-gid, set-size, set-atime, set-mtime, sattr};
-ghost use Rattle.nfs.specs.Meaning.Views.{viewTimeHow, viewSetMode3, viewSetUid3, viewSetGid3, viewSetSize3, viewSetAtime, viewSetMtime, viewSattr3};
+ghost use Rattle.nfs.specs.Meaning.Set.{time-how, set-atime, set-mtime, sattr};
+ghost use Rattle.nfs.specs.Meaning.Views.{viewTimeHow, viewSetAtime, viewSetMtime, viewSattr3};
 use crate::answer::Sattr3Read;
 use crate::answer::SetAtimeRead;
-use crate::answer::SetGid3Read;
-use crate::answer::SetMode3Read;
 use crate::answer::SetMtimeRead;
-use crate::answer::SetSize3Read;
-use crate::answer::SetUid3Read;
 use crate::answer::TimeHowRead;
+use crate::change::SetGid3Read;
+use crate::change::SetMode3Read;
+use crate::change::SetSize3Read;
+use crate::change::SetUid3Read;
+use crate::change::set_gid3_at;
+use crate::change::set_mode3_at;
+use crate::change::set_size3_at;
+use crate::change::set_uid3_at;
 use crate::set::_time_how;
 use crate::set::HowFound;
 use crate::set::sattr3;
 use crate::set::set_atime;
-use crate::set::set_gid3;
-use crate::set::set_mode3;
 use crate::set::set_mtime;
-use crate::set::set_size3;
-use crate::set::set_uid3;
 use nfsattr::answer::Nfstime3Read;
 use nfsattr::inner::attr::nfstime3_at;
 use xdr::BoolRead;
@@ -41,126 +41,6 @@ pub fn time_how_at(src: &[u8], at: usize) -> TimeHowRead
         return TimeHowRead::Refused(Refusal::Undeclared(at));
     };
     TimeHowRead::Took { value: x, next: n }
-}
-
-pub fn set_mode3_at(src: &[u8], at: usize) -> SetMode3Read
-    ensures { λ r. ⌜ viewSetMode3 r ≡ set-mode .kind .read (now (src .entry)) at ⌝ }
-{
-    let r1 = bool_at(src, at);
-    let BoolRead::Took {
-        value: follows,
-        next: n1,
-        plain: p1,
-    } = r1
-    else {
-        return SetMode3Read::Refused(r1.refusal());
-    };
-    if !follows {
-        return SetMode3Read::Took {
-            value: set_mode3::Void,
-            next: n1,
-            plain: p1,
-        };
-    }
-    let r2 = u32_at(src, n1);
-    let U32Read::Took { value: v, next: n2 } = r2 else {
-        return SetMode3Read::Refused(r2.refusal());
-    };
-    SetMode3Read::Took {
-        value: set_mode3::mode(v),
-        next: n2,
-        plain: p1,
-    }
-}
-
-pub fn set_uid3_at(src: &[u8], at: usize) -> SetUid3Read
-    ensures { λ r. ⌜ viewSetUid3 r ≡ set-uid .kind .read (now (src .entry)) at ⌝ }
-{
-    let r1 = bool_at(src, at);
-    let BoolRead::Took {
-        value: follows,
-        next: n1,
-        plain: p1,
-    } = r1
-    else {
-        return SetUid3Read::Refused(r1.refusal());
-    };
-    if !follows {
-        return SetUid3Read::Took {
-            value: set_uid3::Void,
-            next: n1,
-            plain: p1,
-        };
-    }
-    let r2 = u32_at(src, n1);
-    let U32Read::Took { value: v, next: n2 } = r2 else {
-        return SetUid3Read::Refused(r2.refusal());
-    };
-    SetUid3Read::Took {
-        value: set_uid3::uid(v),
-        next: n2,
-        plain: p1,
-    }
-}
-
-pub fn set_gid3_at(src: &[u8], at: usize) -> SetGid3Read
-    ensures { λ r. ⌜ viewSetGid3 r ≡ set-gid .kind .read (now (src .entry)) at ⌝ }
-{
-    let r1 = bool_at(src, at);
-    let BoolRead::Took {
-        value: follows,
-        next: n1,
-        plain: p1,
-    } = r1
-    else {
-        return SetGid3Read::Refused(r1.refusal());
-    };
-    if !follows {
-        return SetGid3Read::Took {
-            value: set_gid3::Void,
-            next: n1,
-            plain: p1,
-        };
-    }
-    let r2 = u32_at(src, n1);
-    let U32Read::Took { value: v, next: n2 } = r2 else {
-        return SetGid3Read::Refused(r2.refusal());
-    };
-    SetGid3Read::Took {
-        value: set_gid3::gid(v),
-        next: n2,
-        plain: p1,
-    }
-}
-
-pub fn set_size3_at(src: &[u8], at: usize) -> SetSize3Read
-    ensures { λ r. ⌜ viewSetSize3 r ≡ set-size .kind .read (now (src .entry)) at ⌝ }
-{
-    let r1 = bool_at(src, at);
-    let BoolRead::Took {
-        value: follows,
-        next: n1,
-        plain: p1,
-    } = r1
-    else {
-        return SetSize3Read::Refused(r1.refusal());
-    };
-    if !follows {
-        return SetSize3Read::Took {
-            value: set_size3::Void,
-            next: n1,
-            plain: p1,
-        };
-    }
-    let r2 = u64_at(src, n1);
-    let U64Read::Took { value: v, next: n2 } = r2 else {
-        return SetSize3Read::Refused(r2.refusal());
-    };
-    SetSize3Read::Took {
-        value: set_size3::size(v),
-        next: n2,
-        plain: p1,
-    }
 }
 
 pub fn set_atime_at(src: &[u8], at: usize) -> SetAtimeRead

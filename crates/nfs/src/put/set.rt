@@ -1,94 +1,30 @@
 // What may be set.
 ghost use mathlib.Core.Path.{_≡_};
 ghost use lib.ListN.{length};
-ghost use Rattle.nfs.specs.Meaning.Set.{set-mode, set-uid, set-gid, set-size, set-atime, set-mtime, sattr};
+ghost use Rattle.nfs.specs.Meaning.Set.{set-atime, set-mtime, sattr};
 ghost use Rattle.xdr.specs.Meaning.Public.{laid};
 ghost use Rattle.nfs.specs.Laws.Bytes.{ownerBytes, changeBytes};
+use crate::change::put_set_gid3;
+use crate::change::put_set_mode3;
+use crate::change::put_set_size3;
+use crate::change::put_set_uid3;
+use crate::change::set_gid3;
+use crate::change::set_gid3_size;
+use crate::change::set_mode3;
+use crate::change::set_mode3_size;
+use crate::change::set_size3;
+use crate::change::set_size3_size;
+use crate::change::set_uid3;
+use crate::change::set_uid3_size;
 use crate::set::sattr3;
 use crate::set::set_atime;
-use crate::set::set_gid3;
-use crate::set::set_mode3;
 use crate::set::set_mtime;
-use crate::set::set_size3;
-use crate::set::set_uid3;
 use nfsattr::attr::nfstime3;
-use nfsattr::put::words::put_u32_three;
-use nfsattr::put::words::put_u32_u64;
 use xdr::inner::put_bool;
 use xdr::inner::put_u32;
 use xdr::inner::put_u32_pair;
-
-pub fn put_set_mode3(v: set_mode3, out: &mut [u8])
-    ensures { λ _. ⌜ now (out .exit) ≡ laid (set-mode .kind .write v) (now (out .entry)) ⌝ }
-{
-    match v {
-        set_mode3::Void => put_bool(false, out),
-        set_mode3::mode(x) => put_u32_pair(1, x, out),
-    }
-}
-
-pub fn set_mode3_size(v: set_mode3) -> usize
-    ensures { λ r. ⌜ r ≡ length (set-mode .kind .write v) ⌝ }
-{
-    match v {
-        set_mode3::Void => 4,
-        set_mode3::mode(_) => 8,
-    }
-}
-
-pub fn put_set_uid3(v: set_uid3, out: &mut [u8])
-    ensures { λ _. ⌜ now (out .exit) ≡ laid (set-uid .kind .write v) (now (out .entry)) ⌝ }
-{
-    match v {
-        set_uid3::Void => put_bool(false, out),
-        set_uid3::uid(x) => put_u32_pair(1, x, out),
-    }
-}
-
-pub fn set_uid3_size(v: set_uid3) -> usize
-    ensures { λ r. ⌜ r ≡ length (set-uid .kind .write v) ⌝ }
-{
-    match v {
-        set_uid3::Void => 4,
-        set_uid3::uid(_) => 8,
-    }
-}
-
-pub fn put_set_gid3(v: set_gid3, out: &mut [u8])
-    ensures { λ _. ⌜ now (out .exit) ≡ laid (set-gid .kind .write v) (now (out .entry)) ⌝ }
-{
-    match v {
-        set_gid3::Void => put_bool(false, out),
-        set_gid3::gid(x) => put_u32_pair(1, x, out),
-    }
-}
-
-pub fn set_gid3_size(v: set_gid3) -> usize
-    ensures { λ r. ⌜ r ≡ length (set-gid .kind .write v) ⌝ }
-{
-    match v {
-        set_gid3::Void => 4,
-        set_gid3::gid(_) => 8,
-    }
-}
-
-pub fn put_set_size3(v: set_size3, out: &mut [u8])
-    ensures { λ _. ⌜ now (out .exit) ≡ laid (set-size .kind .write v) (now (out .entry)) ⌝ }
-{
-    match v {
-        set_size3::Void => put_bool(false, out),
-        set_size3::size(x) => put_u32_u64(1, x, out),
-    }
-}
-
-pub fn set_size3_size(v: set_size3) -> usize
-    ensures { λ r. ⌜ r ≡ length (set-size .kind .write v) ⌝ }
-{
-    match v {
-        set_size3::Void => 4,
-        set_size3::size(_) => 12,
-    }
-}
+use xdr::inner::put_u32_three;
+use xdr::inner::put_u32_u64;
 
 pub fn put_set_atime(v: set_atime, out: &mut [u8])
     ensures { λ _. ⌜ now (out .exit) ≡ laid (set-atime .kind .write v) (now (out .entry)) ⌝ }

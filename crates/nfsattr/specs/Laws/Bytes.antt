@@ -8,10 +8,11 @@ use native.Mathlib.Omega.{arith}
 use lib.ListN.{length, length-append}
 use Rattle.xdr.specs.Meaning.Answer.{most}
 use Rattle.xdr.specs.Meaning.Items.{word, hyper, word-pair, hyper-pair}
-use Rattle.nfsattr.specs.Meaning.Attr.{ftype, ftypeNumber, specdata, nfstime, ids, sizes, times, fattr, wcc-attr, pre-op-attr, preCases, post-op-attr, postCases, wcc-data, transfer, limits, fsinfo}
+use Rattle.nfsattr.specs.Meaning.Attr.{ftype, ftypeNumber, specdata, nfstime, fattr, wcc-attr, pre-op-attr, preCases, post-op-attr, postCases, wcc-data, fsinfo}
+use Rattle.nfsattr.specs.Laws.Groups.{ids, sizes, times, transfer, limits}
 use Rattle.nfsattr.specs.Laws.Sizes.{fattr-fixed, wcc-attr-fixed}
 use Rattle.nfsattr.specs.Laws.Words.{bounds-size}
-use Rattle.nfsattr.specs.Laws.Write.{Between, Optional, maybe-length, maybe-between}
+use Rattle.xdr.specs.Laws.Optional.{Between, Optional, maybe-length, maybe-between}
 use Rattle.nfsattr.specs.declared.attr.ftype3.{ftype3}
 use Rattle.nfsattr.specs.declared.attr.specdata3.{specdata3}
 use Rattle.nfsattr.specs.declared.attr.nfstime3.{nfstime3}
@@ -31,12 +32,12 @@ ftype-bytes n a e = ap (word .kind .write) e
 
 pub specdata-bytes : (m : specdata3)
     → word-pair .kind .write (m .specdata1, m .specdata2) ≡ specdata .kind .write m
-unfolding specdata
+unfolding specdata word-pair
 specdata-bytes m = refl
 
 pub nfstime-bytes : (m : nfstime3)
     → word-pair .kind .write (m .seconds, m .nseconds) ≡ nfstime .kind .write m
-unfolding nfstime
+unfolding nfstime word-pair
 nfstime-bytes m = refl
 
 pub ids-bytes : (t : ftype3) (mode nlink uid gid : ℕ)
@@ -80,13 +81,13 @@ limits-bytes m = simp append-assoc
 pub fattr-bytes : (m : fattr3)
     → (ids .kind .write (record { ftype = m .ftype; mode = m .mode; nlink = m .nlink; uid = m .uid; gid = m .gid }) ++ sizes .kind .write (record { size = m .size; used = m .used; rdev = m .rdev; fsid = m .fsid; fileid = m .fileid })) ++ times .kind .write (record { atime = m .atime; mtime = m .mtime; ctime = m .ctime })
     ≡ fattr .kind .write m
-unfolding fattr
+unfolding fattr ids sizes times word-pair hyper-pair
 fattr-bytes m = simp append-assoc
 
 pub fsinfo-bytes : (m : fsinfo3)
     → post-op-attr .kind .write (m .«obj_attributes») ++ ((transfer .kind .write (record { max = m .rtmax; pref = m .rtpref; mult = m .rtmult }) ++ transfer .kind .write (record { max = m .wtmax; pref = m .wtpref; mult = m .wtmult })) ++ limits .kind .write (record { dtpref = m .dtpref; maxfilesize = m .maxfilesize; «time_delta» = m .«time_delta»; properties = m .properties }))
     ≡ fsinfo .kind .write m
-unfolding fsinfo
+unfolding fsinfo transfer limits word-pair
 fsinfo-bytes m = simp append-assoc
 
 -- optional values

@@ -2,10 +2,11 @@
 -- Assumes nothing.
 use Prim.Native.Nat.{ℕ}
 use Rattle.xdr.specs.Meaning.Codecs.{_⨾_}
-use Rattle.xdr.specs.Meaning.Items.{word, hyper, word-pair, hyper-pair, option}
-use Rattle.xdr.specs.Laws.Lengths.{Lengths, Within, pair-within, pair-lengths, view-within, view-lengths, no-default, word-lengths, word-within, hyper-lengths, hyper-within, word-pair-lengths, word-pair-within, hyper-pair-lengths, hyper-pair-within, closed-lengths, closed-within, option-lengths, option-within}
+use Rattle.xdr.specs.Meaning.Items.{word, hyper, option}
+use Rattle.xdr.specs.Laws.Lengths.{Lengths, Within, pair-within, pair-lengths, view-within, view-lengths, no-default, word-lengths, word-within, hyper-lengths, hyper-within, closed-lengths, closed-within, option-lengths, option-within}
 use Rattle.nfsattr.specs.Meaning.Stat.{nfsstat, statNumber, statuses, each-stat}
-use Rattle.nfsattr.specs.Meaning.Attr.{ftype, ftypeNumber, ftypes, each-ftype, specdata, nfstime, ids, sizes, times, fattr, wcc-attr, pre-op-attr, post-op-attr, wcc-data, transfer, limits, fsinfo}
+use Rattle.nfsattr.specs.Meaning.Attr.{ftype, ftypeNumber, ftypes, each-ftype, specdata, nfstime, fattr, wcc-attr, pre-op-attr, post-op-attr, wcc-data, fsinfo}
+use Rattle.nfsattr.specs.Laws.Groups.{fattr-list, fsinfo-list}
 
 pub nfsstat-within : Within 0 (nfsstat .kind)
 unfolding nfsstat
@@ -21,37 +22,35 @@ ftype-within = closed-within ftypeNumber ftypes each-ftype
 
 pub specdata-lengths : Lengths 8 8 (specdata .kind)
 unfolding specdata
-specdata-lengths = view-lengths word-pair-lengths
+specdata-lengths = view-lengths (pair-lengths word-lengths word-lengths)
 
 pub specdata-within : Within 0 (specdata .kind)
 unfolding specdata
-specdata-within = view-within _ _ (word-pair .laws) word-pair-within (λ x m l u w e s f. no-default s)
+specdata-within = view-within _ _ ((word ⨾ word) .laws) (pair-within word-within word-within) (λ x m l u w e s f. no-default s)
 
 pub nfstime-lengths : Lengths 8 8 (nfstime .kind)
 unfolding nfstime
-nfstime-lengths = view-lengths word-pair-lengths
+nfstime-lengths = view-lengths (pair-lengths word-lengths word-lengths)
 
 pub nfstime-within : Within 0 (nfstime .kind)
 unfolding nfstime
-nfstime-within = view-within _ _ (word-pair .laws) word-pair-within (λ x m l u w e s f. no-default s)
+nfstime-within = view-within _ _ ((word ⨾ word) .laws) (pair-within word-within word-within) (λ x m l u w e s f. no-default s)
 
 pub fattr-lengths : Lengths 84 84 (fattr .kind)
-unfolding fattr ids sizes times
+unfolding fattr
 fattr-lengths =
     view-lengths
-    (pair-lengths (view-lengths (pair-lengths ftype-lengths (pair-lengths word-pair-lengths word-pair-lengths)))
-    (pair-lengths (view-lengths (pair-lengths hyper-pair-lengths (pair-lengths specdata-lengths hyper-pair-lengths)))
-    (view-lengths (pair-lengths nfstime-lengths (pair-lengths nfstime-lengths nfstime-lengths)))))
+    (pair-lengths ftype-lengths (pair-lengths word-lengths (pair-lengths word-lengths (pair-lengths word-lengths (pair-lengths word-lengths
+    (pair-lengths hyper-lengths (pair-lengths hyper-lengths (pair-lengths specdata-lengths (pair-lengths hyper-lengths (pair-lengths hyper-lengths
+    (pair-lengths nfstime-lengths (pair-lengths nfstime-lengths nfstime-lengths))))))))))))
 
 pub fattr-within : Within 0 (fattr .kind)
-unfolding fattr ids sizes times
+unfolding fattr
 fattr-within =
-    view-within _ _ ((ids ⨾ sizes ⨾ times) .laws)
-    (pair-within
-    (view-within _ _ ((ftype ⨾ word-pair ⨾ word-pair) .laws) (pair-within ftype-within (pair-within word-pair-within word-pair-within)) (λ x m l u w e s f. no-default s))
-    (pair-within
-    (view-within _ _ ((hyper-pair ⨾ specdata ⨾ hyper-pair) .laws) (pair-within hyper-pair-within (pair-within specdata-within hyper-pair-within)) (λ x m l u w e s f. no-default s))
-    (view-within _ _ ((nfstime ⨾ nfstime ⨾ nfstime) .laws) (pair-within nfstime-within (pair-within nfstime-within nfstime-within)) (λ x m l u w e s f. no-default s))))
+    view-within _ _ (fattr-list .laws)
+    (pair-within ftype-within (pair-within word-within (pair-within word-within (pair-within word-within (pair-within word-within
+    (pair-within hyper-within (pair-within hyper-within (pair-within specdata-within (pair-within hyper-within (pair-within hyper-within
+    (pair-within nfstime-within (pair-within nfstime-within nfstime-within))))))))))))
     (λ x m l u w e s f. no-default s)
 
 pub wcc-attr-lengths : Lengths 24 24 (wcc-attr .kind)
@@ -88,26 +87,20 @@ unfolding wcc-data
 wcc-data-within = view-within _ _ ((pre-op-attr ⨾ post-op-attr) .laws) (pair-within pre-op-attr-within post-op-attr-within) (λ x m l u w e s f. no-default s)
 
 pub fsinfo-lengths : Lengths 52 136 (fsinfo .kind)
-unfolding fsinfo transfer limits
+unfolding fsinfo
 fsinfo-lengths =
     view-lengths
     (pair-lengths post-op-attr-lengths
-    (pair-lengths (view-lengths (pair-lengths word-lengths word-pair-lengths))
-    (pair-lengths (view-lengths (pair-lengths word-lengths word-pair-lengths))
-    (view-lengths (pair-lengths word-lengths (pair-lengths hyper-lengths (pair-lengths nfstime-lengths word-lengths)))))))
-
-transfer-within : Within 0 (transfer .kind)
-unfolding transfer
-transfer-within = view-within _ _ ((word ⨾ word-pair) .laws) (pair-within word-within word-pair-within) (λ x m l u w e s f. no-default s)
-
-limits-within : Within 0 (limits .kind)
-unfolding limits
-limits-within =
-    view-within _ _ ((word ⨾ hyper ⨾ nfstime ⨾ word) .laws) (pair-within word-within (pair-within hyper-within (pair-within nfstime-within word-within)))
-    (λ x m l u w e s f. no-default s)
+    (pair-lengths word-lengths (pair-lengths word-lengths (pair-lengths word-lengths
+    (pair-lengths word-lengths (pair-lengths word-lengths (pair-lengths word-lengths
+    (pair-lengths word-lengths (pair-lengths hyper-lengths (pair-lengths nfstime-lengths word-lengths))))))))))
 
 pub fsinfo-within : Within 0 (fsinfo .kind)
 unfolding fsinfo
 fsinfo-within =
-    view-within _ _ ((post-op-attr ⨾ transfer ⨾ transfer ⨾ limits) .laws)
-    (pair-within post-op-attr-within (pair-within transfer-within (pair-within transfer-within limits-within))) (λ x m l u w e s f. no-default s)
+    view-within _ _ (fsinfo-list .laws)
+    (pair-within post-op-attr-within
+    (pair-within word-within (pair-within word-within (pair-within word-within
+    (pair-within word-within (pair-within word-within (pair-within word-within
+    (pair-within word-within (pair-within hyper-within (pair-within nfstime-within word-within))))))))))
+    (λ x m l u w e s f. no-default s)

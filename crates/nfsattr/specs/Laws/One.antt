@@ -1,7 +1,8 @@
 -- What each answer says is all of it: with `one-read` of `xdr`, two answers that a reader's contract permits are one.
 -- Assumes nothing.
 use Rattle.xdr.specs.Laws.One.{Told}
-use Rattle.nfsattr.specs.Meaning.Views.{viewNfsstat3, viewFtype3, viewSpecdata3, viewNfstime3, viewFattr3, viewWccAttr, viewPreOpAttr, viewPostOpAttr, viewWccData, viewFsinfo3, viewIds, viewSizes, viewTimes, viewTransfer, viewLimits}
+use Rattle.nfsattr.specs.Meaning.Views.{viewNfsstat3, viewFtype3, viewSpecdata3, viewNfstime3, viewFattr3, viewWccAttr, viewPreOpAttr, viewPostOpAttr, viewWccData, viewFsinfo3}
+use Rattle.nfsattr.specs.Laws.Groups.{viewIds, viewSizes, viewTimes, viewTransfer, viewLimits}
 use Rattle.nfsattr.specs.declared.answer.Nfsstat3Read.the-variants as Nfsstat3
 use Rattle.nfsattr.specs.declared.answer.Ftype3Read.the-variants as Ftype3
 use Rattle.nfsattr.specs.declared.answer.Specdata3Read.the-variants as Specdata3

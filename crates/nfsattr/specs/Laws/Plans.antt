@@ -1,45 +1,23 @@
--- How each kind is read: an optional value as a plan, and the steps of a plan for each type of answer.
+-- How each kind is read, and the steps of a plan for each type of answer.
 -- Assumes nothing.
-use mathlib.Core.Path.{_≡_, refl, ap}
-use mathlib.Core.Bool.{Bool, true, false, and-true}
-use mathlib.Core.Option.{none, some}
-use mathlib.Core.List.{List}
-use Prim.Native.Nat.{ℕ}
-use Rattle.xdr.specs.Meaning.Answer.{Answer, took, refused}
-use Rattle.xdr.specs.Meaning.Kind.{Codec}
-use Rattle.xdr.specs.Meaning.Items.{word, hyper, word-pair, hyper-pair, flag}
-use Rattle.xdr.specs.Laws.Plans.{Prog, ask, test, give, run, _next_, Step, Loses, step, lost-at, asks}
+use Rattle.xdr.specs.Meaning.Items.{word, hyper, word-pair, hyper-pair}
+use Rattle.xdr.specs.Laws.Plans.{_next_, Step, Loses, step, lost-at, asks}
 use Rattle.xdr.specs.Laws.Records.{ByPlan, fields, one, still}
-use Rattle.nfsattr.specs.Meaning.Attr.{ftype, specdata, nfstime, ids, sizes, times, fattr, wcc-attr, pre-op-attr, preCases, post-op-attr, postCases, wcc-data, transfer, limits, fsinfo}
-use Rattle.nfsattr.specs.Meaning.Cases.{Cases, maybe}
-use Rattle.nfsattr.specs.Meaning.Views.{lostFattr3, lostFtype3, lostIds, lostLimits, lostNfstime3, lostPostOpAttr, lostPreOpAttr, lostSizes, lostSpecdata3, lostTimes, lostTransfer, lostWccAttr, viewFattr3, viewFtype3, viewIds, viewLimits, viewNfstime3, viewPostOpAttr, viewPreOpAttr, viewSizes, viewSpecdata3, viewTimes, viewTransfer, viewWccAttr}
-
--- an optional value: its flag, and the value if that is true
-module _ {M T : Type 0} (C : Codec M) (U : Cases M T) where
-  abbrev pub maybe-by : Prog T
-  maybe-by = ask (flag .kind .read) (λ v. test v (ask (C .kind .read) (λ x. give (U .to (some x)))) (give (U .to none)))
-
-  module _ (s : List ℕ) (p : ℕ) where
-    some-is : (n : ℕ) (b : Bool) → flag .kind .read s p ≡ took true n b → (a : Answer M) → C .kind .read s n ≡ a → maybe C U .kind .read s p ≡ run maybe-by s p true
-    some-is n b f (took x m d) g = rw (f, g)
-    some-is n b f (refused r) g = rw (f, g)
-
-    pub flag-is : (a : Answer Bool) → flag .kind .read s p ≡ a → maybe C U .kind .read s p ≡ run maybe-by s p true
-    flag-is (took true n b) f = some-is n b f (C .kind .read s n) refl
-    flag-is (took false n b) f = rw f (ap (took (U .to none) n) (and-true b))
-    flag-is (refused r) f = rw f
-
-  abbrev pub optional : ByPlan (maybe C U)
-  optional = record { by = maybe-by; is = λ s p. flag-is s p (flag .kind .read s p) refl }
+use Rattle.xdr.specs.Laws.Pairs.{two-words}
+use Rattle.xdr.specs.Laws.Optional.{maybe-plan}
+use Rattle.nfsattr.specs.Meaning.Attr.{ftype, specdata, nfstime, fattr, wcc-attr, pre-op-attr, preCases, post-op-attr, postCases, wcc-data, fsinfo}
+use Rattle.nfsattr.specs.Meaning.Views.{lostFattr3, lostFsinfo3, lostFtype3, lostNfsstat3, lostNfstime3, lostPostOpAttr, lostPreOpAttr, lostSpecdata3, lostWccAttr, lostWccData, viewFattr3, viewFsinfo3, viewFtype3, viewNfsstat3, viewNfstime3, viewPostOpAttr, viewPreOpAttr, viewSpecdata3, viewWccAttr, viewWccData}
+use Rattle.nfsattr.specs.Laws.Groups.{ids, sizes, times, transfer, limits, fattr-groups, fsinfo-groups}
+use Rattle.nfsattr.specs.Laws.Groups.{lostIds, lostLimits, lostSizes, lostTimes, lostTransfer, viewIds, viewLimits, viewSizes, viewTimes, viewTransfer}
 
 -- the kinds
 abbrev pub specdata-plan : ByPlan specdata
 unfolding specdata
-specdata-plan = fields (one word-pair) _ _ _ _
+specdata-plan = fields two-words _ _ _ _
 
 abbrev pub nfstime-plan : ByPlan nfstime
 unfolding nfstime
-nfstime-plan = fields (one word-pair) _ _ _ _
+nfstime-plan = fields two-words _ _ _ _
 
 abbrev pub ids-plan : ByPlan ids
 unfolding ids
@@ -55,7 +33,7 @@ times-plan = fields (one nfstime next one nfstime next one nfstime) _ _ _ _
 
 abbrev pub fattr-plan : ByPlan fattr
 unfolding fattr
-fattr-plan = fields (one ids next one sizes next one times) _ _ _ _
+fattr-plan = fields fattr-groups _ _ _ _
 
 abbrev pub wcc-attr-plan : ByPlan wcc-attr
 unfolding wcc-attr
@@ -63,11 +41,11 @@ wcc-attr-plan = fields (one hyper next one nfstime next one nfstime) _ _ _ _
 
 abbrev pub pre-op-attr-plan : ByPlan pre-op-attr
 unfolding pre-op-attr
-pre-op-attr-plan = optional wcc-attr preCases
+pre-op-attr-plan = maybe-plan wcc-attr preCases
 
 abbrev pub post-op-attr-plan : ByPlan post-op-attr
 unfolding post-op-attr
-post-op-attr-plan = optional fattr postCases
+post-op-attr-plan = maybe-plan fattr postCases
 
 abbrev pub wcc-data-plan : ByPlan wcc-data
 unfolding wcc-data
@@ -83,7 +61,7 @@ limits-plan = fields (one word next one hyper next one nfstime next one word) _ 
 
 abbrev pub fsinfo-plan : ByPlan fsinfo
 unfolding fsinfo
-fsinfo-plan = fields (one post-op-attr next one transfer next one transfer next one limits) _ _ _ _
+fsinfo-plan = fields fsinfo-groups _ _ _ _
 
 -- the steps, for each type of answer
 pub step-ftype : Step viewFtype3
@@ -145,6 +123,24 @@ step-post-op-attr U = step viewPostOpAttr
 
 pub lost-post-op-attr : Loses lostPostOpAttr
 lost-post-op-attr A = lost-at lostPostOpAttr
+
+pub step-wcc-data : Step viewWccData
+step-wcc-data U = step viewWccData
+
+pub lost-wcc-data : Loses lostWccData
+lost-wcc-data A = lost-at lostWccData
+
+pub step-fsinfo : Step viewFsinfo3
+step-fsinfo U = step viewFsinfo3
+
+pub lost-fsinfo : Loses lostFsinfo3
+lost-fsinfo A = lost-at lostFsinfo3
+
+pub step-nfsstat : Step viewNfsstat3
+step-nfsstat U = step viewNfsstat3
+
+pub lost-nfsstat : Loses lostNfsstat3
+lost-nfsstat A = lost-at lostNfsstat3
 
 pub step-transfer : Step viewTransfer
 step-transfer U = step viewTransfer

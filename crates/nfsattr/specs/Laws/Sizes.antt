@@ -1,7 +1,8 @@
 -- How many bytes each fixed kind has.
 -- Assumes nothing.
 use Rattle.nfsattr.specs.Meaning.Stat.{nfsstat}
-use Rattle.nfsattr.specs.Meaning.Attr.{ftype, specdata, nfstime, ids, sizes, times, fattr, wcc-attr, transfer, limits}
+use Rattle.nfsattr.specs.Meaning.Attr.{ftype, specdata, nfstime, fattr, wcc-attr}
+use Rattle.nfsattr.specs.Laws.Groups.{ids, sizes, times, transfer, limits}
 use Rattle.xdr.specs.Laws.Fixed.{Fixed, word-fixed, hyper-fixed, pair-fixed, seen-fixed, word-pair-fixed, hyper-pair-fixed}
 
 pub nfsstat-fixed : Fixed 4 nfsstat
@@ -14,11 +15,11 @@ ftype-fixed = seen-fixed word-fixed _ _ _ _
 
 pub specdata-fixed : Fixed 8 specdata
 unfolding specdata
-specdata-fixed = seen-fixed word-pair-fixed _ _ _ _
+specdata-fixed = seen-fixed (pair-fixed word-fixed word-fixed) _ _ _ _
 
 pub nfstime-fixed : Fixed 8 nfstime
 unfolding nfstime
-nfstime-fixed = seen-fixed word-pair-fixed _ _ _ _
+nfstime-fixed = seen-fixed (pair-fixed word-fixed word-fixed) _ _ _ _
 
 pub ids-fixed : Fixed 20 ids
 unfolding ids
@@ -34,7 +35,11 @@ times-fixed = seen-fixed (pair-fixed nfstime-fixed (pair-fixed nfstime-fixed nfs
 
 pub fattr-fixed : Fixed 84 fattr
 unfolding fattr
-fattr-fixed = seen-fixed (pair-fixed ids-fixed (pair-fixed sizes-fixed times-fixed)) _ _ _ _
+fattr-fixed =
+    seen-fixed
+    (pair-fixed ftype-fixed (pair-fixed word-fixed (pair-fixed word-fixed (pair-fixed word-fixed (pair-fixed word-fixed
+    (pair-fixed hyper-fixed (pair-fixed hyper-fixed (pair-fixed specdata-fixed (pair-fixed hyper-fixed (pair-fixed hyper-fixed
+    (pair-fixed nfstime-fixed (pair-fixed nfstime-fixed nfstime-fixed)))))))))))) _ _ _ _
 
 pub wcc-attr-fixed : Fixed 24 wcc-attr
 unfolding wcc-attr

@@ -7,9 +7,9 @@ use Prim.Native.Nat.{ℕ}
 use Rattle.xdr.specs.Meaning.Kind.{Codec}
 use Rattle.xdr.specs.Meaning.Combinators.{means}
 use Rattle.xdr.specs.Meaning.Codecs.{_⨾_, mapped}
-use Rattle.xdr.specs.Meaning.Items.{word, hyper, word-pair, hyper-pair, closed}
+use Rattle.xdr.specs.Meaning.Items.{word, hyper, closed}
 use Rattle.xdr.specs.Meaning.Combinators.{among}
-use Rattle.nfsattr.specs.Meaning.Cases.{Cases, maybe}
+use Rattle.xdr.specs.Meaning.Cases.{Cases, maybe}
 use Rattle.nfsattr.specs.declared.attr.ftype3.{ftype3}
 use Rattle.nfsattr.specs.declared.attr.ftype3.the-variants.{NF3REG, NF3DIR, NF3BLK, NF3CHR, NF3LNK, NF3SOCK, NF3FIFO}
 use Rattle.nfsattr.specs.declared.attr.specdata3.{specdata3}
@@ -22,11 +22,6 @@ use Rattle.nfsattr.specs.declared.attr.wcc_data.{«wcc_data»}
 use Rattle.nfsattr.specs.declared.attr.fsinfo3.{fsinfo3}
 use Rattle.nfsattr.specs.declared.attr.pre_op_attr.the-variants as pre
 use Rattle.nfsattr.specs.declared.attr.post_op_attr.the-variants as post
-use Rattle.nfsattr.specs.declared.inner.attr.Ids.{Ids}
-use Rattle.nfsattr.specs.declared.inner.attr.Sizes.{Sizes}
-use Rattle.nfsattr.specs.declared.inner.attr.Times.{Times}
-use Rattle.nfsattr.specs.declared.inner.attr.Transfer.{Transfer}
-use Rattle.nfsattr.specs.declared.inner.attr.Limits.{Limits}
 
 -- ftype3: 1 to 7
 abbrev pub ftypeNumber : ftype3 → ℕ
@@ -56,51 +51,36 @@ ftype = closed ftypeNumber ftypes each-ftype
 -- specdata3
 unfoldable pub specdata : Codec specdata3
 specdata =
-    mapped word-pair (λ x. record { specdata1 = x .0; specdata2 = x .1 }) (λ m. (m .specdata1, m .specdata2))
+    mapped (word ⨾ word) (λ x. record { specdata1 = x .0; specdata2 = x .1 }) (λ m. (m .specdata1, m .specdata2))
     (λ x. refl) (λ m. refl)
 
 -- nfstime3
 unfoldable pub nfstime : Codec nfstime3
 nfstime =
-    mapped word-pair (λ x. record { seconds = x .0; nseconds = x .1 }) (λ m. (m .seconds, m .nseconds))
+    mapped (word ⨾ word) (λ x. record { seconds = x .0; nseconds = x .1 }) (λ m. (m .seconds, m .nseconds))
     (λ x. refl) (λ m. refl)
 
--- fattr3, in three groups
-unfoldable pub ids : Codec Ids
-ids =
-    mapped (ftype ⨾ word-pair ⨾ word-pair) (λ x. record { ftype = x .0; mode = x .1 .0 .0; nlink = x .1 .0 .1; uid = x .1 .1 .0; gid = x .1 .1 .1 }) (λ m. (m .ftype, ((m .mode, m .nlink), (m .uid, m .gid))))
-    (λ x. refl) (λ m. refl)
-
-unfoldable pub sizes : Codec Sizes
-sizes =
-    mapped (hyper-pair ⨾ specdata ⨾ hyper-pair) (λ x. record { size = x .0 .0; used = x .0 .1; rdev = x .1 .0; fsid = x .1 .1 .0; fileid = x .1 .1 .1 }) (λ m. ((m .size, m .used), (m .rdev, (m .fsid, m .fileid))))
-    (λ x. refl) (λ m. refl)
-
-unfoldable pub times : Codec Times
-times =
-    mapped (nfstime ⨾ nfstime ⨾ nfstime) (λ x. record { atime = x .0; mtime = x .1 .0; ctime = x .1 .1 }) (λ m. (m .atime, (m .mtime, m .ctime)))
-    (λ x. refl) (λ m. refl)
-
+-- fattr3. `(λ m. ..)` has the names in order, and `refl` holds the places in x to them; so for fsinfo3
 unfoldable pub fattr : Codec fattr3
 fattr =
-    mapped (ids ⨾ sizes ⨾ times)
+    mapped (ftype ⨾ word ⨾ word ⨾ word ⨾ word ⨾ hyper ⨾ hyper ⨾ specdata ⨾ hyper ⨾ hyper ⨾ nfstime ⨾ nfstime ⨾ nfstime)
     (λ x.
     record {
-      ftype = x .0 .ftype;
-      mode = x .0 .mode;
-      nlink = x .0 .nlink;
-      uid = x .0 .uid;
-      gid = x .0 .gid;
-      size = x .1 .0 .size;
-      used = x .1 .0 .used;
-      rdev = x .1 .0 .rdev;
-      fsid = x .1 .0 .fsid;
-      fileid = x .1 .0 .fileid;
-      atime = x .1 .1 .atime;
-      mtime = x .1 .1 .mtime;
-      ctime = x .1 .1 .ctime;
+      ftype = x .0;
+      mode = x .1 .0;
+      nlink = x .1 .1 .0;
+      uid = x .1 .1 .1 .0;
+      gid = x .1 .1 .1 .1 .0;
+      size = x .1 .1 .1 .1 .1 .0;
+      used = x .1 .1 .1 .1 .1 .1 .0;
+      rdev = x .1 .1 .1 .1 .1 .1 .1 .0;
+      fsid = x .1 .1 .1 .1 .1 .1 .1 .1 .0;
+      fileid = x .1 .1 .1 .1 .1 .1 .1 .1 .1 .0;
+      atime = x .1 .1 .1 .1 .1 .1 .1 .1 .1 .1 .0;
+      mtime = x .1 .1 .1 .1 .1 .1 .1 .1 .1 .1 .1 .0;
+      ctime = x .1 .1 .1 .1 .1 .1 .1 .1 .1 .1 .1 .1;
     })
-    (λ m. (record { ftype = m .ftype; mode = m .mode; nlink = m .nlink; uid = m .uid; gid = m .gid }, (record { size = m .size; used = m .used; rdev = m .rdev; fsid = m .fsid; fileid = m .fileid }, record { atime = m .atime; mtime = m .mtime; ctime = m .ctime })))
+    (λ m. (m .ftype, (m .mode, (m .nlink, (m .uid, (m .gid, (m .size, (m .used, (m .rdev, (m .fsid, (m .fileid, (m .atime, (m .mtime, m .ctime)))))))))))))
     (λ x. refl) (λ m. refl)
 
 -- wcc_attr
@@ -161,33 +141,23 @@ wcc-data =
     mapped (pre-op-attr ⨾ post-op-attr) (λ x. record { before = x .0; after = x .1 }) (λ m. (m .before, m .after))
     (λ x. refl) (λ m. refl)
 
--- fsinfo3: after the attributes, the most, the preferred and the multiple of bytes of a READ, the same of a WRITE, and the rest
-unfoldable pub transfer : Codec Transfer
-transfer =
-    mapped (word ⨾ word-pair) (λ x. record { max = x .0; pref = x .1 .0; mult = x .1 .1 }) (λ m. (m .max, (m .pref, m .mult)))
-    (λ x. refl) (λ m. refl)
-
-unfoldable pub limits : Codec Limits
-limits =
-    mapped (word ⨾ hyper ⨾ nfstime ⨾ word) (λ x. record { dtpref = x .0; maxfilesize = x .1 .0; «time_delta» = x .1 .1 .0; properties = x .1 .1 .1 }) (λ m. (m .dtpref, (m .maxfilesize, (m .«time_delta», m .properties))))
-    (λ x. refl) (λ m. refl)
-
+-- fsinfo3 (FSINFO3resok)
 unfoldable pub fsinfo : Codec fsinfo3
 fsinfo =
-    mapped (post-op-attr ⨾ transfer ⨾ transfer ⨾ limits)
+    mapped (post-op-attr ⨾ word ⨾ word ⨾ word ⨾ word ⨾ word ⨾ word ⨾ word ⨾ hyper ⨾ nfstime ⨾ word)
     (λ x.
     record {
       «obj_attributes» = x .0;
-      rtmax = x .1 .0 .max;
-      rtpref = x .1 .0 .pref;
-      rtmult = x .1 .0 .mult;
-      wtmax = x .1 .1 .0 .max;
-      wtpref = x .1 .1 .0 .pref;
-      wtmult = x .1 .1 .0 .mult;
-      dtpref = x .1 .1 .1 .dtpref;
-      maxfilesize = x .1 .1 .1 .maxfilesize;
-      «time_delta» = x .1 .1 .1 .«time_delta»;
-      properties = x .1 .1 .1 .properties;
+      rtmax = x .1 .0;
+      rtpref = x .1 .1 .0;
+      rtmult = x .1 .1 .1 .0;
+      wtmax = x .1 .1 .1 .1 .0;
+      wtpref = x .1 .1 .1 .1 .1 .0;
+      wtmult = x .1 .1 .1 .1 .1 .1 .0;
+      dtpref = x .1 .1 .1 .1 .1 .1 .1 .0;
+      maxfilesize = x .1 .1 .1 .1 .1 .1 .1 .1 .0;
+      «time_delta» = x .1 .1 .1 .1 .1 .1 .1 .1 .1 .0;
+      properties = x .1 .1 .1 .1 .1 .1 .1 .1 .1 .1;
     })
-    (λ m. (m .«obj_attributes», (record { max = m .rtmax; pref = m .rtpref; mult = m .rtmult }, (record { max = m .wtmax; pref = m .wtpref; mult = m .wtmult }, record { dtpref = m .dtpref; maxfilesize = m .maxfilesize; «time_delta» = m .«time_delta»; properties = m .properties }))))
+    (λ m. (m .«obj_attributes», (m .rtmax, (m .rtpref, (m .rtmult, (m .wtmax, (m .wtpref, (m .wtmult, (m .dtpref, (m .maxfilesize, (m .«time_delta», m .properties)))))))))))
     (λ x. refl) (λ m. refl)

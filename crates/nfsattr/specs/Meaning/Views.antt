@@ -37,21 +37,6 @@ use Rattle.nfsattr.specs.declared.answer.WccDataRead.the-variants as Wcc
 use Rattle.nfsattr.specs.declared.attr.fsinfo3.{fsinfo3}
 use Rattle.nfsattr.specs.declared.answer.Fsinfo3Read.{Fsinfo3Read}
 use Rattle.nfsattr.specs.declared.answer.Fsinfo3Read.the-variants as Fsinfo3
-use Rattle.nfsattr.specs.declared.inner.attr.Ids.{Ids}
-use Rattle.nfsattr.specs.declared.inner.attr.IdsRead.{IdsRead}
-use Rattle.nfsattr.specs.declared.inner.attr.IdsRead.the-variants as Ids·
-use Rattle.nfsattr.specs.declared.inner.attr.Sizes.{Sizes}
-use Rattle.nfsattr.specs.declared.inner.attr.SizesRead.{SizesRead}
-use Rattle.nfsattr.specs.declared.inner.attr.SizesRead.the-variants as Sizes·
-use Rattle.nfsattr.specs.declared.inner.attr.Times.{Times}
-use Rattle.nfsattr.specs.declared.inner.attr.TimesRead.{TimesRead}
-use Rattle.nfsattr.specs.declared.inner.attr.TimesRead.the-variants as Times·
-use Rattle.nfsattr.specs.declared.inner.attr.Transfer.{Transfer}
-use Rattle.nfsattr.specs.declared.inner.attr.TransferRead.{TransferRead}
-use Rattle.nfsattr.specs.declared.inner.attr.TransferRead.the-variants as Transfer·
-use Rattle.nfsattr.specs.declared.inner.attr.Limits.{Limits}
-use Rattle.nfsattr.specs.declared.inner.attr.LimitsRead.{LimitsRead}
-use Rattle.nfsattr.specs.declared.inner.attr.LimitsRead.the-variants as Limits·
 use Rattle.nfsattr.specs.declared.stat.FailFound.{FailFound}
 use Rattle.nfsattr.specs.declared.stat.FailFound.the-variants as fail
 use Rattle.nfsattr.specs.declared.stat.StatFound.{StatFound}
@@ -151,43 +136,3 @@ viewFsinfo3 (Fsinfo3.Took v n p) = took v n p
 abbrev pub lostFsinfo3 : Fsinfo3Read → Refusal
 lostFsinfo3 (Fsinfo3.Refused r) = r
 lostFsinfo3 (Fsinfo3.Took v n p) = PastEnd
-
-abbrev pub viewIds : IdsRead → Answer Ids
-viewIds (Ids·.Refused r) = refused r
-viewIds (Ids·.Took v n) = took v n true
-
-abbrev pub lostIds : IdsRead → Refusal
-lostIds (Ids·.Refused r) = r
-lostIds (Ids·.Took v n) = PastEnd
-
-abbrev pub viewSizes : SizesRead → Answer Sizes
-viewSizes (Sizes·.Refused r) = refused r
-viewSizes (Sizes·.Took v n) = took v n true
-
-abbrev pub lostSizes : SizesRead → Refusal
-lostSizes (Sizes·.Refused r) = r
-lostSizes (Sizes·.Took v n) = PastEnd
-
-abbrev pub viewTimes : TimesRead → Answer Times
-viewTimes (Times·.Refused r) = refused r
-viewTimes (Times·.Took v n) = took v n true
-
-abbrev pub lostTimes : TimesRead → Refusal
-lostTimes (Times·.Refused r) = r
-lostTimes (Times·.Took v n) = PastEnd
-
-abbrev pub viewTransfer : TransferRead → Answer Transfer
-viewTransfer (Transfer·.Refused r) = refused r
-viewTransfer (Transfer·.Took v n) = took v n true
-
-abbrev pub lostTransfer : TransferRead → Refusal
-lostTransfer (Transfer·.Refused r) = r
-lostTransfer (Transfer·.Took v n) = PastEnd
-
-abbrev pub viewLimits : LimitsRead → Answer Limits
-viewLimits (Limits·.Refused r) = refused r
-viewLimits (Limits·.Took v n) = took v n true
-
-abbrev pub lostLimits : LimitsRead → Refusal
-lostLimits (Limits·.Refused r) = r
-lostLimits (Limits·.Took v n) = PastEnd

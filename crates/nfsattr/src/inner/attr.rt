@@ -1,8 +1,10 @@
 // Attributes.
 ghost use mathlib.Core.Path.{_≡_};
-ghost use Rattle.nfsattr.specs.Meaning.Attr.{ftype, specdata, nfstime, ids, sizes, times, fattr, wcc-attr, pre-op-attr, post-op-attr, wcc-data, transfer, limits, fsinfo};
-ghost use Rattle.nfsattr.specs.Meaning.Views.{viewFtype3, viewSpecdata3, viewNfstime3, viewIds, viewSizes, viewTimes, viewFattr3, viewWccAttr, viewPreOpAttr, viewPostOpAttr, viewWccData, viewTransfer, viewLimits, viewFsinfo3};
-ghost use Rattle.nfsattr.specs.Meaning.Views.{lostIds, lostSizes, lostTimes, lostTransfer, lostLimits};
+ghost use Rattle.nfsattr.specs.Meaning.Attr.{ftype, specdata, nfstime, fattr, wcc-attr, pre-op-attr, post-op-attr, wcc-data, fsinfo};
+ghost use Rattle.nfsattr.specs.Laws.Groups.{ids, sizes, times, transfer, limits};
+ghost use Rattle.nfsattr.specs.Meaning.Views.{viewFtype3, viewSpecdata3, viewNfstime3, viewFattr3, viewWccAttr, viewPreOpAttr, viewPostOpAttr, viewWccData, viewFsinfo3};
+ghost use Rattle.nfsattr.specs.Laws.Groups.{viewIds, viewSizes, viewTimes, viewTransfer, viewLimits};
+ghost use Rattle.nfsattr.specs.Laws.Groups.{lostIds, lostSizes, lostTimes, lostTransfer, lostLimits};
 use crate::answer::Fattr3Read;
 use crate::answer::Fsinfo3Read;
 use crate::answer::Ftype3Read;

@@ -2,7 +2,8 @@
 ghost use mathlib.Core.Path.{_≡_};
 ghost use mathlib.Core.List.{_++_};
 ghost use lib.ListN.{length};
-ghost use Rattle.nfsattr.specs.Meaning.Attr.{ftype, specdata, nfstime, ids, sizes, times, fattr, wcc-attr, pre-op-attr, post-op-attr, wcc-data, transfer, limits, fsinfo};
+ghost use Rattle.nfsattr.specs.Meaning.Attr.{ftype, specdata, nfstime, fattr, wcc-attr, pre-op-attr, post-op-attr, wcc-data, fsinfo};
+ghost use Rattle.nfsattr.specs.Laws.Groups.{ids, sizes, times, transfer, limits};
 ghost use Rattle.xdr.specs.Meaning.Public.{laid};
 use crate::attr::fattr3;
 use crate::attr::fileid3;
@@ -23,11 +24,11 @@ use crate::inner::attr::Limits;
 use crate::inner::attr::Sizes;
 use crate::inner::attr::Times;
 use crate::inner::attr::Transfer;
-use crate::put::words::put_u32_three;
-use crate::put::words::put_u32_u64;
 use xdr::inner::put_bool;
 use xdr::inner::put_u32;
 use xdr::inner::put_u32_pair;
+use xdr::inner::put_u32_three;
+use xdr::inner::put_u32_u64;
 use xdr::inner::put_u64;
 use xdr::inner::put_u64_pair;
 

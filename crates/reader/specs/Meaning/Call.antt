@@ -5,14 +5,14 @@ use Rattle.xdr.specs.Meaning.Format.{Format, exactly, _⨟_}
 use Rattle.rpc.specs.Meaning.Messages.{RpcMsg}
 use Rattle.rpc.specs.Meaning.Message.{rpc-msg}
 use Rattle.rpc.specs.declared.message.rpc_msg.{«rpc_msg»}
-use Rattle.nfs.specs.Meaning.Dir.{Entry, diropargs}
+use Rattle.nfs.specs.Meaning.Dir.{Diropargs, diropargs}
 use Rattle.nfs.specs.Meaning.Set.{sattr}
 use Rattle.nfs.specs.declared.dir.diropargs3.{diropargs3}
 use Rattle.nfs.specs.declared.set.sattr3.{sattr3}
 use Rattle.reader.specs.declared.call.MkdirRead.{MkdirRead}
 use Rattle.reader.specs.declared.call.MkdirRead.the-variants.{Refused, Took}
 
-unfoldable pub mkdir : Format (RpcMsg × (Entry × sattr3)) («rpc_msg» × (diropargs3 × sattr3))
+unfoldable pub mkdir : Format (RpcMsg × (Diropargs × sattr3)) («rpc_msg» × (diropargs3 × sattr3))
 mkdir = rpc-msg ⨟ diropargs ⨟ exactly sattr
 
 abbrev pub viewMkdir : MkdirRead → Answer («rpc_msg» × (diropargs3 × sattr3))

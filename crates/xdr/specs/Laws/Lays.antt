@@ -17,12 +17,12 @@ use Rattle.xdr.specs.Meaning.Format.{Format, exactly}
 use Rattle.xdr.specs.Meaning.Order.{roomed}
 use Rattle.xdr.specs.Meaning.Public.{output, Writes, laid, laidOf}
 use Rattle.xdr.specs.Meaning.Views.{viewWrote}
-use Rattle.xdr.specs.Meaning.Items.{hyper, flag}
+use Rattle.xdr.specs.Meaning.Items.{word, hyper, word-pair, flag}
 use Rattle.xdr.specs.Meaning.Formats.{eightBytes, eightHeld}
 use Rattle.xdr.specs.Laws.Padding.{flag-length, eight-length, size-small}
 use Rattle.xdr.specs.Laws.Ranges.{eight-good, eight-bytes}
 use Rattle.xdr.specs.Laws.Room.{room-off, room-laid}
-use Rattle.xdr.specs.Laws.Fixed.{Fixed}
+use Rattle.xdr.specs.Laws.Fixed.{Fixed, word-fixed, hyper-fixed, word-pair-fixed, pair-fixed}
 use Rattle.xdr.specs.Laws.Write.{Ready, laid-short, laid-is, laid-same, lent, lent-first, put-same, lent-of, of-is}
 use Rattle.xdr.specs.Laws.Writers.{room-place, plain-off, plain-on, Writer}
 use Rattle.xdr.specs.Meaning.Pieces.{sizeUpTo}
@@ -86,6 +86,13 @@ module _ {M : Type 0} {k : ℕ} {C : Codec M} (F : Fixed k C) where
         → Writes (exactly C) [] x at o (viewWrote w) (after at o zs)
     fixed-on n zs e f s g z = plain-on C (λ x. omega (arith, F .writes x)) x at o w k n zs (size-is x) e f g z
 
+-- items that stand together
+pub three-size : (a b c : ℕ) → 12 ≡ length (word .kind .write a ++ word-pair .kind .write (b, c))
+three-size a b c = sym (pair-fixed word-fixed word-pair-fixed .writes (a, (b, c)))
+
+pub word-hyper-size : (a b : ℕ) → 12 ≡ length (word .kind .write a ++ hyper .kind .write b)
+word-hyper-size a b = sym (pair-fixed word-fixed hyper-fixed .writes (a, b))
+
 -- eight bytes, held as the number that they write
 module _ (v at : ℕ) (o : List ℕ) (w : Wrote) where
   eight-ready : Ready eightBytes [] v
@@ -105,21 +112,29 @@ module _ (v at : ℕ) (o : List ℕ) (w : Wrote) where
 -- there is room from a place on
 pub ruleset rooms = (needs, room-place)
 
--- sums of sizes do not wrap
-module _ (n k : ℕ) (a : n ≤ 2097152) (b : k ≤ 2097152) where
+-- sums of sizes do not wrap: a size is at most 2^32
+module _ (n k : ℕ) (a : n ≤ 4294967296) (b : k ≤ 4294967296) where
   pub sum-two : Fits w64 (n + k)
   sum-two = omega arith
 
-  pub sum-three : (j : ℕ) → j ≤ 2097152 → Fits w64 (n + k + j)
-  sum-three j c = omega arith
+  module _ (j : ℕ) (c : j ≤ 4294967296) where
+    pub sum-three : Fits w64 (n + k + j)
+    sum-three = omega arith
 
-pub by-length : (n : ℕ) (a : List ℕ) → n ≡ length a → length a ≤ most → n ≤ 2097152
+    module _ (i : ℕ) (d : i ≤ 4294967296) where
+      pub sum-four : Fits w64 (n + k + j + i)
+      sum-four = omega arith
+
+      pub sum-five : (h : ℕ) → h ≤ 4294967296 → Fits w64 (n + k + j + i + h)
+      sum-five h e = omega arith
+
+pub by-length : (n : ℕ) (a : List ℕ) → n ≡ length a → length a ≤ most → n ≤ 4294967296
 by-length n a e h = omega arith
 
-pub by-count : (n a : ℕ) → n ≡ sizeUpTo a → n ≤ 2097152
+pub by-count : (n a : ℕ) → n ≡ sizeUpTo a → n ≤ 4294967296
 by-count n a e = omega (arith, size-small a)
 
-pub ruleset sums = (tt, lit≤, sum-two, sum-three, by-length, by-count)
+pub ruleset sums = (tt, lit≤, sum-two, sum-three, sum-four, sum-five, by-length, by-count)
 
 -- a place behind a field
 pub behind : (i m l : ℕ) → m ≡ l → i + m ≡ i + l

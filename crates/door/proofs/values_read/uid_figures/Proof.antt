@@ -1,9 +1,9 @@
 use borrow.Author.Needs.{needs}
-use Rattle.nfs.specs.Meaning.Set.{uidFrom}
+use Rattle.nfs.specs.Meaning.Change.{setUidFrom}
 use Rattle.door.specs.Meaning.Values.{optionFigures}
 use Rattle.door.specs.Laws.Figures.{at-case}
 use Rattle.door.proofs.values_read.uid_figures.Statement.{statement}
 use Rattle.door.proofs.values_read.uid_figures.Tie as tie
 
 pub uid-figures-spec : {M : Type 1} → statement M
-uid-figures-spec = tie.close (tie.spec (search needs) (search needs) (search needs) (λ c. search (at-case (λ z. optionFigures (uidFrom z)))) (λ c. search (at-case (λ z. optionFigures (uidFrom z)))))
+uid-figures-spec = tie.close (tie.spec (search needs) (search needs) (search needs) (λ c. search (at-case (λ z. optionFigures (setUidFrom z)))) (λ c. search (at-case (λ z. optionFigures (setUidFrom z)))))

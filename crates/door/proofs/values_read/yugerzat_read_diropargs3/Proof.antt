@@ -1,5 +1,5 @@
 use borrow.Author.Needs.{needs}
-use Rattle.nfs.specs.Meaning.Views.{viewDiropargs3}
+use Rattle.nfs.specs.Meaning.Dir.{viewDiropargs3}
 use Rattle.door.specs.Laws.Values.{value-short, value-told}
 use Rattle.door.proofs.values_read.yugerzat_read_diropargs3.Statement.{statement}
 use Rattle.door.proofs.values_read.yugerzat_read_diropargs3.Tie as tie

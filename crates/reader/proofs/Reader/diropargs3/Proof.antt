@@ -11,9 +11,9 @@ use denote.Triple.Spec.{tripleOf}
 use denote.Triple.Table.{entered, cited}
 use Rattle.nfs.specs.Meaning.Dir.{diropargs}
 use Rattle.xdr.specs.Meaning.Public.{Answers}
-use Rattle.nfs.specs.Meaning.Views.{viewDiropargs3 as view}
-use Rattle.nfs.proofs.answer.Diropargs3Read as S
-use Rattle.nfs.proofs.answer.Diropargs3Read.Laws as S′
+use Rattle.nfs.specs.Meaning.Dir.{viewDiropargs3 as view}
+use Rattle.nfs.proofs.dir.Diropargs3Read as S
+use Rattle.nfs.proofs.dir.Diropargs3Read.Laws as S′
 use Rattle.nfs.proofs.read_diropargs3.Symbol as plain
 use Rattle.nfs.proofs.read_diropargs3.Met as plain-thm
 use Rattle.reader.specs.Meaning.Step.{onward, Stepped}

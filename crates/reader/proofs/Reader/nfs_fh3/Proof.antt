@@ -11,9 +11,9 @@ use denote.Triple.Spec.{tripleOf}
 use denote.Triple.Table.{entered, cited}
 use Rattle.nfs.specs.Meaning.Dir.{nfs-fh}
 use Rattle.xdr.specs.Meaning.Public.{Answers}
-use Rattle.nfs.specs.Meaning.Views.{viewNfsFh3 as view}
-use Rattle.nfs.proofs.answer.NfsFh3Read as S
-use Rattle.nfs.proofs.answer.NfsFh3Read.Laws as S′
+use Rattle.nfs.specs.Meaning.Dir.{viewNfsFh3 as view}
+use Rattle.nfs.proofs.dir.NfsFh3Read as S
+use Rattle.nfs.proofs.dir.NfsFh3Read.Laws as S′
 use Rattle.nfs.proofs.read_nfs_fh3.Symbol as plain
 use Rattle.nfs.proofs.read_nfs_fh3.Met as plain-thm
 use Rattle.reader.specs.Meaning.Step.{onward, Stepped}

@@ -3,7 +3,8 @@ use borrow.Author.Needs.{needs}
 use mathlib.Core.Path.{refl}
 use Rattle.xdr.specs.Laws.Answers.{on, off}
 use Rattle.rpc.specs.Meaning.Views.{viewRpcMsg, lostRpcMsg}
-use Rattle.nfs.specs.Meaning.Views.{viewDiropargs3, lostDiropargs3, viewSattr3, lostSattr3}
+use Rattle.nfs.specs.Meaning.Dir.{viewDiropargs3, lostDiropargs3}
+use Rattle.nfs.specs.Meaning.Views.{viewSattr3, lostSattr3}
 use Rattle.reader.proofs.call.joined_of.Statement.{statement}
 use Rattle.reader.proofs.call.joined_of.Tie as tie
 

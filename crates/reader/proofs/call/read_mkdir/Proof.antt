@@ -18,7 +18,8 @@ use Rattle.rpc.specs.Meaning.Message.{rpc-msg}
 use Rattle.rpc.specs.Meaning.Views.{viewRpcMsg}
 use Rattle.nfs.specs.Meaning.Dir.{diropargs}
 use Rattle.nfs.specs.Meaning.Set.{sattr}
-use Rattle.nfs.specs.Meaning.Views.{viewDiropargs3, viewSattr3}
+use Rattle.nfs.specs.Meaning.Dir.{viewDiropargs3}
+use Rattle.nfs.specs.Meaning.Views.{viewSattr3}
 use Rattle.reader.specs.Meaning.Step.{Stepped, joined}
 use Rattle.reader.specs.Meaning.Call.{mkdir, viewMkdir}
 use Rattle.reader.specs.Laws.Call.{mkdir-steps}
@@ -30,8 +31,8 @@ use Rattle.reader.proofs.step.RpcMsgStep as MK
 use Rattle.reader.proofs.step.RpcMsgStep.Laws as MK′
 use Rattle.reader.proofs.Reader.rpc_msg.Symbol as message-def
 use Rattle.reader.proofs.Reader.rpc_msg.Met as message-thm
-use Rattle.nfs.proofs.answer.Diropargs3Read as D
-use Rattle.nfs.proofs.answer.Diropargs3Read.Laws as D′
+use Rattle.nfs.proofs.dir.Diropargs3Read as D
+use Rattle.nfs.proofs.dir.Diropargs3Read.Laws as D′
 use Rattle.reader.proofs.step.Diropargs3Step as DK
 use Rattle.reader.proofs.step.Diropargs3Step.Laws as DK′
 use Rattle.reader.proofs.Reader.diropargs3.Symbol as dirops-def

@@ -1,6 +1,7 @@
 use borrow.Author.Needs.{needs}
 use Rattle.xdr.specs.Laws.Lays.{sums}
-use Rattle.nfs.specs.Laws.Bytes.{set-mode-small, set-uid-small, set-gid-small, owner-size}
+use Rattle.nfs.specs.Laws.Bytes.{owner-size}
+use Rattle.nfs.specs.Laws.Change.{set-mode-small, set-uid-small, set-gid-small}
 use Rattle.nfs.proofs.put.set.owner_size.Statement.{statement}
 use Rattle.nfs.proofs.put.set.owner_size.Tie as tie
 

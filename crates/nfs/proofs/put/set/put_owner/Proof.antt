@@ -1,6 +1,7 @@
 use borrow.Author.Needs.{needs}
 use Rattle.xdr.specs.Laws.Lays.{lays, lay-three, sums, behind}
-use Rattle.nfs.specs.Laws.Bytes.{set-mode-small, set-uid-small, set-gid-small, owner-size, owner-bytes}
+use Rattle.nfs.specs.Laws.Bytes.{owner-size, owner-bytes}
+use Rattle.nfs.specs.Laws.Change.{set-mode-small, set-uid-small, set-gid-small}
 use Rattle.nfs.proofs.put.set.put_owner.Statement.{statement}
 use Rattle.nfs.proofs.put.set.put_owner.Tie as tie
 

@@ -1,6 +1,6 @@
 use borrow.Author.Needs.{needs}
 use Rattle.xdr.specs.Laws.Records.{by-plan}
-use Rattle.nfsattr.specs.Meaning.Attr.{ids}
+use Rattle.nfsattr.specs.Laws.Groups.{ids}
 use Rattle.nfsattr.specs.Laws.Plans.{ids-plan, attr-asks}
 use Rattle.nfsattr.proofs.inner.attr.ids_at.Statement.{statement}
 use Rattle.nfsattr.proofs.inner.attr.ids_at.Tie as tie

@@ -1,6 +1,6 @@
 use borrow.Author.Needs.{needs}
 use Rattle.xdr.specs.Laws.Records.{by-plan}
-use Rattle.nfsattr.specs.Meaning.Attr.{limits}
+use Rattle.nfsattr.specs.Laws.Groups.{limits}
 use Rattle.nfsattr.specs.Laws.Plans.{limits-plan, attr-asks}
 use Rattle.nfsattr.proofs.inner.attr.limits_at.Statement.{statement}
 use Rattle.nfsattr.proofs.inner.attr.limits_at.Tie as tie

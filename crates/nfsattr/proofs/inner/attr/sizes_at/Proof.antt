@@ -1,6 +1,6 @@
 use borrow.Author.Needs.{needs}
 use Rattle.xdr.specs.Laws.Records.{by-plan}
-use Rattle.nfsattr.specs.Meaning.Attr.{sizes}
+use Rattle.nfsattr.specs.Laws.Groups.{sizes}
 use Rattle.nfsattr.specs.Laws.Plans.{sizes-plan, attr-asks}
 use Rattle.nfsattr.proofs.inner.attr.sizes_at.Statement.{statement}
 use Rattle.nfsattr.proofs.inner.attr.sizes_at.Tie as tie

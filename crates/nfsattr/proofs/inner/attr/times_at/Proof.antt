@@ -1,6 +1,6 @@
 use borrow.Author.Needs.{needs}
 use Rattle.xdr.specs.Laws.Records.{by-plan}
-use Rattle.nfsattr.specs.Meaning.Attr.{times}
+use Rattle.nfsattr.specs.Laws.Groups.{times}
 use Rattle.nfsattr.specs.Laws.Plans.{times-plan, attr-asks}
 use Rattle.nfsattr.proofs.inner.attr.times_at.Statement.{statement}
 use Rattle.nfsattr.proofs.inner.attr.times_at.Tie as tie

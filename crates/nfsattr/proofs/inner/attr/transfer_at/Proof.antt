@@ -1,6 +1,6 @@
 use borrow.Author.Needs.{needs}
 use Rattle.xdr.specs.Laws.Records.{by-plan}
-use Rattle.nfsattr.specs.Meaning.Attr.{transfer}
+use Rattle.nfsattr.specs.Laws.Groups.{transfer}
 use Rattle.nfsattr.specs.Laws.Plans.{transfer-plan, attr-asks}
 use Rattle.nfsattr.proofs.inner.attr.transfer_at.Statement.{statement}
 use Rattle.nfsattr.proofs.inner.attr.transfer_at.Tie as tie

@@ -1,7 +1,6 @@
 use borrow.Author.Needs.{needs}
-use Rattle.xdr.specs.Laws.Lays.{lays, size-is}
+use Rattle.xdr.specs.Laws.Lays.{lays, size-is, word-hyper-size}
 use Rattle.nfsattr.specs.Laws.Sizes.{limits-fixed}
-use Rattle.nfsattr.specs.Laws.Words.{word-hyper-size}
 use Rattle.nfsattr.specs.Laws.Bytes.{limits-bytes}
 use Rattle.nfsattr.proofs.put.attr.put_limits.Statement.{statement}
 use Rattle.nfsattr.proofs.put.attr.put_limits.Tie as tie

@@ -1,7 +1,7 @@
 use borrow.Author.Needs.{needs}
 use Rattle.xdr.specs.Laws.Lays.{lays}
 use Rattle.nfsattr.specs.Laws.Sizes.{fattr-fixed}
-use Rattle.nfsattr.specs.Laws.Write.{some-size, none-bytes, some-bytes}
+use Rattle.xdr.specs.Laws.Optional.{some-size, none-bytes, some-bytes}
 use Rattle.nfsattr.specs.Laws.Bytes.{post-optional}
 use Rattle.nfsattr.proofs.put.attr.put_post_op_attr.Statement.{statement}
 use Rattle.nfsattr.proofs.put.attr.put_post_op_attr.Tie as tie

@@ -1,7 +1,7 @@
 use borrow.Author.Needs.{needs}
 use Rattle.xdr.specs.Laws.Lays.{lays}
 use Rattle.nfsattr.specs.Laws.Sizes.{wcc-attr-fixed}
-use Rattle.nfsattr.specs.Laws.Write.{some-size, none-bytes, some-bytes}
+use Rattle.xdr.specs.Laws.Optional.{some-size, none-bytes, some-bytes}
 use Rattle.nfsattr.specs.Laws.Bytes.{pre-optional}
 use Rattle.nfsattr.proofs.put.attr.put_pre_op_attr.Statement.{statement}
 use Rattle.nfsattr.proofs.put.attr.put_pre_op_attr.Tie as tie

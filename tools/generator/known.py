@@ -1,0 +1,179 @@
+"""What the text of a kind says of the kinds of its fields, and where each name that it uses is declared."""
+
+import re
+from dataclasses import dataclass
+
+# Words of the specifications' language, which a name there may not be.
+RESERVED = {"abbrev", "as", "data", "in", "let", "mod", "module", "pub", "record", "ruleset", "use", "where"}
+
+
+def escaped(name):
+    """A name of the code, as the specifications write it."""
+    return f"«{name}»" if "_" in name or name in RESERVED else name
+
+
+def camel(name):
+    return "".join(part[:1].upper() + part[1:] for part in re.split("[_-]", name))
+
+
+@dataclass(frozen=True)
+class Known:
+    """A kind, as one sees it that has it for a field."""
+
+    name: str
+    type: str  # of the code
+    answer: str
+    plain: bool  # its answer says whether the reading is plain
+    codec: bool  # the code holds the message itself; else it holds something in place of bytes
+    meaning: str
+    message: str  # the type of its message, in the specifications
+    held: str  # the type of what the code holds, there
+    fixed: int  # how many bytes every one has, or 0
+    good: str  # the law that every value of the type is in range
+    least: int = 0  # if the bytes vary: from how many
+    most: int = 0  # to how many
+
+    @property
+    def format(self):
+        return f"exactly {self.meaning}" if self.codec else self.meaning
+
+    @property
+    def reader(self):
+        return f"{self.name}_at"
+
+    @property
+    def writer(self):
+        """The law that says how many bytes are written."""
+        if self.fixed:
+            return f"(fixed-writer {self.meaning}-fixed)"
+        if self.codec:
+            return f"(codec-writer {self.meaning})"
+        return f"{self.meaning}-writer"
+
+    @property
+    def bound(self):
+        """The law that its size is no large number."""
+        if self.fixed or self.name == "opaque":
+            return ""
+        return f"{self.meaning}-small" if self.codec else f"{self.meaning}-most"
+
+    @property
+    def steps(self):
+        """The steps of a plan; those of items are in the plans' own rule set."""
+        return () if self.name in ITEMS else (f"step-{self.meaning}", f"lost-{self.meaning}")
+
+    @property
+    def within(self):
+        return "opaque-within" if self.name == "opaque" else f"{self.meaning}-within"
+
+    def size_of(self, value):
+        """The code that says how many bytes a value has."""
+        if self.name in ITEMS and self.fixed:
+            return str(self.fixed)
+        if self.fixed:
+            return f"{self.type}::SIZE"
+        return f"opaque_size({value}.count)" if self.name == "opaque" else f"{self.name}_size({value})"
+
+    def inside_of(self, value):
+        return f"inside(src, {value})" if self.name == "opaque" else f"{self.name}_inside(src, {value})"
+
+    def put_of(self, value, out):
+        return f"put_{self.name}({value}, {out})" if self.codec else f"put_{self.name}(src, {value}, {out})"
+
+
+ITEMS = {
+    "u32": Known("u32", "u32", "U32Read", False, True, "word", "ℕ", "ℕ", 4, "word-good"),
+    "u64": Known("u64", "u64", "U64Read", False, True, "hyper", "ℕ", "ℕ", 8, "hyper-good"),
+    "bool": Known("bool", "bool", "BoolRead", True, True, "flag", "Bool", "Bool", 4, "flag-good"),
+    "opaque": Known("opaque", "Piece", "PieceRead", True, False, "bytes", "List ℕ", "Piece", 0, "piece-good", 4, 1 << 21),
+}
+
+# Where the names stand that every text may use.
+XDR = "Rattle.xdr.specs."
+SPECS = {
+    "mathlib.Core.Path": "≡ refl sym ap ap₂ ∙",
+    "mathlib.Core.Bool": "Bool true false && and-true",
+    "mathlib.Core.Option": "Option none some",
+    "mathlib.Core.List": "List [] ∷",
+    "Prim.Native.Nat": "ℕ + ≤",
+    "native.Mathlib.Omega": "arith",
+    "lib.ListN": "length",
+    "mir.Val": "Val",
+    "denote.Laws": "Is",
+    "borrow.Author.Needs": "needs",
+    XDR + "Meaning.Answer": "Answer took refused most Written",
+    XDR + "Meaning.Bytes": "Bytes",
+    XDR + "Meaning.Kind": "Codec",
+    XDR + "Meaning.Combinators": "Seen means undeclared among",
+    XDR + "Meaning.Codecs": "⨾ mapped",
+    XDR + "Meaning.Items": "word hyper flag closed",
+    XDR + "Meaning.Format": "Format Renaming exactly ⨟ named optional flagged ifFormat",
+    XDR + "Meaning.Formats": "bytes pieceHeld",
+    XDR + "Meaning.Cases": "Cases maybe maybeHeld caseNames",
+    XDR + "Meaning.Pieces": "isInside sizeUpTo",
+    XDR + "Meaning.Sizes": "OfSize",
+    XDR + "Meaning.Public": "Answers Writes output laid laidOf",
+    XDR + "Meaning.Views": "viewWrote",
+    XDR + "Laws.Padding": "size-small",
+    XDR + "Laws.Pieces": "piece-good",
+    XDR + "Laws.Ranges": "word-good hyper-good flag-good",
+    XDR + "Laws.Closed": "by-number",
+    XDR + "Laws.Fixed": "Fixed word-fixed hyper-fixed flag-fixed pair-fixed seen-fixed of-size",
+    XDR + "Laws.One": "Told",
+    XDR + "Laws.Plans": "Planned planned plan at then next Step Loses step lost-at asks optionally reads",
+    XDR + "Laws.Records": "ByPlan by-plan fields one",
+    XDR + "Laws.Tags": "tag-lost tag-none tag-is",
+    XDR + "Laws.Numbers": "found-at found-none numbered",
+    XDR + "Laws.Lengths": "Within void-within chain-within pair-within view-within mapped-within closed-within no-default word-within hyper-within flag-within opaque-within",
+    XDR + "Laws.Write": "Ready of-long",
+    XDR + "Laws.Writers": "Writer bytes-writer put-outside put-short write-off write-place write-on plain-off plain-on",
+    XDR + "Laws.Lays": "sums lays rooms size-is fixed-off fixed-on",
+    XDR + "Laws.Fields": "fixed-writer codec-writer pair-writer pair-sized named-sized Lays lays-of lays-codec lays-none lays-both lays-named lays-all lays-plain marked",
+    XDR + "Laws.Optional": "Between maybe-plan maybe-between maybe-within held-within Optional OptionalHeld lays-void lays-value none-bytes none-size some-word some-hyper some-size option-writer optionSize void-inside value-inside held-void held-value held-sized void-size value-size",
+    XDR + "declared.piece.Piece": "Piece",
+    XDR + "declared.refusal.Refusal": "Refusal",
+    XDR + "declared.refusal.Refusal.the-variants": "PastEnd",
+}
+CODE = {
+    "xdr": "MOST Piece PieceRead BoolRead U32Read U64Read Refusal Wrote inside write_u32",
+    "xdr::inner": "u32_at u64_at bool_at opaque_at opaque_size put_u32 put_u64 put_u32_pair put_u32_u64 put_bool put_opaque",
+    "xdr::order": "Opening open_at place room",
+}
+
+
+class Words:
+    """The names that are declared somewhere, and the lines that bring them."""
+
+    def __init__(self):
+        self.specs = {name: module for module, names in SPECS.items() for name in names.split()}
+        self.code = {name: f"{path}::{name}" for path, names in CODE.items() for name in names.split()}
+
+    def spec_lines(self, text, own=(), ghost=False):
+        """`use` lines for the names of a text, in the order of the list above, and then of the crates."""
+        found = {}
+        for name in spec_names(text):
+            if name in self.specs and name not in own and not (ghost and name in PARAMETERS):
+                found.setdefault(self.specs[name], []).append(operator(name))
+        order = list(SPECS)
+        modules = sorted(found, key=lambda module: (order.index(module) if module in order else len(order), module))
+        start, end = ("ghost use ", ";") if ghost else ("use ", "")
+        return [f"{start}{module}.{{{', '.join(found[module])}}}{end}" for module in modules]
+
+    def code_lines(self, text, own=()):
+        names = [name for name in dict.fromkeys(re.findall(r"[A-Za-z_]\w*", text)) if name in self.code and name not in own]
+        return sorted(f"use {self.code[name]};" for name in names)
+
+
+# What the contracts call the parameters of a function.
+PARAMETERS = {"at", "out", "src", "self", "f", "r", "v", "x"}
+
+
+def operator(name):
+    return f"_{name}_" if name in {"≡", "∙", "&&", "∷", "+", "≤", "⨾", "⨟", "then", "next"} else name
+
+
+def spec_names(text):
+    """The names that a text of the specifications uses, in order: not the fields and cases that stand behind a dot."""
+    text = re.sub(r"--.*", "", text)
+    text = re.sub(r"\.(?=[«\w])[«\w′·-]+»?", " ", text)
+    return list(dict.fromkeys(re.findall(r"[^\s(){};,.]+", text)))

@@ -1,0 +1,173 @@
+"""The declarations of a topic, in the language of RFC 4506, section 6: as much of it as the kinds need."""
+
+import re
+from dataclasses import dataclass
+
+from generator.table import Trouble, read_text
+
+TOKEN = re.compile(r"/\*.*?\*/|[A-Za-z_]\w*|-?\d+|[{}\[\]<>();:,=*]|\S", re.S)
+
+# RFC 4506's words for the items, and the names that kinds.txt has for them.
+ITEMS = {
+    ("unsigned", "int"): "u32",
+    ("unsigned", "hyper"): "u64",
+    ("uint32",): "u32",
+    ("uint64",): "u64",
+    ("bool",): "bool",
+}
+
+
+@dataclass(frozen=True)
+class Field:
+    type: str  # an item, `opaque`, or the name of a type
+    name: str
+
+
+@dataclass(frozen=True)
+class Declared:
+    """What a file declares: an alias, an enumeration, a record, or a value that a flag says is there."""
+
+    shape: str  # alias, enum, struct or optional
+    name: str
+    parts: tuple  # of an enumeration: (name, number); otherwise fields
+    comment: str
+
+
+@dataclass(frozen=True)
+class Topic:
+    crate: str
+    name: str
+    path: str  # of the declarations, from the root
+    head: str  # the first comment of the file
+    declared: tuple
+
+
+class Reader:
+    """Tokens of one file, taken one after another."""
+
+    def __init__(self, text, path):
+        self.path = path
+        self.tokens = [(m.group(), text.count("\n", 0, m.start()) + 1) for m in TOKEN.finditer(text)]
+        self.at = 0
+        self.comment = ""
+
+    def trouble(self, why):
+        line = self.tokens[min(self.at, len(self.tokens) - 1)][1] if self.tokens else 1
+        return Trouble(f"{self.path}:{line}: {why}")
+
+    def peek(self):
+        while self.at < len(self.tokens) and self.tokens[self.at][0].startswith("/*"):
+            self.comment = words(self.tokens[self.at][0])
+            self.at += 1
+        return self.tokens[self.at][0] if self.at < len(self.tokens) else ""
+
+    def take(self, *wanted):
+        token = self.peek()
+        if wanted and token not in wanted:
+            raise self.trouble(f"`{' or '.join(wanted)}` is to stand here, and not `{token or 'the end'}`")
+        self.at += 1
+        return token
+
+    def word(self):
+        token = self.take()
+        if not re.fullmatch(r"[A-Za-z_]\w*", token):
+            raise self.trouble(f"a name is to stand here, and not `{token}`")
+        return token
+
+    def number(self):
+        token = self.take()
+        if not token.isdigit() or int(token) >= 1 << 32:
+            raise self.trouble(f"a number of 32 bits is to stand here, and not `{token}`")
+        return int(token)
+
+
+def words(comment):
+    return " ".join(comment.strip("/*").split())
+
+
+def read_topic(root, path):
+    """The topic that a file declares."""
+    place = str(path.relative_to(root))
+    reader = Reader(read_text(path, root), place)
+    if not reader.tokens or not reader.tokens[0][0].startswith("/*"):
+        raise reader.trouble("a file of declarations begins with a comment: what they are, and of which RFC")
+    head = words(reader.tokens.pop(0)[0])
+    declared = []
+    while reader.peek():
+        declared.append(declaration(reader))
+        reader.comment = ""
+    names = [one.name for one in declared]
+    for name in names:
+        if names.count(name) > 1:
+            raise Trouble(f"{place}: {name} is declared twice")
+    return Topic(path.parent.parent.name, path.stem, place, head, tuple(declared))
+
+
+def declaration(reader):
+    kind = reader.take("typedef", "enum", "struct", "union")
+    comment = reader.comment
+    if kind == "typedef":
+        field = read_field(reader)
+        return Declared("alias", field.name, (field,), comment)
+    name = reader.word()
+    if kind == "enum":
+        parts = read_cases(reader)
+    elif kind == "struct":
+        parts = read_fields(reader)
+    else:
+        parts = (read_optional(reader),)
+    reader.take(";")
+    return Declared({"union": "optional"}.get(kind, kind), name, tuple(parts), comment)
+
+
+def read_cases(reader):
+    reader.take("{")
+    cases = []
+    while True:
+        name = reader.word()
+        reader.take("=")
+        cases.append((name, reader.number()))
+        if reader.take(",", "}") == "}":
+            return cases
+
+
+def read_fields(reader):
+    reader.take("{")
+    fields = []
+    while reader.peek() != "}":
+        fields.append(read_field(reader))
+    reader.take("}")
+    return fields
+
+
+def read_optional(reader):
+    """A union on a flag whose FALSE has nothing: the only union so far."""
+    for token in ("switch", "(", "bool"):
+        reader.take(token)
+    reader.word()
+    for token in (")", "{", "case", "TRUE", ":"):
+        reader.take(token)
+    field = read_field(reader)
+    if reader.take("case", "default") == "case":
+        reader.take("FALSE")
+    for token in (":", "void", ";", "}"):
+        reader.take(token)
+    return field
+
+
+def read_field(reader):
+    """A type and a name. A bound on a length is read and set aside: docs/SCOPE.md, tolerance 7."""
+    first = reader.word()
+    if first == "unsigned":
+        first = ITEMS[("unsigned", reader.take("int", "hyper"))]
+    elif (first,) in ITEMS:
+        first = ITEMS[(first,)]
+    name = reader.word()
+    if first in ("opaque", "string"):
+        first = "opaque"
+        reader.take("<")
+        if reader.peek() != ">":
+            reader.take()
+        reader.take(">")
+    reader.take(";")
+    return Field(first, name)
