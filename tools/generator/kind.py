@@ -1,4 +1,4 @@
-"""What the text of every kind has that a topic declares: the answer, the public functions, and what follows of them."""
+"""The text that every declared kind has: its answer, its public functions, and what follows from them."""
 
 from generator.known import camel, escaped
 
@@ -50,7 +50,7 @@ def most_of(field):
 
 
 class Kind:
-    """A kind of a topic. A shape says what is its own: see below."""
+    """A kind that a topic declares. Its shape (record, optional value, enumeration) adds the text of its own."""
 
     def __init__(self, declared, meaning, topic):
         self.declared = declared

@@ -15,6 +15,9 @@ from generator.table import Trouble, read_table, read_text
 
 HEADER = "made by tools/generate from "
 
+# Eight fixed bytes, which the code holds as a number. A field of theirs would be taken for a hyper, which the RFC does not say.
+VERIFIERS = {"cookieverf3", "createverf3", "writeverf3"}
+
 
 def outputs(root):
     """What is made of every topic: (path, text) for a whole file, (path, name, text) for a region."""
@@ -134,6 +137,8 @@ class Library:
 
     def kind_of(self, type, topic):
         """The kind that a field of a type has."""
+        if type in VERIFIERS:
+            raise Trouble(f"{topic.path}: {type} is eight fixed bytes, which cannot be declared yet")
         while type in self.aliases:
             type = self.aliases[type]
         if type not in self.known:
