@@ -3,7 +3,7 @@
 use mathlib.Core.Path.{_≡_, refl, sym, ap, ap₂, _∙_}
 use mathlib.Core.Bool.{Bool, true, false, not, _&&_, and-true}
 use mathlib.Core.List.{List, [], _++_}
-use Prim.Native.Nat.{ℕ, _+_, _-_, _≤_, _<_}
+use Prim.Native.Nat.{ℕ, _+_, _≤_, _<_}
 use native.Mathlib.Omega.{arith}
 use lib.ListN.{length, drop, length-append}
 use Rattle.xdr.specs.Meaning.Answer.{took, most}
@@ -14,7 +14,7 @@ use Rattle.xdr.specs.Laws.Marks.{and-left, and-right}
 use Rattle.xdr.specs.Laws.Plans.{run, give}
 use Rattle.xdr.specs.Laws.Fixed.{Fixed}
 use Rattle.xdr.specs.Laws.LayPieces.{yes}
-use Rattle.xdr.specs.Laws.Write.{Put, Ready, no-pieces, put-same, put-laid, put-laid-of, field, first, room, start, laid-is, of-is}
+use Rattle.xdr.specs.Laws.Write.{Put, Ready, no-pieces, put-laid, put-laid-of, field, first, room, start, laid-is, of-is}
 use Rattle.xdr.specs.Laws.Writers.{Writer}
 use Rattle.xdr.specs.Laws.Lays.{after, tailOf}
 

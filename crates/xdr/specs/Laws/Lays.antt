@@ -1,7 +1,7 @@
 -- What a writer of bytes leaves, in the shape of its goals, so that `search` closes each: the facts are those of its tests and of its calls.
 -- Assumes nothing.
 use mathlib.Core.Path.{_≡_, refl, sym, ap, subst, _∙_}
-use mathlib.Core.Bool.{Bool, true, false, not}
+use mathlib.Core.Bool.{Bool}
 use mathlib.Core.List.{List, [], _++_}
 use Prim.Native.Nat.{ℕ, _+_, _-_, _≤_, _<_}
 use native.Mathlib.Omega.{arith}
@@ -13,9 +13,9 @@ use borrow.Author.Needs.{needs}
 use borrow.Rule.Slice.PartMut.{midOf, putMid}
 use Rattle.xdr.specs.Meaning.Answer.{most}
 use Rattle.xdr.specs.Meaning.Kind.{Codec}
-use Rattle.xdr.specs.Meaning.Format.{Format, exactly}
+use Rattle.xdr.specs.Meaning.Format.{exactly}
 use Rattle.xdr.specs.Meaning.Order.{roomed}
-use Rattle.xdr.specs.Meaning.Public.{output, Writes, laid, laidOf}
+use Rattle.xdr.specs.Meaning.Public.{Writes, laid}
 use Rattle.xdr.specs.Meaning.Views.{viewWrote}
 use Rattle.xdr.specs.Meaning.Items.{word, hyper, word-pair, flag}
 use Rattle.xdr.specs.Meaning.Formats.{eightBytes, eightHeld}
@@ -23,10 +23,9 @@ use Rattle.xdr.specs.Laws.Padding.{flag-length, eight-length, size-small
 use Rattle.xdr.specs.Laws.Ranges.{eight-good, eight-bytes}
 use Rattle.xdr.specs.Laws.Room.{room-off, room-laid}
 use Rattle.xdr.specs.Laws.Fixed.{Fixed, word-fixed, hyper-fixed, word-pair-fixed, pair-fixed}
-use Rattle.xdr.specs.Laws.Write.{Ready, laid-short, laid-is, laid-same, lent, lent-first, put-same, lent-of, of-is}
-use Rattle.xdr.specs.Laws.Writers.{room-place, plain-off, plain-on, Writer}
+use Rattle.xdr.specs.Laws.Write.{Ready, laid-short, laid-is, laid-same, lent, lent-first}
+use Rattle.xdr.specs.Laws.Writers.{room-place, plain-off, plain-on}
 use Rattle.xdr.specs.Meaning.Pieces.{sizeUpTo}
-use Rattle.xdr.specs.Laws.LayPieces.{yes}
 use Rattle.xdr.specs.declared.answer.Wrote.{Wrote}
 use Rattle.xdr.specs.declared.answer.Wrote.the-variants as wrote
 use Rattle.xdr.specs.declared.refusal.Refusal.{Refusal}
@@ -139,22 +138,3 @@ pub ruleset sums = (tt, lit≤, sum-two, sum-three, sum-four, sum-five, by-lengt
 -- a place behind a field
 pub behind : (i m l : ℕ) → m ≡ l → i + m ≡ i + l
 behind i m l e = ap (λ m. i + m) e
-
--- a message whose first part has no pieces, and its second laid behind that
-pub record Front {M S N M₂ S₂ : Type 0} {F : Format M S} {F₂ : Format M₂ S₂} (C : Codec N) (W : Writer F) (W₂ : Writer F₂) : Type 0 where
-  pub left : S → N
-  pub right : S → S₂
-  pub in-right : (s : List ℕ) (x : S) → F .held .inside s x ≡ true → F₂ .held .inside s (right x) ≡ true
-  pub bytes : (s : List ℕ) (x : S) → C .kind .write (left x) ++ output F₂ s (right x) ≡ output F s x
-
-module _ {M S N M₂ S₂ : Type 0} {F : Format M S} {F₂ : Format M₂ S₂} {C : Codec N} {W : Writer F} {W₂ : Writer F₂} (T : Front C W W₂) (s : List ℕ) (x : S) (o zs₁ zs₂ : List ℕ) (i : Bool) (m n : ℕ) where
-  pub put-front : length s ≤ most → i ≡ F .held .inside s x → not i ≡ false → m ≡ W .size x → m ≤ length o → n ≡ length (C .kind .write (T .left x))
-      → zs₁ ≡ laid (C .kind .write (T .left x)) (tailOf 0 o) → zs₂ ≡ laidOf F₂ s (T .right x) (tailOf n (after 0 o zs₁)) → after n (after 0 o zs₁) zs₂ ≡ laidOf F s x o
-  put-front h e t g l k a b =
-      let r : Ready F s x = record { short = h; inside = yes e t } in
-      let r₂ : Ready F₂ s (T .right x) = record { short = h; inside = T .in-right s x (yes e t) } in
-      let l₂ = W₂ .sized s (T .right x) r₂ in
-      let whole : length (C .kind .write (T .left x)) + length (output F₂ s (T .right x)) ≡ m =
-      sym (length-append (C .kind .write (T .left x)) (output F₂ s (T .right x))) ∙ ap length (T .bytes s x) ∙ W .sized s x r ∙ sym g in
-      of-is F s x o r (omega (arith, whole, k, l₂))
-      (put-same (T .bytes s x) (lent-of F₂ s (T .right x) r₂ (lent-first (C .kind .write (T .left x)) (omega (arith, whole, k, l₂)) (sym k) a) (omega (arith, whole, k, l₂)) l₂ b))

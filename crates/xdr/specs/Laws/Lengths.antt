@@ -13,7 +13,7 @@ use Rattle.xdr.specs.Meaning.Kind.{Kind, Lawful, Codec}
 use Rattle.xdr.specs.Meaning.Promise.{used, NoLonger}
 use Rattle.xdr.specs.Meaning.Combinators.{blockKind, voidKind, chainKind, means, Faithful, View, viewKind, itemKind, among}
 use Rattle.xdr.specs.Meaning.Codecs.{chain, mapped, times}
-use Rattle.xdr.specs.Meaning.Items.{number, word, hyper, word-pair, hyper-pair, flag, fromFlag, int, long, eight, opaque, words, closed, if, option}
+use Rattle.xdr.specs.Meaning.Items.{number, word, hyper, flag, fromFlag, int, long, eight, opaque, words, closed, if, option}
 use Rattle.xdr.specs.Meaning.Pieces.{opaqueSize}
 use Rattle.xdr.specs.Meaning.Format.{Format}
 use Rattle.xdr.specs.Meaning.Public.{Took, rewritten}
@@ -171,22 +171,6 @@ hyper-lengths = number-lengths 8
 pub hyper-within : Within 0 (hyper .kind)
 unfolding hyper
 hyper-within = number-within 8
-
-pub word-pair-lengths : Lengths 8 8 (word-pair .kind)
-unfolding word-pair
-word-pair-lengths = pair-lengths word-lengths word-lengths
-
-pub word-pair-within : Within 0 (word-pair .kind)
-unfolding word-pair
-word-pair-within = pair-within word-within word-within
-
-pub hyper-pair-lengths : Lengths 16 16 (hyper-pair .kind)
-unfolding hyper-pair
-hyper-pair-lengths = pair-lengths hyper-lengths hyper-lengths
-
-pub hyper-pair-within : Within 0 (hyper-pair .kind)
-unfolding hyper-pair
-hyper-pair-within = pair-within hyper-within hyper-within
 
 pub flag-lengths : Lengths 4 4 (flag .kind)
 unfolding flag

@@ -160,11 +160,8 @@ module _ {M S T : Type 0} {F : Format M S} {U : Cases S T} {G : Format (Option M
 module _ {M S T : Type 0} {F : Format M S} {U : Cases S T} {G : Format (Option M) T} (O : OptionalHeld F U G) (A : Writer F) where
   pub held-sized : (s : List ℕ) (x : T) → Ready G s x → length (output G s x) ≡ optionSize A (U .from x)
   held-sized s x r =
-      let e : x ≡ U .to (U .from x) = held-sized-by in
+      let e : x ≡ U .to (U .from x) = sym (U .to-from x) in
       ap length (sym (is-output O s x (U .from x) e)) ∙ option-sized A s (U .from x) (record { short = r .short; inside = is-inside O s x (U .from x) e ∙ r .inside })
-    where
-      held-sized-by : x ≡ U .to (U .from x)
-      held-sized-by = sym (U .to-from x)
 
   pub void-size : (x : T) → x ≡ U .to none → 4 ≡ optionSize A (U .from x)
   void-size x e = sym (ap (optionSize A) (ap (U .from) e ∙ U .from-to none))

@@ -8,7 +8,7 @@ use lib.IntN.{ℤ, pos, negsuc}
 use mir.Syntax.{w32, w64}
 use mir.Val.{SFits}
 use Rattle.xdr.specs.Meaning.Bytes.{digits}
-use Rattle.xdr.specs.Meaning.Items.{number, word, hyper, word-pair, hyper-pair, flag, int, long, eight}
+use Rattle.xdr.specs.Meaning.Items.{number, word, hyper, flag, int, long, eight}
 use Rattle.xdr.specs.Laws.Digits.{digits-bytes, length-digits, value-digits}
 
 pub word-good : (v : ℕ) → v < 4294967296 → word .kind .Good v
@@ -18,14 +18,6 @@ word-good v h = h
 pub hyper-good : (v : ℕ) → v < 18446744073709551616 → hyper .kind .Good v
 unfolding hyper number
 hyper-good v h = h
-
-pub word-pair-good : (a b : ℕ) → a < 4294967296 → b < 4294967296 → word-pair .kind .Good (a, b)
-unfolding word-pair word number
-word-pair-good a b g h = (g, h)
-
-pub hyper-pair-good : (a b : ℕ) → a < 18446744073709551616 → b < 18446744073709551616 → hyper-pair .kind .Good (a, b)
-unfolding hyper-pair hyper number
-hyper-pair-good a b g h = (g, h)
 
 pub flag-good : (v : Bool) → flag .kind .Good v
 unfolding flag word number

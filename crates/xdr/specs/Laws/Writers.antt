@@ -2,9 +2,9 @@
 -- Assumes nothing.
 use mathlib.Core.Path.{_≡_, refl, sym, ap, _∙_}
 use mathlib.Core.Bool.{Bool, true, false, not}
-use mathlib.Core.List.{List, [], _++_}
-use Prim.Native.Nat.{ℕ, _+_, _-_, _≤_, _<_}
-use lib.ListN.{length, getD, length-append}
+use mathlib.Core.List.{List, []}
+use Prim.Native.Nat.{ℕ, _-_, _≤_, _<_}
+use lib.ListN.{length, getD}
 use mir.Syntax.{w8}
 use mir.Val.{Fits}
 use borrow.Rule.Slice.PartMut.{midOf, putMid}
@@ -17,7 +17,7 @@ use Rattle.xdr.specs.Meaning.Format.{Format, exactly}
 use Rattle.xdr.specs.Meaning.Public.{output, Writes, laid, laidOf}
 use Rattle.xdr.specs.Meaning.Views.{viewWrote}
 use Rattle.xdr.specs.Laws.Lists.{known-bytes}
-use Rattle.xdr.specs.Laws.Write.{Ready, no-pieces, put-same, lent-of, lent-of-first, of-outside, of-short, of-is}
+use Rattle.xdr.specs.Laws.Write.{Ready, no-pieces, of-outside, of-short}
 use Rattle.xdr.specs.Laws.LayPieces.{yes, no, bytes-size}
 use Rattle.xdr.specs.Meaning.Formats.{bytes, pieceHeld, wordList, wordsHeld}
 use Rattle.xdr.specs.Meaning.Pieces.{sizeUpTo, wordsUpTo}
@@ -84,31 +84,6 @@ module _ {M S : Type 0} {F : Format M S} (W : Writer F) (s : List ℕ) (x : S) (
   pub put-short : length s ≤ most → i ≡ F .held .inside s x → not i ≡ false → m ≡ W .size x → length o < m → o ≡ laidOf F s x o
   put-short h e t g l =
       let r : Ready F s x = record { short = h; inside = yes e t } in of-short F s x o r (omega (arith, W .sized s x r))
-
--- a message of two parts, one laid behind the other
-pub record Two {M S M₁ S₁ M₂ S₂ : Type 0} {F : Format M S} {F₁ : Format M₁ S₁} {F₂ : Format M₂ S₂} (W : Writer F) (W₁ : Writer F₁) (W₂ : Writer F₂) : Type 0 where
-  pub left : S → S₁
-  pub right : S → S₂
-  pub in-left : (s : List ℕ) (x : S) → F .held .inside s x ≡ true → F₁ .held .inside s (left x) ≡ true
-  pub in-right : (s : List ℕ) (x : S) → F .held .inside s x ≡ true → F₂ .held .inside s (right x) ≡ true
-  pub bytes : (s : List ℕ) (x : S) → output F₁ s (left x) ++ output F₂ s (right x) ≡ output F s x
-
-module _ {M S M₁ S₁ M₂ S₂ : Type 0} {F : Format M S} {F₁ : Format M₁ S₁} {F₂ : Format M₂ S₂} {W : Writer F} {W₁ : Writer F₁} {W₂ : Writer F₂} (T : Two W W₁ W₂) (s : List ℕ) (x : S)
-    (o zs₁ zs₂ : List ℕ) (i : Bool) (m n : ℕ) where
-  pub put-two : length s ≤ most → i ≡ F .held .inside s x → not i ≡ false → m ≡ W .size x → m ≤ length o → n ≡ W₁ .size (T .left x)
-      → zs₁ ≡ laidOf F₁ s (T .left x) (midOf 0 (length o - 0) o)
-      → zs₂ ≡ laidOf F₂ s (T .right x) (midOf n (length (putMid 0 (length o - 0) o zs₁) - n) (putMid 0 (length o - 0) o zs₁))
-      → putMid n (length (putMid 0 (length o - 0) o zs₁) - n) (putMid 0 (length o - 0) o zs₁) zs₂ ≡ laidOf F s x o
-  put-two h e t g l k a b =
-      let r : Ready F s x = record { short = h; inside = yes e t } in
-      let r₁ : Ready F₁ s (T .left x) = record { short = h; inside = T .in-left s x (yes e t) } in
-      let r₂ : Ready F₂ s (T .right x) = record { short = h; inside = T .in-right s x (yes e t) } in
-      let l₁ : length (output F₁ s (T .left x)) ≡ n = W₁ .sized s (T .left x) r₁ ∙ sym k in
-      let l₂ = W₂ .sized s (T .right x) r₂ in
-      let whole : length (output F₁ s (T .left x)) + length (output F₂ s (T .right x)) ≡ m =
-      sym (length-append (output F₁ s (T .left x)) (output F₂ s (T .right x))) ∙ ap length (T .bytes s x) ∙ W .sized s x r ∙ sym g in
-      of-is F s x o r (omega (arith, whole, l₁, l₂))
-      (put-same (T .bytes s x) (lent-of F₂ s (T .right x) r₂ (lent-of-first F₁ s (T .left x) r₁ (omega (arith, whole, l₁, l₂)) l₁ a) (omega (arith, whole, l₁, l₂)) l₂ b))
 
 -- opaque bytes
 pub bytes-sized : (s : List ℕ) (x : Piece) → Ready bytes s x → length (output bytes s x) ≡ sizeUpTo (x .count)
