@@ -1,5 +1,6 @@
 // The status that a result begins with (RFC 1813, section 2.6).
 ghost use mathlib.Core.Path.{_≡_};
+ghost use Prim.Native.Nat.{_≤_};
 ghost use Rattle.nfsattr.specs.Meaning.Stat.{failNumber, statNumber, failures, statuses};
 ghost use Rattle.nfsattr.specs.Meaning.Views.{foundFail, foundStat};
 ghost use Rattle.xdr.specs.Meaning.Combinators.{among};
@@ -91,36 +92,45 @@ impl nfsfail3 {
     pub fn of(v: u32) -> FailFound
         ensures { λ r. ⌜ foundFail r ≡ among failNumber failures v ⌝ }
     {
+        let found = nfsstat3::of(v);
+        let StatFound::Is(status) = found else {
+            return FailFound::None;
+        };
+        match status {
+            nfsstat3::NFS3_OK => FailFound::None,
+            nfsstat3::Failed(f) => FailFound::Is(f),
+        }
+    }
+
+    // which failure of the run 17 to 22
+    fn exist_to_inval(v: u32) -> nfsfail3
+        requires { ⌜ (17 ≤ v) × (v ≤ 22) ⌝ }
+        ensures { λ r. ⌜ v ≡ failNumber r ⌝ }
+    {
         match v {
-            1 => FailFound::Is(nfsfail3::NFS3ERR_PERM),
-            2 => FailFound::Is(nfsfail3::NFS3ERR_NOENT),
-            5 => FailFound::Is(nfsfail3::NFS3ERR_IO),
-            6 => FailFound::Is(nfsfail3::NFS3ERR_NXIO),
-            13 => FailFound::Is(nfsfail3::NFS3ERR_ACCES),
-            17 => FailFound::Is(nfsfail3::NFS3ERR_EXIST),
-            18 => FailFound::Is(nfsfail3::NFS3ERR_XDEV),
-            19 => FailFound::Is(nfsfail3::NFS3ERR_NODEV),
-            20 => FailFound::Is(nfsfail3::NFS3ERR_NOTDIR),
-            21 => FailFound::Is(nfsfail3::NFS3ERR_ISDIR),
-            22 => FailFound::Is(nfsfail3::NFS3ERR_INVAL),
-            27 => FailFound::Is(nfsfail3::NFS3ERR_FBIG),
-            28 => FailFound::Is(nfsfail3::NFS3ERR_NOSPC),
-            30 => FailFound::Is(nfsfail3::NFS3ERR_ROFS),
-            31 => FailFound::Is(nfsfail3::NFS3ERR_MLINK),
-            63 => FailFound::Is(nfsfail3::NFS3ERR_NAMETOOLONG),
-            66 => FailFound::Is(nfsfail3::NFS3ERR_NOTEMPTY),
-            69 => FailFound::Is(nfsfail3::NFS3ERR_DQUOT),
-            70 => FailFound::Is(nfsfail3::NFS3ERR_STALE),
-            71 => FailFound::Is(nfsfail3::NFS3ERR_REMOTE),
-            10001 => FailFound::Is(nfsfail3::NFS3ERR_BADHANDLE),
-            10002 => FailFound::Is(nfsfail3::NFS3ERR_NOT_SYNC),
-            10003 => FailFound::Is(nfsfail3::NFS3ERR_BAD_COOKIE),
-            10004 => FailFound::Is(nfsfail3::NFS3ERR_NOTSUPP),
-            10005 => FailFound::Is(nfsfail3::NFS3ERR_TOOSMALL),
-            10006 => FailFound::Is(nfsfail3::NFS3ERR_SERVERFAULT),
-            10007 => FailFound::Is(nfsfail3::NFS3ERR_BADTYPE),
-            10008 => FailFound::Is(nfsfail3::NFS3ERR_JUKEBOX),
-            _ => FailFound::None,
+            17 => nfsfail3::NFS3ERR_EXIST,
+            18 => nfsfail3::NFS3ERR_XDEV,
+            19 => nfsfail3::NFS3ERR_NODEV,
+            20 => nfsfail3::NFS3ERR_NOTDIR,
+            21 => nfsfail3::NFS3ERR_ISDIR,
+            _ => nfsfail3::NFS3ERR_INVAL,
+        }
+    }
+
+    // which failure of the run 10001 to 10008
+    fn badhandle_to_jukebox(v: u32) -> nfsfail3
+        requires { ⌜ (10001 ≤ v) × (v ≤ 10008) ⌝ }
+        ensures { λ r. ⌜ v ≡ failNumber r ⌝ }
+    {
+        match v {
+            10001 => nfsfail3::NFS3ERR_BADHANDLE,
+            10002 => nfsfail3::NFS3ERR_NOT_SYNC,
+            10003 => nfsfail3::NFS3ERR_BAD_COOKIE,
+            10004 => nfsfail3::NFS3ERR_NOTSUPP,
+            10005 => nfsfail3::NFS3ERR_TOOSMALL,
+            10006 => nfsfail3::NFS3ERR_SERVERFAULT,
+            10007 => nfsfail3::NFS3ERR_BADTYPE,
+            _ => nfsfail3::NFS3ERR_JUKEBOX,
         }
     }
 }
@@ -137,15 +147,30 @@ impl nfsstat3 {
         }
     }
 
+    // A line for each run of docs/SCOPE.md, Closed lists, in its order.
     pub fn of(v: u32) -> StatFound
         ensures { λ r. ⌜ foundStat r ≡ among statNumber statuses v ⌝ }
     {
-        if v == 0 {
-            return StatFound::Is(nfsstat3::NFS3_OK);
-        }
-        match nfsfail3::of(v) {
-            FailFound::Is(f) => StatFound::Is(nfsstat3::Failed(f)),
-            FailFound::None => StatFound::None,
-        }
+        let failure = match v {
+            0 => return StatFound::Is(nfsstat3::NFS3_OK),
+            1 => nfsfail3::NFS3ERR_PERM,
+            2 => nfsfail3::NFS3ERR_NOENT,
+            5 => nfsfail3::NFS3ERR_IO,
+            6 => nfsfail3::NFS3ERR_NXIO,
+            13 => nfsfail3::NFS3ERR_ACCES,
+            17..=22 => nfsfail3::exist_to_inval(v),
+            27 => nfsfail3::NFS3ERR_FBIG,
+            28 => nfsfail3::NFS3ERR_NOSPC,
+            30 => nfsfail3::NFS3ERR_ROFS,
+            31 => nfsfail3::NFS3ERR_MLINK,
+            63 => nfsfail3::NFS3ERR_NAMETOOLONG,
+            66 => nfsfail3::NFS3ERR_NOTEMPTY,
+            69 => nfsfail3::NFS3ERR_DQUOT,
+            70 => nfsfail3::NFS3ERR_STALE,
+            71 => nfsfail3::NFS3ERR_REMOTE,
+            10001..=10008 => nfsfail3::badhandle_to_jukebox(v),
+            _ => return StatFound::None,
+        };
+        StatFound::Is(nfsstat3::Failed(failure))
     }
 }

@@ -12,36 +12,42 @@ use Rattle.nfsattr.specs.declared.stat.nfsfail3.the-variants.{«NFS3ERR_
 use Rattle.nfsattr.specs.declared.stat.nfsstat3.{nfsstat3}
 use Rattle.nfsattr.specs.declared.stat.nfsstat3.the-variants.{«NFS3_OK», Failed}
 
-abbrev pub failNumber : nfsfail3 → ℕ
-failNumber «NFS3ERR_PERM» = 1
-failNumber «NFS3ERR_NOENT» = 2
-failNumber «NFS3ERR_IO» = 5
-failNumber «NFS3ERR_NXIO» = 6
-failNumber «NFS3ERR_ACCES» = 13
-failNumber «NFS3ERR_EXIST» = 17
-failNumber «NFS3ERR_XDEV» = 18
-failNumber «NFS3ERR_NODEV» = 19
-failNumber «NFS3ERR_NOTDIR» = 20
-failNumber «NFS3ERR_ISDIR» = 21
-failNumber «NFS3ERR_INVAL» = 22
-failNumber «NFS3ERR_FBIG» = 27
-failNumber «NFS3ERR_NOSPC» = 28
-failNumber «NFS3ERR_ROFS» = 30
-failNumber «NFS3ERR_MLINK» = 31
-failNumber «NFS3ERR_NAMETOOLONG» = 63
-failNumber «NFS3ERR_NOTEMPTY» = 66
-failNumber «NFS3ERR_DQUOT» = 69
-failNumber «NFS3ERR_STALE» = 70
-failNumber «NFS3ERR_REMOTE» = 71
-failNumber «NFS3ERR_BADHANDLE» = 10001
-failNumber «NFS3ERR_NOT_SYNC» = 10002
-failNumber «NFS3ERR_BAD_COOKIE» = 10003
-failNumber «NFS3ERR_NOTSUPP» = 10004
-failNumber «NFS3ERR_TOOSMALL» = 10005
-failNumber «NFS3ERR_SERVERFAULT» = 10006
-failNumber «NFS3ERR_BADTYPE» = 10007
-failNumber «NFS3ERR_JUKEBOX» = 10008
+-- The 29 numbers in ascending order, as docs/SCOPE.md lists them (Closed lists), each beside its name in the RFC.
+abbrev pub statNumber : nfsstat3 → ℕ
+statNumber «NFS3_OK» = 0
+statNumber (Failed «NFS3ERR_PERM») = 1
+statNumber (Failed «NFS3ERR_NOENT») = 2
+statNumber (Failed «NFS3ERR_IO») = 5
+statNumber (Failed «NFS3ERR_NXIO») = 6
+statNumber (Failed «NFS3ERR_ACCES») = 13
+statNumber (Failed «NFS3ERR_EXIST») = 17
+statNumber (Failed «NFS3ERR_XDEV») = 18
+statNumber (Failed «NFS3ERR_NODEV») = 19
+statNumber (Failed «NFS3ERR_NOTDIR») = 20
+statNumber (Failed «NFS3ERR_ISDIR») = 21
+statNumber (Failed «NFS3ERR_INVAL») = 22
+statNumber (Failed «NFS3ERR_FBIG») = 27
+statNumber (Failed «NFS3ERR_NOSPC») = 28
+statNumber (Failed «NFS3ERR_ROFS») = 30
+statNumber (Failed «NFS3ERR_MLINK») = 31
+statNumber (Failed «NFS3ERR_NAMETOOLONG») = 63
+statNumber (Failed «NFS3ERR_NOTEMPTY») = 66
+statNumber (Failed «NFS3ERR_DQUOT») = 69
+statNumber (Failed «NFS3ERR_STALE») = 70
+statNumber (Failed «NFS3ERR_REMOTE») = 71
+statNumber (Failed «NFS3ERR_BADHANDLE») = 10001
+statNumber (Failed «NFS3ERR_NOT_SYNC») = 10002
+statNumber (Failed «NFS3ERR_BAD_COOKIE») = 10003
+statNumber (Failed «NFS3ERR_NOTSUPP») = 10004
+statNumber (Failed «NFS3ERR_TOOSMALL») = 10005
+statNumber (Failed «NFS3ERR_SERVERFAULT») = 10006
+statNumber (Failed «NFS3ERR_BADTYPE») = 10007
+statNumber (Failed «NFS3ERR_JUKEBOX») = 10008
 
+abbrev pub failNumber : nfsfail3 → ℕ
+failNumber f = statNumber (Failed f)
+
+-- All failures. Nothing has to be ticked off from here on: if one were missing, `each-stat` would be false.
 abbrev pub failures : List nfsfail3
 failures =
     «NFS3ERR_PERM» ∷ «NFS3ERR_NOENT» ∷ «NFS3ERR_IO» ∷ «NFS3ERR_NXIO» ∷ «NFS3ERR_ACCES» ∷ «NFS3ERR_EXIST» ∷
@@ -50,10 +56,6 @@ failures =
     «NFS3ERR_DQUOT» ∷ «NFS3ERR_STALE» ∷ «NFS3ERR_REMOTE» ∷ «NFS3ERR_BADHANDLE» ∷ «NFS3ERR_NOT_SYNC» ∷
     «NFS3ERR_BAD_COOKIE» ∷ «NFS3ERR_NOTSUPP» ∷ «NFS3ERR_TOOSMALL» ∷ «NFS3ERR_SERVERFAULT» ∷ «NFS3ERR_BADTYPE» ∷
     «NFS3ERR_JUKEBOX» ∷ []
-
-abbrev pub statNumber : nfsstat3 → ℕ
-statNumber «NFS3_OK» = 0
-statNumber (Failed f) = failNumber f
 
 abbrev pub statuses : List nfsstat3
 statuses = «NFS3_OK» ∷ map Failed failures

@@ -1,19 +1,7 @@
-use Rattle.xdr.specs.Laws.Numbers.{found-at, found-none}
-use Rattle.nfsattr.specs.Meaning.Stat.{failNumber, failures}
+use borrow.Author.Needs.{needs}
+use Rattle.nfsattr.specs.Laws.Read.{fail-none, fail-is}
 use Rattle.nfsattr.proofs.stat.nfsfail3.of.Statement.{statement}
 use Rattle.nfsattr.proofs.stat.nfsfail3.of.Tie as tie
 
 pub of-spec : {M : Type 1} → statement M
-of-spec =
-    tie.close
-    (tie.spec
-    (λ c. search (found-at failNumber failures)) (λ c. search (found-at failNumber failures)) (λ c. search (found-at failNumber failures))
-    (λ c. search (found-at failNumber failures)) (λ c. search (found-at failNumber failures)) (λ c. search (found-at failNumber failures))
-    (λ c. search (found-at failNumber failures)) (λ c. search (found-at failNumber failures)) (λ c. search (found-at failNumber failures))
-    (λ c. search (found-at failNumber failures)) (λ c. search (found-at failNumber failures)) (λ c. search (found-at failNumber failures))
-    (λ c. search (found-at failNumber failures)) (λ c. search (found-at failNumber failures)) (λ c. search (found-at failNumber failures))
-    (λ c. search (found-at failNumber failures)) (λ c. search (found-at failNumber failures)) (λ c. search (found-at failNumber failures))
-    (λ c. search (found-at failNumber failures)) (λ c. search (found-at failNumber failures)) (λ c. search (found-at failNumber failures))
-    (λ c. search (found-at failNumber failures)) (λ c. search (found-at failNumber failures)) (λ c. search (found-at failNumber failures))
-    (λ c. search (found-at failNumber failures)) (λ c. search (found-at failNumber failures)) (λ c. search (found-at failNumber failures))
-    (λ c. search (found-at failNumber failures)) (λ c. found-none failNumber failures _ _ (c .match .rest)))
+of-spec = tie.close (tie.spec (search needs) (search needs) (search needs) (λ c. search fail-none) (search needs) (search needs) (λ c. search fail-is) (λ c. search fail-is))
