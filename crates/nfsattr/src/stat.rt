@@ -1,4 +1,4 @@
-// The status that a result begins with (RFC 1813, section 2.6).
+// The status that a result begins with (RFC 1813, section 2.5; section 2.6 says what each means).
 ghost use mathlib.Core.Path.{_≡_};
 ghost use Prim.Native.Nat.{_≤_};
 ghost use Rattle.nfsattr.specs.Meaning.Stat.{failNumber, statNumber, failures, statuses};

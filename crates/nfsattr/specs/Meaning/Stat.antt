@@ -1,4 +1,4 @@
--- The status that a result begins with (RFC 1813, section 2.6): 0, or the number of one of 28 failures.
+-- The status that a result begins with (RFC 1813, section 2.5; section 2.6 says what each means): 0, or the number of one of 28 failures.
 -- Assumes nothing.
 use mathlib.Core.Path.{_≡_, refl}
 use mathlib.Core.List.{List, [], _∷_, map}
