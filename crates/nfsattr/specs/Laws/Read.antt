@@ -9,7 +9,7 @@ use lib.Dec.{T, eqb, leb}
 use borrow.Author.Tests.{ne-eqb, leb-true, eqb-true}
 use Rattle.xdr.specs.Meaning.Combinators.{Seen, means, undeclared, among}
 use Rattle.xdr.specs.Meaning.Held.{mapSeen}
-use Rattle.xdr.specs.Laws.Numbers.{Others, found-at, found-none}
+use Rattle.xdr.specs.Laws.Numbers.{Others, found-none}
 use Rattle.nfsattr.specs.Meaning.Stat.{failNumber, failures, statNumber, statuses, each-stat}
 use Rattle.nfsattr.specs.Meaning.Views.{foundStat}
 use Rattle.nfsattr.specs.declared.stat.StatFound.{StatFound}
@@ -17,10 +17,6 @@ use Rattle.nfsattr.specs.declared.stat.StatFound.the-variants.{None, Is}
 use Rattle.nfsattr.specs.declared.stat.nfsfail3.{nfsfail3}
 use Rattle.nfsattr.specs.declared.stat.nfsstat3.{nfsstat3}
 use Rattle.nfsattr.specs.declared.stat.nfsstat3.the-variants.{«NFS3_OK», Failed}
-
--- a status, where its number was told
-pub stat-told : (v n : ℕ) (y : Seen nfsstat3) → v ≡ n → y ≡ among statNumber statuses n → y ≡ among statNumber statuses v
-stat-told = found-at statNumber statuses
 
 -- a failure, where its number was told
 pub stat-failed : (v : ℕ) (f : nfsfail3) → v ≡ failNumber f → means (Failed f) [] ≡ among statNumber statuses v
