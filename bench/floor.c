@@ -38,12 +38,14 @@ static inline uint8_t *lay_hyper(uint8_t *p, uint64_t v)
     return p + 8;
 }
 
-/* A reading: the message, the place of the next item, what was loose; on a refusal, where. */
+/* A reading: the message, the place of the next item, what was loose; on a refusal, where, and how long an item is that
+ * is cut. */
 struct reading {
     const uint8_t *src;
     size_t len;
     size_t at;
     uint32_t loose;
+    size_t size;
 };
 
 struct piece {
@@ -51,18 +53,21 @@ struct piece {
     size_t count;
 };
 
-#define REFUSE(number, place) return (r->at = (place), (number))
+/* The next item has so many bytes, and they are not all there. */
+#define SHORT_OF(bytes) return (r->size = (bytes), 1)
+/* The word just read is not declared. */
+#define UNDECLARED return (r->at -= 4, 2)
 #define WORD(v)                        \
     do {                               \
         if (r->len - r->at < 4)        \
-            REFUSE(1, r->at);          \
+            SHORT_OF(4);               \
         (v) = word_of(r->src + r->at); \
         r->at += 4;                    \
     } while (0)
 #define HYPER(v)                        \
     do {                                \
         if (r->len - r->at < 8)         \
-            REFUSE(1, r->at);           \
+            SHORT_OF(8);                \
         (v) = hyper_of(r->src + r->at); \
         r->at += 8;                     \
     } while (0)
@@ -85,11 +90,11 @@ static inline uint32_t take_flag(struct reading *r, uint32_t *flag)
 static inline uint32_t take_opaque(struct reading *r, struct piece *piece)
 {
     if (r->len - r->at < 4)
-        REFUSE(1, r->at);
+        SHORT_OF(4);
     size_t n = word_of(r->src + r->at);
     size_t padded = (n + 3) & ~(size_t)3;
     if (r->len - r->at - 4 < padded)
-        REFUSE(1, r->at);
+        SHORT_OF(4 + padded);
     piece->at = r->at + 4;
     piece->count = n;
     r->at += 4 + padded;
@@ -113,28 +118,38 @@ static inline size_t padded_size(struct piece piece)
     return 4 + ((piece.count + 3) & ~(size_t)3);
 }
 
-/* A refused reading: its place, then zeros. */
-__attribute__((noinline, cold)) static uint32_t refused(uint64_t *info, size_t count, uint32_t number, size_t place)
+/* A refusal without a place: zeros. */
+__attribute__((noinline, cold)) static uint32_t refused(uint64_t *info, size_t count, uint32_t number)
 {
     memset(info, 0, count * sizeof *info);
-    info[0] = number < 3 ? place : 0;
     return number;
 }
 
-#define OPEN(count)                               \
-    struct reading reading = {src, len, at, 0};   \
-    struct reading *r = &reading;                 \
-    if (infos < (count))                          \
-        return SHORT_LIST;                        \
-    if (len > LIMIT)                              \
-        return refused(info, (count), 3, 0);      \
-    if (at > len)                                 \
-        return refused(info, (count), 9, 0)
-#define READ(count, call)                             \
-    do {                                              \
-        uint32_t number_ = (call);                    \
-        if (number_)                                  \
-            return refused(info, (count), number_, r->at); \
+/* A refused reading: its place, how many bytes are wanting where an item is cut, then zeros. The arguments stand where a
+ * reader has its own, so that they need not move. */
+__attribute__((noinline, cold)) static uint32_t unread(size_t size, size_t len, size_t place, uint64_t *info,
+                                                       size_t count, uint32_t number)
+{
+    memset(info, 0, count * sizeof *info);
+    info[0] = place;
+    info[1] = number == 1 ? size - (len - place) : 0;
+    return number;
+}
+
+#define OPEN(count)                                \
+    struct reading reading = {src, len, at, 0, 0}; \
+    struct reading *r = &reading;                  \
+    if (infos < (count))                           \
+        return SHORT_LIST;                         \
+    if (len > LIMIT)                               \
+        return refused(info, (count), 3);          \
+    if (at > len)                                  \
+        return refused(info, (count), 9)
+#define READ(count, call)                                                  \
+    do {                                                                   \
+        uint32_t number_ = (call);                                         \
+        if (number_)                                                       \
+            return unread(r->size, r->len, r->at, info, (count), number_); \
     } while (0)
 #define TOOK(next, plain, end) \
     do {                       \
@@ -158,7 +173,7 @@ static inline uint32_t take_fattr3(struct reading *r, struct fattr3 *v)
 {
     WORD(v->type);
     if (v->type - 1 > 6)
-        REFUSE(2, r->at - 4);
+        UNDECLARED;
     WORD(v->mode);
     WORD(v->nlink);
     WORD(v->uid);
@@ -236,9 +251,9 @@ uint32_t floor_write_fattr3(const uint64_t *f, size_t fields, uint8_t *out, size
     if ((f[1] | f[2] | f[3] | f[4] | f[7] | f[8] | f[11] | f[12] | f[13] | f[14] | f[15] | f[16]) >> 32)
         return WIDE_NUMBER;
     if (start > room)
-        return refused(info, 1, 9, 0);
+        return refused(info, 1, 9);
     if (room - start < 84)
-        return refused(info, 1, 5, 0);
+        return refused(info, 1, 5);
     struct fattr3 v = {
         (uint32_t)f[0], (uint32_t)f[1], (uint32_t)f[2], (uint32_t)f[3],  (uint32_t)f[4],  f[5],
         f[6],           (uint32_t)f[7], (uint32_t)f[8], f[9],            f[10],           (uint32_t)f[11],
@@ -256,7 +271,7 @@ uint32_t floor_copy_fattr3(const uint8_t *src, size_t len, size_t at, uint8_t *o
     OPEN(3);
     READ(3, take_fattr3(r, &v));
     if (room < 84)
-        return refused(info, 3, 5, 0);
+        return refused(info, 3, 5);
     lay_fattr3(out, &v);
     TOOK(r->at, 1, 84);
 }
@@ -275,7 +290,7 @@ static inline uint32_t take_time(struct reading *r, uint32_t *how, uint32_t *sec
     *nseconds = 0;
     WORD(*how);
     if (*how > 2)
-        REFUSE(2, r->at - 4);
+        UNDECLARED;
     if (*how == 2) {
         WORD(*seconds);
         WORD(*nseconds);
@@ -387,9 +402,9 @@ uint32_t floor_write_sattr3(const uint64_t *f, size_t fields, uint8_t *out, size
     v.mtime_n = (uint32_t)f[13];
     size_t size = size_of_sattr3(&v);
     if (start > room)
-        return refused(info, 1, 9, 0);
+        return refused(info, 1, 9);
     if (room - start < size)
-        return refused(info, 1, 5, 0);
+        return refused(info, 1, 5);
     lay_sattr3(out + start, &v);
     info[0] = start + size;
     return 0;
@@ -404,7 +419,7 @@ uint32_t floor_copy_sattr3(const uint8_t *src, size_t len, size_t at, uint8_t *o
     /* What is read is as long as what is written: a flag is a word however it is set. */
     size_t size = r->at - at;
     if (room < size)
-        return refused(info, 3, 5, 0);
+        return refused(info, 3, 5);
     lay_sattr3(out, &v);
     TOOK(r->at, !r->loose, size);
 }
@@ -439,16 +454,16 @@ uint32_t floor_write_diropargs3(const uint8_t *src, size_t len, const uint64_t *
         return SHORT_LIST;
     struct piece dir = {f[0], f[1]}, name = {f[2], f[3]};
     if (start > room)
-        return refused(info, 1, 9, 0);
+        return refused(info, 1, 9);
     if (len > LIMIT)
-        return refused(info, 1, 3, 0);
+        return refused(info, 1, 3);
     if (!inside(dir, len) || !inside(name, len))
-        return refused(info, 1, 4, 0);
+        return refused(info, 1, 4);
     size_t size = padded_size(dir) + padded_size(name);
     if (size > LIMIT)
-        return refused(info, 1, 3, 0);
+        return refused(info, 1, 3);
     if (room - start < size)
-        return refused(info, 1, 5, 0);
+        return refused(info, 1, 5);
     lay_opaque(lay_opaque(out + start, src, dir), src, name);
     info[0] = start + size;
     return 0;
@@ -463,7 +478,7 @@ uint32_t floor_copy_diropargs3(const uint8_t *src, size_t len, size_t at, uint8_
     READ(3, take_opaque(r, &name));
     size_t size = r->at - at;
     if (room < size)
-        return refused(info, 3, 5, 0);
+        return refused(info, 3, 5);
     lay_opaque(lay_opaque(out, src, dir), src, name);
     TOOK(r->at, !r->loose, size);
 }
@@ -480,10 +495,10 @@ static inline uint32_t take_auth_unix(struct reading *r, struct auth_unix *v)
     WORD(v->uid);
     WORD(v->gid);
     if (r->len - r->at < 4)
-        REFUSE(1, r->at);
+        SHORT_OF(4);
     size_t n = word_of(r->src + r->at);
     if ((r->len - r->at - 4) / 4 < n)
-        REFUSE(1, r->at);
+        SHORT_OF(4 + 4 * n);
     v->gids.at = r->at + 4;
     v->gids.count = n;
     r->at += 4 + 4 * n;
@@ -496,11 +511,11 @@ uint32_t floor_read_auth_unix(const uint8_t *src, size_t len, size_t at, size_t 
     if (infos < 9)
         return SHORT_LIST;
     if (len > LIMIT)
-        return refused(info, 9, 3, 0);
-    struct reading reading = {src, at + count, at, 0};
+        return refused(info, 9, 3);
+    struct reading reading = {src, at + count, at, 0, 0};
     struct reading *r = &reading;
     if (at > len || count > len - at)
-        return refused(info, 9, 1, 0);
+        return unread(4, 0, 0, info, 9, 1);
     READ(9, take_auth_unix(r, &v));
     info[0] = r->at;
     info[1] = !r->loose;
@@ -522,7 +537,7 @@ uint32_t floor_copy_auth_unix(const uint8_t *src, size_t len, size_t at, uint8_t
     READ(3, take_auth_unix(r, &v));
     size_t size = r->at - at;
     if (room < size)
-        return refused(info, 3, 5, 0);
+        return refused(info, 3, 5);
     uint8_t *p = lay_opaque(lay_word(out, v.stamp), src, v.name);
     p = lay_word(lay_word(lay_word(p, v.uid), v.gid), (uint32_t)v.gids.count);
     memcpy(p, src + v.gids.at, 4 * v.gids.count);
@@ -537,7 +552,7 @@ uint32_t floor_copy_opaque(const uint8_t *src, size_t len, size_t at, uint8_t *o
     READ(3, take_opaque(r, &piece));
     size_t size = r->at - at;
     if (room < size)
-        return refused(info, 3, 5, 0);
+        return refused(info, 3, 5);
     lay_opaque(out, src, piece);
     TOOK(r->at, !r->loose, size);
 }
@@ -561,7 +576,7 @@ static inline uint32_t take_auth(struct reading *r, struct auth *v)
 {
     WORD(v->flavor);
     if (v->flavor > 3)
-        REFUSE(2, r->at - 4);
+        UNDECLARED;
     return take_opaque(r, &v->body);
 }
 
@@ -610,7 +625,7 @@ static inline uint32_t take_message(struct reading *r, struct message *v)
         v->tag = 3;
         WORD(v->stat);
         if (v->stat - 1 > 4)
-            REFUSE(2, r->at - 4);
+            UNDECLARED;
     } else {
         r->loose = 1;
     }
@@ -680,16 +695,16 @@ uint32_t floor_write_call(const uint8_t *src, size_t len, const uint64_t *f, siz
         {(uint32_t)f[5], {f[6], f[7]}}, {(uint32_t)f[8], {f[9], f[10]}}, 0, 0, 0,
     };
     if (start > room)
-        return refused(info, 1, 9, 0);
+        return refused(info, 1, 9);
     if (len > LIMIT)
-        return refused(info, 1, 3, 0);
+        return refused(info, 1, 3);
     if (!inside(v.cred.body, len) || !inside(v.verf.body, len))
-        return refused(info, 1, 4, 0);
+        return refused(info, 1, 4);
     size_t size = 32 + padded_size(v.cred.body) + padded_size(v.verf.body);
     if (size > LIMIT)
-        return refused(info, 1, 3, 0);
+        return refused(info, 1, 3);
     if (room - start < size)
-        return refused(info, 1, 5, 0);
+        return refused(info, 1, 5);
     lay_call(out + start, src, &v);
     info[0] = start + size;
     return 0;
@@ -716,7 +731,7 @@ uint32_t floor_copy_rpc_msg(const uint8_t *src, size_t len, size_t at, uint8_t *
         size = 20;
     }
     if (room < size)
-        return refused(info, 3, 5, 0);
+        return refused(info, 3, 5);
     if (v.tag == 0) {
         lay_call(out, src, &v);
     } else {

@@ -83,6 +83,15 @@ static int refused_at(size_t count, uint64_t place)
     return figures(count, due);
 }
 
+/* The same, of a message that ends inside an item: the second figure is how many bytes are wanting. */
+static int ended_at(size_t count, uint64_t place, uint64_t wanting)
+{
+    uint64_t due[FIGURES] = {0};
+    due[YUGERZAT_NEXT] = place;
+    due[YUGERZAT_WANTING] = wanting;
+    return figures(count, due);
+}
+
 static int all_untouched(void)
 {
     return out_untouched_from(0) && info_untouched_from(0);
@@ -135,6 +144,88 @@ static const struct {
 #include "samples.h"
 };
 
+/* ---- what is wanting */
+
+/* Reads what begins at place `first` of a message of `count` bytes: up to the message's end, or as a credential's body. */
+typedef uint32_t reading(const uint8_t *message, size_t count, size_t first);
+
+static uint64_t word_at(const struct bytes *b, size_t place)
+{
+    const uint8_t *p = b->at + place;
+    return (uint64_t)p[0] << 24 | (uint64_t)p[1] << 16 | (uint64_t)p[2] << 8 | p[3];
+}
+
+/*
+ * Whether a reading went on, once all had come that the item at a place wanted. The item is whole, and ends where the
+ * bytes end: the reading is done there, or the next item begins there, or the item's number is not declared. Or only the
+ * length word was cut: it is whole now, and says what is to follow.
+ */
+static int went_on(uint32_t answer, const struct bytes *b, uint64_t place)
+{
+    uint64_t length;
+    switch (answer) {
+    case YUGERZAT_DONE:
+        return info[YUGERZAT_NEXT] == b->count;
+    case YUGERZAT_UNDECLARED:
+        return info[YUGERZAT_NEXT] == place && info[YUGERZAT_WANTING] == 0;
+    case YUGERZAT_HAND_OVER:
+    case YUGERZAT_REPLY:
+        return 1;
+    case YUGERZAT_ENDS:
+        if (info[YUGERZAT_NEXT] == b->count)
+            return info[YUGERZAT_WANTING] == 4 || info[YUGERZAT_WANTING] == 8;
+        if (info[YUGERZAT_NEXT] != place || b->count != place + 4)
+            return 0;
+        length = word_at(b, (size_t)place);
+        return length != 0 && (info[YUGERZAT_WANTING] == (length + 3) / 4 * 4 || info[YUGERZAT_WANTING] == length * 4);
+    default:
+        return 0;
+    }
+}
+
+/*
+ * Cuts a message, which `read` takes with the answer `taken`, at every place, and holds each refusal to its promise: as
+ * long as fewer bytes have come than are wanting, the others are; once all have come, the reading goes on. What they hold
+ * does not matter: they are those of the message, then all 00, then all FF.
+ */
+static void cut(reading *read, uint32_t taken, size_t list, const char *message, size_t first)
+{
+    struct bytes b = hex(message), whole, part;
+    uint64_t place, wanting;
+    size_t n, more;
+    int filling;
+    memset(whole.at, 0xFF, sizeof whole.at);
+    memcpy(whole.at + first, b.at, b.count);
+    whole.count = first + b.count;
+    fresh();
+    CHECK(read(whole.at, whole.count, first) == taken);
+    for (n = first; n < whole.count; n++) {
+        fresh();
+        CHECK(read(whole.at, n, first) == YUGERZAT_ENDS);
+        place = info[YUGERZAT_NEXT];
+        wanting = info[YUGERZAT_WANTING];
+        CHECK(place >= first && place <= n && (place - first) % 4 == 0);
+        CHECK(ended_at(list, place, wanting) && out_untouched_from(0));
+        /* no byte too many: the message has them all */
+        CHECK(wanting >= 1 && wanting <= whole.count - n);
+        if (wanting > whole.count - n)
+            continue;
+        part = whole;
+        for (filling = 0; filling < 3; filling++) {
+            if (filling)
+                memset(part.at + n, filling == 1 ? 0x00 : 0xFF, (size_t)wanting);
+            for (more = 1; more < wanting; more++) {
+                fresh();
+                CHECK(read(part.at, n + more, first) == YUGERZAT_ENDS);
+                CHECK(ended_at(list, place, wanting - more) && out_untouched_from(0));
+            }
+            part.count = n + (size_t)wanting;
+            fresh();
+            CHECK(went_on(read(part.at, part.count, first), &part, place));
+        }
+    }
+}
+
 /* ---- yugerzat_read */
 
 static uint32_t read_kind(uint32_t kind, struct bytes b, size_t at, size_t room)
@@ -143,11 +234,32 @@ static uint32_t read_kind(uint32_t kind, struct bytes b, size_t at, size_t room)
     return yugerzat_read(kind, b.at, b.count, at, out, room, info, YUGERZAT_READ_FIGURES);
 }
 
+/* The kind stands here, so that the signature of `cut` serves. */
+static uint32_t kind_read;
+
+static uint32_t read_by_kind(const uint8_t *message, size_t count, size_t first)
+{
+    return yugerzat_read(kind_read, message, count, first, out, BUFFER, info, YUGERZAT_READ_FIGURES);
+}
+
+/* The bytes of a kind's first item as far as they are known before any is there: a word, or eight bytes. */
+static uint64_t first_bytes(uint32_t kind)
+{
+    switch (kind) {
+    case YUGERZAT_I64:
+    case YUGERZAT_U64:
+    case YUGERZAT_EIGHT:
+    case YUGERZAT_WCC_ATTR:
+        return 8;
+    default:
+        return 4;
+    }
+}
+
 static void every_kind(uint32_t kind)
 {
-    struct bytes b = hex(samples[kind].message), later, part;
+    struct bytes b = hex(samples[kind].message), later;
     uint64_t took[3];
-    size_t n;
     of = samples[kind].name;
     took[0] = b.count;
     took[1] = 1;
@@ -171,17 +283,14 @@ static void every_kind(uint32_t kind)
     CHECK(figures(3, took) && out_is(0, b) && out_untouched_from(b.count));
 
     /* cut at every place */
-    part = b;
-    for (n = 0; n < b.count; n++) {
-        part.count = n;
-        CHECK(read_kind(kind, part, 0, BUFFER) == YUGERZAT_ENDS);
-        CHECK(info[0] <= n && info[0] % 4 == 0 && info[1] == 0 && info[2] == 0 && info_untouched_from(3) &&
-              out_untouched_from(0));
-    }
+    kind_read = kind;
+    cut(read_by_kind, YUGERZAT_DONE, 3, samples[kind].message, 0);
+    cut(read_by_kind, YUGERZAT_DONE, 3, samples[kind].message, 5);
     fresh();
-    CHECK(yugerzat_read(kind, NULL, 0, 0, out, BUFFER, info, 3) == YUGERZAT_ENDS && refused_at(3, 0) && out_untouched_from(0));
+    CHECK(yugerzat_read(kind, NULL, 0, 0, out, BUFFER, info, 3) == YUGERZAT_ENDS);
+    CHECK(ended_at(3, 0, first_bytes(kind)) && out_untouched_from(0));
     CHECK(read_kind(kind, b, b.count, BUFFER) == YUGERZAT_ENDS);
-    CHECK(refused_at(3, b.count) && out_untouched_from(0));
+    CHECK(ended_at(3, b.count, first_bytes(kind)) && out_untouched_from(0));
     CHECK(read_kind(kind, b, b.count + 1, BUFFER) == YUGERZAT_PAST_END);
     CHECK(refused_at(3, 0) && out_untouched_from(0));
     CHECK(read_kind(kind, b, SIZE_MAX, BUFFER) == YUGERZAT_PAST_END);
@@ -231,6 +340,14 @@ static void undeclared(uint32_t kind, const char *message, uint64_t place)
     of = "";
 }
 
+static void ends(uint32_t kind, const char *message, uint64_t place, uint64_t wanting)
+{
+    of = message;
+    CHECK(read_kind(kind, hex(message), 0, BUFFER) == YUGERZAT_ENDS);
+    CHECK(ended_at(3, place, wanting) && out_untouched_from(0));
+    of = "";
+}
+
 static void test_read(void)
 {
     uint32_t kind;
@@ -275,12 +392,40 @@ static void test_read(void)
     undeclared(YUGERZAT_SATTR3, "00000000 00000000 00000000 00000000 00000000 00000003", 20);
     undeclared(YUGERZAT_REJECTED_REPLY, "00000001 00000006", 4);
 
+    /* A message that ends inside an item, and what is wanting: of a word or eight bytes, .. */
+    ends(YUGERZAT_U32, "", 0, 4);
+    ends(YUGERZAT_U32, "000000", 0, 1);
+    ends(YUGERZAT_BOOL, "00", 0, 3);
+    ends(YUGERZAT_U64, "", 0, 8);
+    ends(YUGERZAT_U64, "00000000", 0, 4);
+    ends(YUGERZAT_EIGHT, "01020304 050607", 0, 1);
+    ends(YUGERZAT_FTYPE3, "0000", 0, 2);
+    /* .. of a length word, and then of content and pad, or of the words, .. */
+    ends(YUGERZAT_OPAQUE, "", 0, 4);
+    ends(YUGERZAT_OPAQUE, "0000", 0, 2);
+    ends(YUGERZAT_OPAQUE, "00000001", 0, 4);
+    ends(YUGERZAT_OPAQUE, "00000001 AA0000", 0, 1);
+    ends(YUGERZAT_OPAQUE, "00000005 68656C6C", 0, 4);
+    ends(YUGERZAT_NFSSTRING, "00000004 616263", 0, 1);
+    ends(YUGERZAT_WORDS, "000000", 0, 1);
+    ends(YUGERZAT_WORDS, "00000003", 0, 12);
+    ends(YUGERZAT_WORDS, "00000003 00000001 0000", 0, 6);
+    /* .. and of an item inside a larger message. */
+    ends(YUGERZAT_NFSTIME3, "00000007 0000", 4, 2);
+    ends(YUGERZAT_SET_SIZE3, "00000001 00000000 0000", 4, 2);
+    ends(YUGERZAT_DIROPARGS3, "00000004 0A0B0C0D 00000005 68656C", 8, 5);
+    ends(YUGERZAT_AUTH_UNIX, "00000001 00000003 616263", 4, 1);
+    ends(YUGERZAT_AUTH_UNIX, "00000001 00000000 00000002 00000003 00000002 00000004 00", 16, 3);
+    ends(YUGERZAT_RPC_MSG, "0000002A 00000000 00000002 000186A3 00000003 00000001 00000001 00000190 01", 28, 399);
+
     /* Lengths that would pass the end of every number. */
-    of = "FFFFFFFF";
-    CHECK(read_kind(YUGERZAT_OPAQUE, hex("FFFFFFFF 00000000"), 0, BUFFER) == YUGERZAT_ENDS && refused_at(3, 0));
-    CHECK(read_kind(YUGERZAT_WORDS, hex("FFFFFFFF 00000000"), 0, BUFFER) == YUGERZAT_ENDS && refused_at(3, 0));
-    CHECK(read_kind(YUGERZAT_WORDS, hex("40000001 00000000"), 0, BUFFER) == YUGERZAT_ENDS && refused_at(3, 0));
-    of = "";
+    ends(YUGERZAT_OPAQUE, "FFFFFFFF", 0, 4294967296);
+    ends(YUGERZAT_OPAQUE, "FFFFFFFC", 0, 4294967292);
+    ends(YUGERZAT_OPAQUE, "FFFFFFFF 00000000", 0, 4294967292);
+    ends(YUGERZAT_WORDS, "FFFFFFFF", 0, 17179869180);
+    ends(YUGERZAT_WORDS, "FFFFFFFF 00000000", 0, 17179869176);
+    ends(YUGERZAT_WORDS, "40000001 00000000", 0, 4294967296);
+    ends(YUGERZAT_WORDS, "3FFFFFFF 0000", 0, 4294967290);
 
     /* An opaque that fills a message of the largest size: what is written is as long as what is read. */
     memset(long_message, 0x5A, sizeof long_message);
@@ -293,6 +438,17 @@ static void test_read(void)
     memset(long_out, 0xEE, sizeof long_out);
     CHECK(yugerzat_read(YUGERZAT_OPAQUE, long_message, YUGERZAT_LIMIT, 0, long_out, YUGERZAT_LIMIT - 1, info, 3) == YUGERZAT_NO_ROOM);
     CHECK(long_out[0] == 0xEE && memcmp(long_out, long_out + 1, sizeof long_out - 1) == 0);
+    /* Its last byte is wanting; and one byte more of content, with its pad, would make the message too long. */
+    fresh();
+    CHECK(yugerzat_read(YUGERZAT_OPAQUE, long_message, YUGERZAT_LIMIT - 1, 0, long_out, YUGERZAT_LIMIT, info, 3) == YUGERZAT_ENDS);
+    CHECK(ended_at(3, 0, 1));
+    memcpy(long_message, hex("000FFFFD").at, 4);
+    fresh();
+    CHECK(yugerzat_read(YUGERZAT_OPAQUE, long_message, YUGERZAT_LIMIT, 0, long_out, YUGERZAT_LIMIT, info, 3) == YUGERZAT_ENDS);
+    CHECK(ended_at(3, 0, 4) && long_out[0] == 0xEE);
+    fresh();
+    CHECK(yugerzat_read(YUGERZAT_OPAQUE, long_message, YUGERZAT_LIMIT + 1, 0, long_out, YUGERZAT_LIMIT, info, 3) == YUGERZAT_TOO_LONG);
+    CHECK(refused_at(3, 0));
 }
 
 /* ---- yugerzat_fragment */
@@ -474,7 +630,29 @@ static uint32_t choose(const char *message, uint32_t seen, size_t room)
 #define CALL_NFS "0000002A 00000000 00000002 000186A3 00000003 00000006 00000000 00000000 00000000 00000000"
 #define CALL_UNIX                                                                                                \
     "0000002A 00000000 00000002 000186A0 00000002 00000003 00000001 0000001D 00000001 00000003 61626300 00000002" \
-    "00000003 00000001 00000004 EE 000000 00000000 00000000 11223344"
+    "00000003 00000001 00000004 EE 000000 00000000 00000000"
+#define ARGUMENTS "11223344"
+
+/* A call for NFS by AUTH_UNIX: everything before the credential's body, but for its length, which is the last byte. */
+#define CALL_BEFORE_BODY "0000002A 00000000 00000002 000186A3 00000003 00000006 00000001 000000"
+
+static uint32_t choose_by_message(const uint8_t *message, size_t count, size_t first)
+{
+    return yugerzat_choose(message + first, count - first, 0, out, BUFFER, info, 12);
+}
+
+/* The body of a credential, as long as it is, in a message that is whole: 32 bytes before, pad and a null verifier behind. */
+static uint32_t choose_by_body(const uint8_t *message, size_t count, size_t first)
+{
+    struct bytes call = hex(CALL_BEFORE_BODY);
+    size_t length = count - first, pad = (4 - length % 4) % 4;
+    call.at[call.count++] = (uint8_t)length;
+    memcpy(call.at + call.count, message + first, length);
+    call.count += length;
+    memset(call.at + call.count, 0, pad + 8);
+    call.count += pad + 8;
+    return yugerzat_choose(call.at, call.count, 0, out, BUFFER, info, 12);
+}
 
 static void test_choose(void)
 {
@@ -484,7 +662,7 @@ static void test_choose(void)
     CHECK(choose(CALL_NFS, 0, 0) == YUGERZAT_HAND_OVER && figures(12, nfs) && out_untouched_from(0));
     fresh();
     CHECK(yugerzat_choose(b.at, b.count, 0, NULL, 0, info, 12) == YUGERZAT_HAND_OVER && figures(12, nfs));
-    CHECK(choose(CALL_UNIX, 0, BUFFER) == YUGERZAT_HAND_OVER && figures(12, portmap) && out_untouched_from(0));
+    CHECK(choose(CALL_UNIX ARGUMENTS, 0, BUFFER) == YUGERZAT_HAND_OVER && figures(12, portmap) && out_untouched_from(0));
     CHECK(choose(CALL_NFS, 1, 24) == YUGERZAT_SILENCE && refused_at(12, 0) && out_untouched_from(0));
     CHECK(choose(CALL_NFS, 0xFFFFFFFF, 24) == YUGERZAT_SILENCE && refused_at(12, 0) && out_untouched_from(0));
 
@@ -499,16 +677,34 @@ static void test_choose(void)
 
     CHECK(choose("0000002A 00000001 00000000 00000000 00000000 00000000", 0, BUFFER) == YUGERZAT_REPLY_CAME);
     CHECK(refused_at(12, 0) && out_untouched_from(0));
-    CHECK(choose("0000002A 00000000 00000002", 0, BUFFER) == YUGERZAT_ENDS && refused_at(12, 12) && out_untouched_from(0));
-    /* a credential that ends inside its list of groups: the place is one of the whole message */
-    CHECK(choose("0000002A 00000000 00000002 000186A3 00000003 00000006 00000001 00000014 00000001 00000000 00000002 00000003"
-                 "00000001 00000000 00000000", 0, BUFFER) == YUGERZAT_ENDS);
-    CHECK(refused_at(12, 48) && out_untouched_from(0));
+    CHECK(choose("0000002A 00000000 00000002", 0, BUFFER) == YUGERZAT_ENDS && ended_at(12, 12, 4) && out_untouched_from(0));
+    CHECK(choose("0000002A 00000000 00000002 00", 0, BUFFER) == YUGERZAT_ENDS && ended_at(12, 12, 3) && out_untouched_from(0));
+    /* a credential's body that is cut itself: the place is that of its length word */
+    CHECK(choose(CALL_BEFORE_BODY "14 00000001 00000000 00000002 00000003 000000", 0, BUFFER) == YUGERZAT_ENDS);
+    CHECK(ended_at(12, 28, 1) && out_untouched_from(0));
+    /* a credential that ends inside its list of groups: the place is one of the whole message, the bytes are wanting in the body */
+    CHECK(choose(CALL_BEFORE_BODY "14 00000001 00000000 00000002 00000003 00000001 00000000 00000000", 0, BUFFER) ==
+          YUGERZAT_ENDS);
+    CHECK(ended_at(12, 48, 4) && out_untouched_from(0));
+    CHECK(choose(CALL_BEFORE_BODY "16 00000001 00000000 00000002 00000003 00000003 0000 0000 00000000 00000000" ARGUMENTS, 0,
+                 BUFFER) == YUGERZAT_ENDS);
+    CHECK(ended_at(12, 48, 10) && out_untouched_from(0));
+    CHECK(choose(CALL_BEFORE_BODY "03 000000 00 00000000 00000000", 0, BUFFER) == YUGERZAT_ENDS);
+    CHECK(ended_at(12, 32, 1) && out_untouched_from(0));
+    CHECK(choose(CALL_BEFORE_BODY "00 00000000 00000000", 0, BUFFER) == YUGERZAT_ENDS);
+    CHECK(ended_at(12, 32, 4) && out_untouched_from(0));
+    of = "a call that is cut";
+    cut(choose_by_message, YUGERZAT_HAND_OVER, 12, CALL_NFS, 0);
+    of = "a call by AUTH_UNIX that is cut";
+    cut(choose_by_message, YUGERZAT_HAND_OVER, 12, CALL_UNIX, 0);
+    of = "a credential that is cut";
+    cut(choose_by_body, YUGERZAT_HAND_OVER, 12, samples[YUGERZAT_AUTH_UNIX].message, 32);
+    of = "";
     CHECK(choose("0000002A 00000000 00000002 000186A3 00000003 00000006 00000004 00000000 00000000 00000000", 0, BUFFER) ==
           YUGERZAT_UNDECLARED);
     CHECK(refused_at(12, 24) && out_untouched_from(0));
     fresh();
-    CHECK(yugerzat_choose(NULL, 0, 0, NULL, 0, info, 12) == YUGERZAT_ENDS && refused_at(12, 0));
+    CHECK(yugerzat_choose(NULL, 0, 0, NULL, 0, info, 12) == YUGERZAT_ENDS && ended_at(12, 0, 4));
     fresh();
     CHECK(yugerzat_choose(b.at, b.count, 0, out, BUFFER, info, 11) == YUGERZAT_SHORT_LIST && all_untouched());
     CHECK(yugerzat_choose(b.at, b.count, 0, out, BUFFER, NULL, 0) == YUGERZAT_SHORT_LIST && all_untouched());
@@ -533,11 +729,19 @@ static uint32_t read_at(reader *read, const char *message, size_t at, size_t cou
     return read(b.at, b.count, at, info, count);
 }
 
+/* The reader and its figures stand here, so that the signature of `cut` serves. */
+static reader *reader_cut;
+static size_t figures_cut;
+
+static uint32_t read_by_reader(const uint8_t *message, size_t count, size_t first)
+{
+    return reader_cut(message, count, first, info, figures_cut);
+}
+
 static void reader_limits(const char *name, reader *read, size_t count, const char *message)
 {
-    struct bytes b = hex(message), part = b, later;
+    struct bytes b = hex(message), later;
     uint64_t took[FIGURES];
-    size_t n;
     of = name;
     CHECK(read_at(read, message, 0, count) == YUGERZAT_DONE);
     CHECK(info[YUGERZAT_NEXT] == b.count && info[YUGERZAT_PLAIN] == 1 && info_untouched_from(count));
@@ -552,17 +756,15 @@ static void reader_limits(const char *name, reader *read, size_t count, const ch
     CHECK(read(later.at, later.count, 5, info, count) == YUGERZAT_DONE);
     CHECK(info[YUGERZAT_NEXT] == b.count + 5 && info[YUGERZAT_PLAIN] == 1 && info_untouched_from(count));
     /* cut at every place */
-    for (n = 0; n < b.count; n++) {
-        part.count = n;
-        fresh();
-        CHECK(read(part.at, part.count, 0, info, count) == YUGERZAT_ENDS);
-        CHECK(info[0] <= n && info[0] % 4 == 0 && refused_at(count, info[0]));
-    }
+    reader_cut = read;
+    figures_cut = count;
+    cut(read_by_reader, YUGERZAT_DONE, count, message, 0);
+    cut(read_by_reader, YUGERZAT_DONE, count, message, 5);
     fresh();
-    CHECK(read(NULL, 0, 0, info, count) == YUGERZAT_ENDS && refused_at(count, 0));
+    CHECK(read(NULL, 0, 0, info, count) == YUGERZAT_ENDS && ended_at(count, 0, 4));
     fresh();
     CHECK(read(NULL, 0, 1, info, count) == YUGERZAT_PAST_END && refused_at(count, 0));
-    CHECK(read_at(read, message, b.count, count) == YUGERZAT_ENDS && refused_at(count, b.count));
+    CHECK(read_at(read, message, b.count, count) == YUGERZAT_ENDS && ended_at(count, b.count, 4));
     CHECK(read_at(read, message, b.count + 1, count) == YUGERZAT_PAST_END && refused_at(count, 0));
     CHECK(read_at(read, message, SIZE_MAX, count) == YUGERZAT_PAST_END && refused_at(count, 0));
     /* as long as may be, and one byte longer */
@@ -638,6 +840,12 @@ static uint32_t credential(const char *message, size_t at, size_t count, size_t 
     return yugerzat_read_auth_unix(b.at, b.count, at, count, info, list);
 }
 
+/* The end of the body is the end of the reading: eight bytes of the message lie behind it. */
+static uint32_t read_by_body(const uint8_t *message, size_t count, size_t first)
+{
+    return yugerzat_read_auth_unix(message, count + 8, first, count - first, info, YUGERZAT_AUTH_UNIX_FIGURES);
+}
+
 static void test_auth_unix(void)
 {
     /* four bytes before, the credential of 32 bytes, and four that are left over in the body */
@@ -645,23 +853,28 @@ static void test_auth_unix(void)
     static const uint64_t due[9] = {36, 1, 1, 12, 3, 2, 3, 28, 2};
     static const uint64_t dirty[9] = {20, 0, 1, 8, 1, 2, 3, 24, 0};
     struct bytes b = hex(message);
-    size_t n;
     CHECK(credential(message, 4, 32, 9) == YUGERZAT_DONE && figures(9, due));
     CHECK(credential(message, 4, 36, 9) == YUGERZAT_DONE && figures(9, due));
     CHECK(credential(message, 4, 32, FIGURES) == YUGERZAT_DONE && figures(9, due));
-    for (n = 0; n < 32; n++) {
-        CHECK(credential(message, 4, n, 9) == YUGERZAT_ENDS);
-        CHECK(info[0] >= 4 && info[0] <= 4 + n && info[0] % 4 == 0 && refused_at(9, info[0]));
-    }
-    /* a body that is not inside the message */
-    CHECK(credential(message, 4, 37, 9) == YUGERZAT_ENDS && refused_at(9, 0));
-    CHECK(credential(message, 41, 0, 9) == YUGERZAT_ENDS && refused_at(9, 0));
-    CHECK(credential(message, SIZE_MAX, 1, 9) == YUGERZAT_ENDS && refused_at(9, 0));
-    CHECK(credential(message, 4, SIZE_MAX, 9) == YUGERZAT_ENDS && refused_at(9, 0));
+    /* a body that is cut, in a message that is not: the bytes are wanting in the body */
+    CHECK(credential(message, 4, 31, 9) == YUGERZAT_ENDS && ended_at(9, 24, 1));
+    CHECK(credential(message, 4, 24, 9) == YUGERZAT_ENDS && ended_at(9, 24, 8));
+    CHECK(credential(message, 4, 21, 9) == YUGERZAT_ENDS && ended_at(9, 24, 3));
+    CHECK(credential(message, 4, 10, 9) == YUGERZAT_ENDS && ended_at(9, 8, 2));
+    CHECK(credential(message, 4, 0, 9) == YUGERZAT_ENDS && ended_at(9, 4, 4));
+    of = "a credential that is cut";
+    cut(read_by_body, YUGERZAT_DONE, 9, samples[YUGERZAT_AUTH_UNIX].message, 0);
+    cut(read_by_body, YUGERZAT_DONE, 9, samples[YUGERZAT_AUTH_UNIX].message, 4);
+    of = "";
+    /* a body that is not inside the message: as an empty one at its start */
+    CHECK(credential(message, 4, 37, 9) == YUGERZAT_ENDS && ended_at(9, 0, 4));
+    CHECK(credential(message, 41, 0, 9) == YUGERZAT_ENDS && ended_at(9, 0, 4));
+    CHECK(credential(message, SIZE_MAX, 1, 9) == YUGERZAT_ENDS && ended_at(9, 0, 4));
+    CHECK(credential(message, 4, SIZE_MAX, 9) == YUGERZAT_ENDS && ended_at(9, 0, 4));
     /* one that is empty, at the end */
-    CHECK(credential(message, 40, 0, 9) == YUGERZAT_ENDS && refused_at(9, 40));
+    CHECK(credential(message, 40, 0, 9) == YUGERZAT_ENDS && ended_at(9, 40, 4));
     fresh();
-    CHECK(yugerzat_read_auth_unix(NULL, 0, 0, 0, info, 9) == YUGERZAT_ENDS && refused_at(9, 0));
+    CHECK(yugerzat_read_auth_unix(NULL, 0, 0, 0, info, 9) == YUGERZAT_ENDS && ended_at(9, 0, 4));
     /* padding that is not zero */
     CHECK(credential("00000001 00000001 61000001 00000002 00000003 00000000", 0, 24, 9) == YUGERZAT_DONE);
     CHECK(info[0] == 24 && info[1] == 0 && memcmp(info + 2, dirty + 2, 7 * sizeof *info) == 0);
@@ -846,7 +1059,8 @@ static void test_diropargs3(void)
     CHECK(read_at(yugerzat_read_diropargs3, message, 0, 6) == YUGERZAT_DONE && figures(6, due));
     CHECK(read_at(yugerzat_read_diropargs3, "00000004 0A0B0C0D 00000005 68656C6C 6F0000FF", 0, 6) == YUGERZAT_DONE);
     CHECK(figures(6, dirty));
-    CHECK(read_at(yugerzat_read_diropargs3, "00000000 FFFFFFFF 00000000", 0, 6) == YUGERZAT_ENDS && refused_at(6, 4));
+    CHECK(read_at(yugerzat_read_diropargs3, "00000000 FFFFFFFF 00000000", 0, 6) == YUGERZAT_ENDS);
+    CHECK(ended_at(6, 4, 4294967292));
 
     source = hex(message);
     writer_limits("yugerzat_write_diropargs3", write_diropargs3, fields, YUGERZAT_DIROPARGS3_FIELDS, message);

@@ -42,8 +42,9 @@ enum yugerzat_answer {
     /* It was done, and the figures say what. */
     YUGERZAT_DONE = 0,
 
-    /* Refusals. The first two have a place. */
-    YUGERZAT_ENDS = 1,              /* the message ends inside an item; the place of the item's first byte */
+    /* Refusals. The first two have a place, and the first says how many bytes are wanting. */
+    YUGERZAT_ENDS = 1,              /* the message ends inside an item; the place of the item's first byte, and how many
+                                       bytes are wanting to finish it (see YUGERZAT_WANTING) */
     YUGERZAT_UNDECLARED = 2,        /* a closed enumeration, or the tag of a set_atime or set_mtime, has a number that is
                                        not declared; the place of that word */
     YUGERZAT_TOO_LONG = 3,          /* a message, a source, a capacity or an encoding is over YUGERZAT_LIMIT bytes */
@@ -131,11 +132,27 @@ enum yugerzat_kind {
 
 /*
  * The figures that every reader puts first. Where the reading is refused, YUGERZAT_NEXT holds the refusal's place (0
- * for a refusal that has none) and all other figures of the function are 0.
+ * for a refusal that has none), YUGERZAT_WANTING how many bytes are wanting (0 for every refusal but YUGERZAT_ENDS), and
+ * all other figures of the function are 0.
+ *
+ * WANTING is the rest of the item inside which the message ends: of a word, a hyper or eight fixed bytes, or of a length
+ * word that was cut; once the length word is there, of an opaque's content and pad, or of a list's words. While the
+ * message stays within YUGERZAT_LIMIT bytes, exactly so many more bytes complete the item, or the length word where that
+ * was cut, whatever they hold; fewer never do. So a program whose bytes come late waits for no byte too many:
+ *
+ *     while ((answer = yugerzat_judge(message, length, 0, info, YUGERZAT_JUDGE_FIGURES)) == YUGERZAT_ENDS) {
+ *         if (info[YUGERZAT_WANTING] > sizeof message - length)
+ *             return -1;
+ *         receive(message + length, info[YUGERZAT_WANTING]);
+ *         length += info[YUGERZAT_WANTING];
+ *     }
+ *
+ * It tests its room first, because the sender chooses the length words: up to 17,179,869,180 bytes can be wanting.
  */
 enum {
-    YUGERZAT_NEXT = 0, /* the place after what was read */
-    YUGERZAT_PLAIN = 1 /* 1 if what was read is in published form, and else 0 */
+    YUGERZAT_NEXT = 0,   /* the place after what was read */
+    YUGERZAT_PLAIN = 1,  /* 1 if what was read is in published form, and else 0 */
+    YUGERZAT_WANTING = 1 /* where the reading is refused: how many bytes are wanting */
 };
 
 /* ------------------------------------------------------------------ any kind: read, and written in published form */
@@ -266,8 +283,9 @@ enum {
 /*
  * Reads the auth_unix inside a credential's body, the piece `at`, `count` of message. The end of the body is the end of
  * the reading; bytes left over in it are ignored. All places are places of the whole message. A body that does not lie
- * in the message is as an empty one: YUGERZAT_ENDS at place 0.
- * Refusals: YUGERZAT_ENDS, YUGERZAT_TOO_LONG.
+ * in the message is as an empty one: YUGERZAT_ENDS at place 0, 4 bytes wanting.
+ * Refusals: YUGERZAT_ENDS, YUGERZAT_TOO_LONG. Bytes that are wanting are wanting in the body: more bytes behind the
+ * message do not help.
  */
 uint32_t yugerzat_read_auth_unix(const uint8_t *message, size_t message_len, size_t at, size_t count, uint64_t *info,
                                  size_t info_len);
@@ -455,7 +473,9 @@ enum {
  * YUGERZAT_REPLY: a reply to send back stands at the start of out, 24 bytes: the RPC version is not 2, or the program is
  * not served. YUGERZAT_SILENCE: the call was seen before.
  * Refusals: YUGERZAT_TOO_LONG, YUGERZAT_ENDS, YUGERZAT_UNDECLARED, YUGERZAT_REPLY_CAME, and YUGERZAT_NO_ROOM where a
- * reply is due and out is shorter than that. The first figure is the refusal's place, or 0.
+ * reply is due and out is shorter than that. The first figure is the refusal's place, or 0; the second, YUGERZAT_WANTING,
+ * how many bytes are wanting, or 0. Where the auth_unix of the credential ends, they are wanting in the credential's
+ * body, and more bytes behind the message do not help; yugerzat_judge tells, since it takes such a message.
  * All figures that have no meaning for the answer are 0.
  */
 uint32_t yugerzat_choose(const uint8_t *message, size_t message_len, uint32_t seen, uint8_t *out, size_t out_len,

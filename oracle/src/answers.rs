@@ -3,21 +3,29 @@
 /// The bound of refusal 3.
 pub const BOUND: usize = 1_048_576;
 
-/// A refusal: its number, and its place where it has one (1 and 2).
+/// A refusal: its number, its place where it has one (1 and 2), and how many bytes are wanting (1).
 #[derive(Clone, Copy, Debug, PartialEq, Eq)]
 pub struct Refusal {
     pub number: u32,
     pub place: usize,
+    /// In 64 bits on every machine: a word list may want four times 2^32.
+    pub wanting: u64,
 }
 
 impl Refusal {
     /// A refusal that has no place.
     pub const fn plain(number: u32) -> Refusal {
-        Refusal { number, place: 0 }
+        Refusal { number, place: 0, wanting: 0 }
     }
 
-    pub fn has_place(&self) -> bool {
-        matches!(self.number, 1 | 2)
+    /// The message ends inside the item at a place: so many more bytes finish it, or its length word where that was cut.
+    pub const fn ended(place: usize, wanting: u64) -> Refusal {
+        Refusal { number: 1, place, wanting }
+    }
+
+    /// The word at a place has a number that is not declared.
+    pub const fn undeclared(place: usize) -> Refusal {
+        Refusal { number: 2, place, wanting: 0 }
     }
 }
 
@@ -164,10 +172,11 @@ impl Told {
         Told { answer, figures: Vec::new() }
     }
 
-    /// A refusal's place, or 0, and zeros for all other figures.
+    /// What a reader that refuses tells: the refusal's place, or 0; what is wanting, or 0; and zeros for all other figures.
     pub fn refused(refusal: &Refusal, count: usize) -> Told {
         let mut figures = vec![0; count];
         figures[0] = refusal.place as u64;
+        figures[1] = refusal.wanting;
         Told { answer: refusal.number, figures }
     }
 

@@ -1,9 +1,9 @@
 //! One case asked of both sides.
 use crate::answers::{
-    Fed, Refusal, State, Told, CHOOSE_FIGURES, FEED_FIGURES, PART_FIGURES, READ_FIGURES, STATE_FIGURES, UNKNOWN_KIND,
+    Fed, Refusal, State, Told, CHOOSE_FIGURES, FEED_FIGURES, PART_FIGURES, READ_FIGURES, REPLY, STATE_FIGURES, UNKNOWN_KIND,
     WRITE_FIGURES,
 };
-use crate::cases::{Case, Lending, Question, Room};
+use crate::cases::{call_with, Case, Cut, Lending, Question, Room, BODY};
 use crate::lent::{bytes, list, Left};
 use crate::lines::hex;
 use crate::model::Model;
@@ -12,11 +12,14 @@ use crate::shapes::{kind, KINDS};
 use crate::tally::Tally;
 use crate::truth::Truth;
 use crate::values::Value;
+use crate::wanting::{broken, Said};
 
 pub struct Sides {
     truth: Truth,
     proved: Proved,
     tally: Tally,
+    /// What the proved side told last.
+    said: Said,
 }
 
 /// A case on which the sides differ.
@@ -27,7 +30,7 @@ pub struct Difference {
 
 impl Sides {
     pub fn new() -> Sides {
-        Sides { truth: Truth::new(), proved: Proved::new(), tally: Tally::default() }
+        Sides { truth: Truth::new(), proved: Proved::new(), tally: Tally::default(), said: Said::default() }
     }
 
     /// What was due so far.
@@ -52,6 +55,7 @@ impl Sides {
             Question::Feed { capacity, runs } => self.feed(*capacity, runs, lending),
             Question::State { state, length, run } => self.state(*state, *length, run, lending),
             Question::Fragment { message, room, start } => self.fragment(message, *room, *start, lending),
+            Question::Cuts { cut, message } => self.cuts(*cut, message, lending),
         }
     }
 
@@ -262,8 +266,48 @@ impl Sides {
         self.same("fragment", &got, &due)
     }
 
+    /// Each cut of a whole message is compared; then all that the proved side told of them is held against each other.
+    fn cuts(&mut self, cut: Cut, message: &[u8], lending: &Lending) -> Option<Difference> {
+        let (at, whole) = match cut {
+            Cut::Kind { at, .. } => (at, [&vec![0; at], message].concat()),
+            Cut::Body | Cut::Credential => (BODY, call_with(message)),
+            Cut::Call => (0, call_with(message)),
+        };
+        let longest = if cut == Cut::Call { whole.len() } else { message.len() };
+        let mut said = Vec::new();
+        for length in 0..=longest {
+            let difference = match cut {
+                Cut::Kind { kind, at } => self.kind(kind, at, &whole[..at + length], lending),
+                Cut::Body => self.auth_unix(at, length, &whole, lending),
+                Cut::Credential => self.choose(false, REPLY, &call_with(&message[..length]), lending),
+                Cut::Call => self.choose(false, REPLY, &whole[..length], lending),
+            };
+            if let Some(Difference { proved, expected }) = difference {
+                let at_length = |text: String| format!("cut to {length}: {text}");
+                return Some(Difference { proved: at_length(proved), expected: at_length(expected) });
+            }
+            said.push(self.said);
+        }
+        if let Some((length, what)) = broken(at, &said) {
+            let expected = String::from("exactly what is wanting, and no less, finishes the item");
+            return Some(Difference { proved: format!("cut to {length}: {what}"), expected });
+        }
+        self.tally.cut(cut.name(), longest);
+        None
+    }
+
+    /// All readers of a kind.
+    fn kind(&mut self, kind: usize, at: usize, message: &[u8], lending: &Lending) -> Option<Difference> {
+        match Value::WRITTEN.into_iter().find(|value| value.kind() == KINDS[kind].0) {
+            Some(value) => self.value(value, at, message, lending),
+            None => self.read(kind as u32, at, message, Room::Ample, lending),
+        }
+    }
+
     /// Whether the answer and all that was lent are the same, what lies around it too.
     fn same(&mut self, function: &'static str, got: &Left, due: &Left) -> Option<Difference> {
+        let figure = |index: usize| got.info.get().get(index).copied().unwrap_or_default();
+        self.said = Said { answer: got.answer, place: figure(0), wanting: figure(1) };
         self.tally.due(function, due.answer);
         (got != due).then(|| differ(got, due))
     }

@@ -2,7 +2,7 @@
 use std::fmt::Write;
 
 use crate::answers::{Choice, Fed, Refusal, State, Took};
-use crate::cases::Question;
+use crate::cases::{Cut, Question};
 use crate::shapes::KINDS;
 
 /// The longest line that is read.
@@ -20,10 +20,13 @@ pub fn hex(bytes: &[u8]) -> String {
     text
 }
 
+/// A refusal of a reading.
 pub fn refusal(refusal: &Refusal) -> String {
-    match refusal.has_place() {
-        true => format!("refused {} {}", refusal.number, refusal.place),
-        false => format!("refused {}", refusal.number),
+    let Refusal { number, place, wanting } = refusal;
+    match number {
+        1 => format!("refused 1 {place} {wanting}"),
+        2 => format!("refused 2 {place}"),
+        _ => format!("refused {number}"),
     }
 }
 
@@ -109,6 +112,10 @@ impl Question {
                 format!("state {capacity} {placed} {count} {value} {left} {last} {stopped} {length} {}", hex(run))
             },
             Question::Fragment { message, room, start } => format!("fragment {} {room} {start}", hex(message)),
+            Question::Cuts { cut: Cut::Kind { kind, at }, message } => {
+                format!("cut everywhere: read {} {at} {}{}", KINDS[*kind].0, "00".repeat(*at), hex(message))
+            },
+            Question::Cuts { cut, message } => format!("cut everywhere: {} {}", cut.name(), hex(message)),
         }
     }
 }

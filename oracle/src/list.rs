@@ -5,16 +5,21 @@ use std::path::Path;
 
 use crate::answers::State;
 use crate::captured;
-use crate::cases::{append_call, append_message, cuts, damage, state, stream, Question, Room, Style};
+use crate::cases::{
+    append_call, append_message, call_with, cuts, damage, state, stream, with_pieces, Question, Room, Style,
+};
 use crate::lines::hex;
 use crate::random::Random;
-use crate::shapes::{Shape, KINDS};
+use crate::shapes::{Shape, AUTH_UNIX, KINDS};
 
 /// The list is the same each time.
 const SEED: u64 = 4506;
 
 /// Most messages of the list are short, so that a person can read them.
 const SHORT: usize = 160;
+
+/// Those that are cut at every byte are shorter, for each is as many lines.
+const CUT: usize = 120;
 
 /// All lines, none of them twice; those of the captures below a folder are the last.
 pub fn lines(captures: &Path) -> io::Result<Vec<String>> {
@@ -29,6 +34,7 @@ pub fn lines(captures: &Path) -> io::Result<Vec<String>> {
     streams(random, &mut list);
     pieces(random, &mut list);
     example(&mut list);
+    cut_everywhere(&mut list);
     list.extend(captured::lines(captures)?);
     let mut met = HashSet::new();
     list.retain(|line| met.insert(line.clone()));
@@ -42,6 +48,8 @@ const WORKED: &[&str] = &[
     "read opaque 0 0000000568656C6C6F000001",
     "read opaque 0 00000000",
     "read opaque 0 00000001AA0000",
+    "read words 0 00000003000000010000",
+    "read u64 0 -",
     "read i32 0 FFFFFFFF",
     "read i32 0 80000000",
     "read set_atime 0 00000003",
@@ -258,5 +266,24 @@ fn example(list: &mut Vec<String>) {
     }
     for (place, count) in [(4, 9), (24, 4), (32, 4), (40, 6)] {
         list.push(format!("part {EXAMPLE} {place} {count}"));
+    }
+}
+
+/// A message of each kind, plain and with pieces where it may have them, cut at every byte: the longest of a few, which has
+/// most of what it may have. A `write` line refuses what is cut likewise. Then the body of a call's credential: what is
+/// wanting there is wanting in the body.
+fn cut_everywhere(list: &mut Vec<String>) {
+    // Numbers of their own, so that the lines before stay as they are.
+    let random = &mut Random::of(SEED, 1);
+    for (kind, (name, shape)) in KINDS.iter().enumerate() {
+        let few = (0..4).map(|_| with_pieces(random, shape, Style::Plain, CUT));
+        let message = few.max_by_key(Vec::len).expect("there are a few");
+        list.extend((0..=message.len()).map(|end| read_line(kind, 0, &message[..end])));
+        let (room, cut) = (message.len(), &message[..message.len() - 1]);
+        list.push(format!("write {name} 0 {} {room} 0", hex(cut)));
+    }
+    let body = with_pieces(random, &AUTH_UNIX, Style::Plain, CUT);
+    for end in 0..=body.len() {
+        list.push(Question::Choose { seen: false, room: 24, message: call_with(&body[..end]) }.line());
     }
 }

@@ -17,6 +17,7 @@ mod shapes;
 mod tally;
 mod truth;
 mod values;
+mod wanting;
 
 use std::io::{BufRead, BufWriter, Write};
 use std::panic::{catch_unwind, AssertUnwindSafe};

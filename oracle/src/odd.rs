@@ -183,7 +183,7 @@ fn long() -> Vec<Vec<u8>> {
 fn line(question: &Question) -> Option<String> {
     match question {
         Question::Read { kind, .. } if *kind as usize >= KINDS.len() => None,
-        Question::Value { .. } | Question::AuthUnix { .. } => None,
+        Question::Value { .. } | Question::AuthUnix { .. } | Question::Cuts { .. } => None,
         // `write` reads what it writes.
         Question::Write { value, source, room, start, .. } => {
             let at = source.len().min(if *value == Value::Fattr3 { 0 } else { start % 9 });

@@ -25,6 +25,19 @@ pub enum Shape {
     Union { arms: &'static [(u32, &'static Shape)], undeclared: Undeclared },
 }
 
+impl Shape {
+    /// Whether a message of it may have an opaque or a word list.
+    pub fn has_pieces(&self) -> bool {
+        match self {
+            Shape::Opaque | Shape::WordList => true,
+            Shape::Record(fields) => fields.iter().any(|field| field.has_pieces()),
+            Shape::Optional(value) => value.has_pieces(),
+            Shape::Union { arms, .. } => arms.iter().any(|(_, arm)| arm.has_pieces()),
+            Shape::Word | Shape::Hyper | Shape::Eight | Shape::Flag | Shape::Closed(_) => false,
+        }
+    }
+}
+
 /// What a tag without an arm is.
 pub enum Undeclared {
     /// Refusal 2.

@@ -1,5 +1,5 @@
 //! How often each answer of each function was due: it shows that the cases reach all of them.
-use std::collections::BTreeMap;
+use std::collections::{BTreeMap, BTreeSet};
 use std::fmt::{Display, Formatter, Result};
 use std::ops::AddAssign;
 
@@ -11,6 +11,9 @@ pub struct Tally {
     loose: u64,
     /// How often the crate was not asked, because it would have allocated too much.
     pub unasked: u64,
+    /// What was cut at every byte, and how many counts of wanting bytes held in all.
+    cut: BTreeSet<&'static str>,
+    held: u64,
 }
 
 impl Tally {
@@ -22,6 +25,12 @@ impl Tally {
     pub fn took(&mut self, plain: bool) {
         *(if plain { &mut self.plain } else { &mut self.loose }) += 1;
     }
+
+    /// All cuts of a message were held against each other; so many of them had a count.
+    pub fn cut(&mut self, name: &'static str, counts: usize) {
+        self.cut.insert(name);
+        self.held += counts as u64;
+    }
 }
 
 impl AddAssign for Tally {
@@ -32,6 +41,8 @@ impl AddAssign for Tally {
         self.plain += other.plain;
         self.loose += other.loose;
         self.unasked += other.unasked;
+        self.cut.extend(other.cut);
+        self.held += other.held;
     }
 }
 
@@ -46,6 +57,7 @@ impl Display for Tally {
             }
             write!(f, " {answer}: {count}")?;
         }
-        write!(f, "\ntaken: plain {}, loose {}; the crate not asked: {}", self.plain, self.loose, self.unasked)
+        write!(f, "\ntaken: plain {}, loose {}; the crate not asked: {}", self.plain, self.loose, self.unasked)?;
+        write!(f, "\ncut at every byte: {} sorts of message; counts that held: {}", self.cut.len(), self.held)
     }
 }

@@ -13,13 +13,14 @@ use stdio::say;
 use xdr::Piece;
 use xdr::Refusal;
 
-// A refusal: its number, and its place where it has one.
+// A refusal: its number, its place where it has one, and how many bytes it wants where it wants any.
 pub(crate) fn refusal(out: &mut [u8], at: Out, r: Refusal) -> Out {
     let n = say(out, at, b"refused");
     match r {
-        Refusal::Ended(place) => {
+        Refusal::Ended { place, wanting } => {
             let m = print::number(out, n, 1);
-            print::number(out, m, place)
+            let k = print::number(out, m, place);
+            print::number(out, k, wanting)
         }
         Refusal::Undeclared(place) => {
             let m = print::number(out, n, 2);

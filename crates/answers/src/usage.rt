@@ -35,9 +35,10 @@ space. Bytes are hex, - for none; numbers are decimal and fit 64 bits.
     let a = say(
         out,
         a,
-        b"A refusal is refused N PLACE for 1 and 2, and refused N for the others. Buffers hold EE before anything is
-written. An empty run is fed once. A line that is not of this form, that has more than 65536 characters, or
-whose ROOM or LENGTH is over 1048576, gets ? and nothing else.
+        b"A refusal is refused 1 PLACE COUNT, where COUNT bytes are wanting to finish the item at PLACE, refused 2 PLACE,
+and refused N for the others. Buffers hold EE before anything is written. An empty run is fed once. A line that
+is not of this form, that has more than 65536 characters, or whose ROOM or LENGTH is over 1048576, gets ? and
+nothing else.
 ",
     );
     flush(out, a);

@@ -36,7 +36,7 @@ fn tell_copied(c: Copied, info: &mut [u64]) -> u32
             UNKNOWN_KIND
         }
         Copied::Unread(r) => {
-            put_figures(&[r.place() as u64], 2, info);
+            put_figures(&[r.place() as u64, r.wanting() as u64], 1, info);
             r.number()
         }
         Copied::Unwritten(r) => {
@@ -52,7 +52,7 @@ fn tell_copied(c: Copied, info: &mut [u64]) -> u32
 
 // Reads a message of a kind from place `at` of src, and writes it in published form from the start of out. 0: info holds the place after
 // what was read, 1 if that was in published form and else 0, and the count of bytes written. A refusal of the reading: info holds its
-// place, 0 and 0. A refusal of the writing: three zeros.
+// place, how many bytes it wants, and 0. A refusal of the writing: three zeros.
 #[no_mangle]
 pub extern "C" fn yugerzat_read(
     kind: u32,
@@ -111,7 +111,7 @@ fn tell_chosen(c: Choice, info: &mut [u64]) -> u32
 {
     match c {
         Choice::Refused(r) => {
-            put_figures(&[r.place() as u64], 11, info);
+            put_figures(&[r.place() as u64, r.wanting() as u64], 10, info);
             r.number()
         }
         Choice::Replied(n) => {
@@ -180,7 +180,8 @@ fn tell_hand_over(
 
 // Chooses what to answer to a message; seen is 0 where the call did not come before. 100: a hand-over; info holds program, version,
 // procedure, the place of the arguments, then 1 with stamp, place and count of the name, uid, gid, place and count of the gids, or 0 with
-// zeros. 101: a reply of info[0] bytes stands at the start of out. 102: silence. A refusal: info holds its place.
+// zeros. 101: a reply of info[0] bytes stands at the start of out. 102: silence. A refusal: info holds its place and how many bytes it
+// wants.
 #[no_mangle]
 pub extern "C" fn yugerzat_choose(
     message: &[u8],

@@ -1,11 +1,12 @@
 // The exported readers of single values. Each takes a list for its figures: 254 where it is too short, and then nothing is touched. 0: the
-// list holds the place after the value, 1 if it was in published form and else 0, and the value's figures. A refusal: its place and zeros.
+// list holds the place after the value, 1 if it was in published form and else 0, and the value's figures. A refusal: its place,
+// how many bytes it wants, and zeros.
 ghost use mathlib.Core.Path.{_≡_};
 ghost use mathlib.Core.Bool.{cond};
 ghost use mathlib.Core.List.{[], _∷_, _++_};
 ghost use Prim.Native.Nat.{_+_, _≤_};
 ghost use lib.ListN.{length, drop, replicate};
-ghost use Rattle.xdr.specs.Meaning.Refusal.{numberOf, placeOf};
+ghost use Rattle.xdr.specs.Meaning.Refusal.{numberOf, placeOf, wantingOf};
 ghost use Rattle.nfs.specs.Meaning.Change.{setModeFrom, setUidFrom, setGidFrom, setSizeFrom};
 ghost use Rattle.nfs.specs.Meaning.Set.{atimeFrom, mtimeFrom};
 ghost use Rattle.rpc.specs.declared.message.rpc_body.the-variants.{CALL, REPLY};
@@ -62,12 +63,12 @@ pub extern "C" fn yugerzat_part(message: &[u8], at: usize, count: usize, info: &
     4
 }
 
-// A refusal's number; its place, and zeros for a value of `count` figures.
+// A refusal's number; its place, how many bytes it wants, and zeros for a value of `count` figures.
 fn tell_refused(r: Refusal, count: usize, info: &mut [u64]) -> u32
     requires { ⌜ 2 + count ≤ length (now info) ⌝ }
-    ensures { λ n. ⌜ (n ≡ numberOf r) × Shown (placeOf r ∷ 0 ∷ replicate count 0) (now (info .entry)) (now (info .exit)) ⌝ }
+    ensures { λ n. ⌜ (n ≡ numberOf r) × Shown (placeOf r ∷ wantingOf r ∷ replicate count 0) (now (info .entry)) (now (info .exit)) ⌝ }
 {
-    put_figures(&[r.place() as u64, 0], count, info);
+    put_figures(&[r.place() as u64, r.wanting() as u64], count, info);
     r.number()
 }
 

@@ -20,12 +20,12 @@ pub(crate) fn three(out: &mut [u8], at: Out, a: usize, b: usize, c: usize) -> Ou
     number(out, n, c)
 }
 
-// A refusal: its number, and its place where it has one.
+// A refusal: its number, its place where it has one, and how many bytes it wants where it wants any.
 pub(crate) fn refusal(out: &mut [u8], at: Out, r: Refusal) -> Out {
     let n = say(out, at, b" refused");
     let m = number(out, n, r.number() as usize);
     match r {
-        Refusal::Ended(place) => number(out, m, place),
+        Refusal::Ended { place, wanting } => two(out, m, place, wanting),
         Refusal::Undeclared(place) => number(out, m, place),
         _ => m,
     }

@@ -69,6 +69,6 @@ unfolding mkdir number word word-pair hyper flag opaque pieceHeld auth-flavor op
 taken = refl
 
 -- cut in the attributes: the refusal has the place of the item that is cut
-pub cut : mkdir .held .read (header (dirops (0 ∷ 0 ∷ 0 ∷ 0 ∷ 0 ∷ 0 ∷ []))) 0 ≡ refused (Ended 60)
+pub cut : mkdir .held .read (header (dirops (0 ∷ 0 ∷ 0 ∷ 0 ∷ 0 ∷ 0 ∷ []))) 0 ≡ refused (Ended 60 2)
 unfolding mkdir number word word-pair hyper flag opaque pieceHeld auth-flavor opaque-auth reply-body call-body rpc-body rpc-msg nfs-fh diropargs nfstime set-mode set-uid set-gid set-size set-time set-atime set-mtime sattr
 cut = refl

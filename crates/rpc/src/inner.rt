@@ -253,7 +253,10 @@ pub fn auth_unix_in(src: &[u8], body: Piece) -> AuthUnixRead
     ensures { λ r. ⌜ viewAuthUnix r ≡ unixIn (now (src .entry)) body ⌝ }
 {
     if !inside(src, body) {
-        return AuthUnixRead::Refused(Refusal::Ended(0));
+        return AuthUnixRead::Refused(Refusal::Ended {
+            place: 0,
+            wanting: 4,
+        });
     }
     let at = body.at;
     let end = at + body.count;

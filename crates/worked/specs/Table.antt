@@ -5,7 +5,7 @@ use mathlib.Core.List.{List, [], _∷_}
 use Prim.Native.Nat.{ℕ}
 use lib.IntN.{negsuc}
 use Rattle.xdr.specs.Meaning.Answer.{took, refused}
-use Rattle.xdr.specs.Meaning.Items.{flag, int}
+use Rattle.xdr.specs.Meaning.Items.{word, hyper, flag, int}
 use Rattle.xdr.specs.Meaning.Format.{exactly}
 use Rattle.xdr.specs.Meaning.Formats.{bytes, wordList}
 use Rattle.rpc.specs.Meaning.Messages.{RpcMsg, call, reply, accepted}
@@ -65,8 +65,16 @@ rows =
     (0 ∷ 0 ∷ 0 ∷ 5 ∷ 0x68 ∷ 0x65 ∷ 0x6C ∷ 0x6C ∷ 0x6F ∷ 0 ∷ 0 ∷ 0 ∷ [])
     -- no bytes
     ∷ reading bytes (0 ∷ 0 ∷ 0 ∷ 0 ∷ []) (took [] 4 true) (0 ∷ 0 ∷ 0 ∷ 0 ∷ [])
-    -- a pad byte is missing
-    ∷ reading bytes (0 ∷ 0 ∷ 0 ∷ 1 ∷ 0xAA ∷ 0 ∷ 0 ∷ []) (refused (Ended 0)) []
+    -- a pad byte is missing, and wanting
+    ∷ reading bytes (0 ∷ 0 ∷ 0 ∷ 1 ∷ 0xAA ∷ 0 ∷ 0 ∷ []) (refused (Ended 0 1)) []
+    -- a word of three bytes wants one, a hyper of none wants eight
+    ∷ reading (exactly word) (0 ∷ 0 ∷ 0 ∷ []) (refused (Ended 0 1)) []
+    ∷ reading (exactly hyper) [] (refused (Ended 0 8)) []
+    -- three words, of which six bytes are there, want six; a length word of two bytes wants its own rest
+    ∷ reading wordList (0 ∷ 0 ∷ 0 ∷ 3 ∷ 0 ∷ 0 ∷ 0 ∷ 1 ∷ 0 ∷ 0 ∷ []) (refused (Ended 0 6)) []
+    ∷ reading bytes (0 ∷ 0 ∷ []) (refused (Ended 0 2)) []
+    -- a length of FFFFFFFF does not wrap: with the pad, 2 ^ 32 bytes are wanting
+    ∷ reading bytes (0xFF ∷ 0xFF ∷ 0xFF ∷ 0xFF ∷ []) (refused (Ended 0 4294967296)) []
     -- two words, and where they lie: the count of the piece is in words
     ∷ reading wordList (0 ∷ 0 ∷ 0 ∷ 2 ∷ 0 ∷ 0 ∷ 0 ∷ 7 ∷ 0xFF ∷ 0xFF ∷ 0xFF ∷ 0xFF ∷ []) (took (7 ∷ 4294967295 ∷ []) 12 true)
     (0 ∷ 0 ∷ 0 ∷ 2 ∷ 0 ∷ 0 ∷ 0 ∷ 7 ∷ 0xFF ∷ 0xFF ∷ 0xFF ∷ 0xFF ∷ [])

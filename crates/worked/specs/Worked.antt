@@ -19,4 +19,4 @@ use Rattle.worked.specs.Table.{rows}
 pub worked : All rows
 unfolding opened number word word-pair hyper flag int opaque words pieceHeld wordsHeld nfs-fh diropargs auth-flavor auth-stat opaque-auth mismatch-info accept-body accepted-reply rejected-reply reply-body call-body rpc-body rpc-msg nfstime set-mode set-uid set-gid set-size set-time set-atime set-mtime sattr feedOf begin advance after stepAt headerByte headed settled fitsOf
 worked =
-    ((refl, refl), ((refl, refl), ((refl, refl), ((refl, refl), ((refl, refl), ((refl, refl), (refl, (refl, ((refl, refl), ((refl, refl), ((refl, refl), ((refl, refl), ((refl, refl), ((refl, refl), (refl, (refl, (refl, (refl, (refl, tt)))))))))))))))))))
+    ((refl, refl), ((refl, refl), ((refl, refl), ((refl, refl), ((refl, refl), ((refl, refl), ((refl, refl), ((refl, refl), ((refl, refl), ((refl, refl), ((refl, refl), (refl, (refl, ((refl, refl), ((refl, refl), ((refl, refl), ((refl, refl), ((refl, refl), ((refl, refl), (refl, (refl, (refl, (refl, (refl, tt))))))))))))))))))))))))

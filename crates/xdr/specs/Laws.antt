@@ -3,10 +3,13 @@ pub mod Lists
 pub mod Marks
 pub mod Digits
 pub mod Parted
+pub mod Cuts
 pub mod Block
 pub mod Chain
 pub mod View
+pub mod Run
 pub mod Item
+pub mod Takes
 pub mod Promise
 pub mod Exact
 pub mod Made

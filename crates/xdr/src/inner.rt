@@ -1,7 +1,7 @@
 // For the crates above, and no door for users: items of a message whose length and start were tested already, and items laid at the front
 // of a lent buffer whose room was. Each is total all the same, and exact; it only leaves out refusals 3 and 9.
 ghost use mathlib.Core.Path.{_≡_};
-ghost use Prim.Native.Nat.{_+_, _<_, _≤_};
+ghost use Prim.Native.Nat.{_+_, _-_, _<_, _≤_};
 ghost use lib.ListN.{length};
 ghost use mathlib.Core.List.{_++_};
 ghost use Rattle.xdr.specs.Meaning.Items.{word, hyper, word-pair, hyper-pair, flag, int, long, opaque, words};
@@ -35,14 +35,31 @@ use crate::piece::inside;
 use crate::piece::words_inside;
 use crate::refusal::Refusal;
 
+// Of `size` bytes that begin at a place, a message of `len` bytes has fewer: the rest is wanting.
+fn cut_short(len: usize, at: usize, size: usize) -> Refusal
+    requires { ⌜ len - at < size ⌝ }
+    ensures { λ r. ⌜ r ≡ Ended at (size - (len - at)) ⌝ }
+{
+    if len < at {
+        return Refusal::Ended {
+            place: at,
+            wanting: size,
+        };
+    }
+    Refusal::Ended {
+        place: at,
+        wanting: size - (len - at),
+    }
+}
+
 pub fn u32_at(src: &[u8], at: usize) -> U32Read
     ensures { λ r. ⌜ viewU32 r ≡ word .kind .read (now (src .entry)) at ⌝ }
 {
     if src.len() < 4 {
-        return U32Read::Refused(Refusal::Ended(at));
+        return U32Read::Refused(cut_short(src.len(), at, 4));
     }
     if src.len() - 4 < at {
-        return U32Read::Refused(Refusal::Ended(at));
+        return U32Read::Refused(cut_short(src.len(), at, 4));
     }
     U32Read::Took {
         value: word_here(src, at),
@@ -54,10 +71,10 @@ pub fn u64_at(src: &[u8], at: usize) -> U64Read
     ensures { λ r. ⌜ viewU64 r ≡ hyper .kind .read (now (src .entry)) at ⌝ }
 {
     if src.len() < 8 {
-        return U64Read::Refused(Refusal::Ended(at));
+        return U64Read::Refused(cut_short(src.len(), at, 8));
     }
     if src.len() - 8 < at {
-        return U64Read::Refused(Refusal::Ended(at));
+        return U64Read::Refused(cut_short(src.len(), at, 8));
     }
     U64Read::Took {
         value: hyper_here(src, at),
@@ -65,18 +82,18 @@ pub fn u64_at(src: &[u8], at: usize) -> U64Read
     }
 }
 
-// Where the first of two numbers that is not whole begins.
+// The refusal of the first of two numbers that is not whole.
 fn pair_end(src: &[u8], at: usize, width: usize) -> Refusal
-    requires { ⌜ 0 < width ⌝ }
-    ensures { λ r. ⌜ r ≡ Ended (pairEnd width (length (now (src .entry))) at) ⌝ }
+    requires { ⌜ length (now src) - at < width + width ⌝ }
+    ensures { λ r. ⌜ r ≡ pairEnd width (now (src .entry)) at ⌝ }
 {
     if src.len() < width {
-        return Refusal::Ended(at);
+        return cut_short(src.len(), at, width);
     }
     if src.len() - width < at {
-        return Refusal::Ended(at);
+        return cut_short(src.len(), at, width);
     }
-    Refusal::Ended(at + width)
+    cut_short(src.len(), at + width, width)
 }
 
 // Two words that stand together, with one test of room for both.
@@ -180,7 +197,7 @@ fn body_at(src: &[u8], at: usize, n: u32) -> PieceRead
     let n = n as usize;
     let m = (n + 3) / 4 * 4;
     if src.len() - at - 4 < m {
-        return PieceRead::Refused(Refusal::Ended(at));
+        return PieceRead::Refused(cut_short(src.len(), at, 4 + m));
     }
     let w = word_here(src, at + m);
     PieceRead::Took {
@@ -212,12 +229,13 @@ pub fn words_at(src: &[u8], at: usize) -> PieceRead
         return PieceRead::Refused(r.refusal());
     };
     let n = n as usize;
-    if src.len() - p < n * 4 {
-        return PieceRead::Refused(Refusal::Ended(at));
+    let all = n * 4;
+    if src.len() - p < all {
+        return PieceRead::Refused(cut_short(src.len(), at, 4 + all));
     }
     PieceRead::Took {
         value: Piece { at: p, count: n },
-        next: p + n * 4,
+        next: p + all,
         plain: true,
     }
 }

@@ -1,10 +1,11 @@
 // Why a message is not read, written, assembled or answered: refusals 1 to 9 of docs/SCOPE.md, in one enum for every layer.
 ghost use mathlib.Core.Path.{_≡_};
-ghost use Rattle.xdr.specs.Meaning.Refusal.{numberOf, placeOf};
+ghost use Rattle.xdr.specs.Meaning.Refusal.{numberOf, placeOf, wantingOf};
 
 pub enum Refusal {
-    // 1: the message ends inside an item; the place of the item's first byte.
-    Ended(usize),
+    // 1: the message ends inside an item; the place of the item's first byte, and how many bytes are wanting to finish it: the rest of a
+    // word, a hyper or eight fixed bytes, or of a length word, or, once that word is there, of all that it counts, with the pad.
+    Ended { place: usize, wanting: usize },
     // 2: a closed enumeration, or a closed tag, has an undeclared number; the place of that word.
     Undeclared(usize),
     // 3: a message, a source, a capacity or an encoding is over 1,048,576 bytes.
@@ -28,7 +29,10 @@ impl Refusal {
         ensures { λ r. ⌜ r ≡ numberOf self ⌝ }
     {
         match self {
-            Refusal::Ended(_) => 1,
+            Refusal::Ended {
+                place: _,
+                wanting: _,
+            } => 1,
             Refusal::Undeclared(_) => 2,
             Refusal::TooLong => 3,
             Refusal::Outside => 4,
@@ -45,8 +49,25 @@ impl Refusal {
         ensures { λ r. ⌜ r ≡ placeOf self ⌝ }
     {
         match self {
-            Refusal::Ended(p) => p,
+            Refusal::Ended { place, wanting: _ } => place,
             Refusal::Undeclared(p) => p,
+            Refusal::TooLong => 0,
+            Refusal::Outside => 0,
+            Refusal::NoRoom => 0,
+            Refusal::Unfit => 0,
+            Refusal::Overrun => 0,
+            Refusal::NotCall => 0,
+            Refusal::PastEnd => 0,
+        }
+    }
+
+    // How many bytes refusal 1 wants; 0 of the others, which want none.
+    pub fn wanting(self) -> usize
+        ensures { λ r. ⌜ r ≡ wantingOf self ⌝ }
+    {
+        match self {
+            Refusal::Ended { place: _, wanting } => wanting,
+            Refusal::Undeclared(_) => 0,
             Refusal::TooLong => 0,
             Refusal::Outside => 0,
             Refusal::NoRoom => 0,

@@ -82,6 +82,39 @@ pub fn append_message(random: &mut Random, shape: &Shape, style: Style, bytes: &
     }
 }
 
+/// A message of at most so many bytes. Where the shape may have pieces it has one, and all have content; the length of each
+/// is no multiple of four, so that an opaque has padding.
+pub fn with_pieces(random: &mut Random, shape: &Shape, style: Style, longest: usize) -> Vec<u8> {
+    loop {
+        let (mut bytes, mut words) = (Vec::new(), Vec::new());
+        append_message(random, shape, style, &mut bytes, &mut words);
+        let mut lengths = words.iter().filter_map(|word| match word {
+            Word::Length(at) => Some(bytes[at + 3]),
+            Word::Number(_) => None,
+        });
+        let pieces = lengths.clone().count();
+        if bytes.len() <= longest && (pieces > 0 || !shape.has_pieces()) && lengths.all(|length| length % 4 != 0) {
+            return bytes;
+        }
+    }
+}
+
+/// Where the credential's body of a call stands.
+pub const BODY: usize = 32;
+
+/// A call of the null procedure of NFS whose credential is AUTH_UNIX and has that body. The null verifier stands behind it.
+pub fn call_with(body: &[u8]) -> Vec<u8> {
+    let mut bytes = Vec::new();
+    for number in [42, 0, 2, 100_003, 3, 0, 1, body.len() as u32] {
+        put(&mut bytes, number);
+    }
+    bytes.extend_from_slice(body);
+    bytes.resize(bytes.len().next_multiple_of(4), 0);
+    put(&mut bytes, 0);
+    put(&mut bytes, 0);
+    bytes
+}
+
 /// A call as it reaches the choice of program (or, rarely, any other message).
 pub fn append_call(random: &mut Random, bytes: &mut Vec<u8>, words: &mut Vec<Word>) {
     if random.once_in(10) {

@@ -6,12 +6,12 @@ mod streams;
 mod values;
 
 pub use damage::damage;
-pub use messages::{append_call, append_message, Style};
+pub use messages::{append_call, append_message, call_with, with_pieces, Style, BODY};
 pub use streams::{cuts, state, stream};
 
 use crate::answers::{State, BOUND};
 use crate::random::Random;
-use crate::shapes::{kind, KINDS};
+use crate::shapes::{kind, AUTH_UNIX, KINDS};
 use crate::values::Value;
 
 /// A question, and what is lent with it.
@@ -33,6 +33,31 @@ pub enum Question {
     Feed { capacity: usize, runs: Vec<Vec<u8>> },
     State { state: State, length: usize, run: Vec<u8> },
     Fragment { message: Vec<u8>, room: usize, start: usize },
+    Cuts { cut: Cut, message: Vec<u8> },
+}
+
+/// What a whole message is, and who reads it, where it is cut at every byte.
+#[derive(Clone, Copy, Debug, PartialEq, Eq)]
+pub enum Cut {
+    /// A message of that kind, behind so many other bytes.
+    Kind { kind: usize, at: usize },
+    /// An `auth_unix`: `read_auth_unix` reads it in a body that ends early, and the call goes on behind.
+    Body,
+    /// The same, where the choice of program reads a whole call with a body that ends early.
+    Credential,
+    /// The same, where the call ends early.
+    Call,
+}
+
+impl Cut {
+    pub fn name(self) -> &'static str {
+        match self {
+            Cut::Kind { kind, .. } => KINDS[kind].0,
+            Cut::Body => "body",
+            Cut::Credential => "credential",
+            Cut::Call => "call",
+        }
+    }
 }
 
 /// What a line cannot say: the lengths of the lists, and the number that stands for yes.
@@ -94,6 +119,9 @@ pub enum Room {
 /// So many cases in a row are one message cut at every place; every eighth such row of cases is one.
 const CUTS: u64 = 128;
 
+/// The last of so many cases is a message that is cut at every byte. (It is never in such a row.)
+const EVERYWHERE: u64 = 512;
+
 /// The case of that number. It depends on the seed and the number alone.
 pub fn case(seed: u64, number: u64) -> Case {
     let (row, index) = (number / CUTS, number % CUTS);
@@ -101,8 +129,35 @@ pub fn case(seed: u64, number: u64) -> Case {
         return cut(&mut Random::of(!seed, row), index as usize);
     }
     let random = &mut Random::of(seed, number);
+    if number % EVERYWHERE == EVERYWHERE - 1 {
+        return Case { question: cut_everywhere(random, (number / EVERYWHERE) as usize), lending: Lending::ENOUGH };
+    }
     let question = any(random);
     Case { question, lending: Lending::any(random) }
+}
+
+/// A whole message. All kinds take turns, and then what is read of a credential; every other round they are plain and have
+/// pieces, if they may have any.
+fn cut_everywhere(random: &mut Random, turn: usize) -> Question {
+    const LONGEST: usize = 300;
+    let others = [Cut::Body, Cut::Credential, Cut::Call];
+    let turns = KINDS.len() + others.len();
+    let cut = match turn % turns {
+        kind if kind < KINDS.len() => Cut::Kind { kind, at: random.below(9) },
+        other => others[other - KINDS.len()],
+    };
+    let shape = if let Cut::Kind { kind, .. } = cut { &KINDS[kind].1 } else { &AUTH_UNIX };
+    if turn / turns % 2 == 0 {
+        return Question::Cuts { cut, message: with_pieces(random, shape, Style::Plain, LONGEST) };
+    }
+    let style = Style::any(random);
+    loop {
+        let mut message = Vec::new();
+        append_message(random, shape, style, &mut message, &mut Vec::new());
+        if message.len() <= LONGEST {
+            return Question::Cuts { cut, message };
+        }
+    }
 }
 
 /// A message cut to that length, or with so many bytes behind it that it has that length.

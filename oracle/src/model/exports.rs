@@ -123,6 +123,9 @@ impl Model {
         if self.has(Fault::SilenceTells) && choice == Choice::Silence {
             told.figures[0] = u64::from(super::word_at(message, 12));
         }
+        if self.has(Fault::WantingNotChosen) && told.answer == 1 {
+            told.figures[1] = 0;
+        }
         self.tell(told, info)
     }
 

@@ -52,6 +52,17 @@ faults! {
     PartWraps "part-wraps" "a piece's end is worked out in 64 bits";
     PartKept "part-kept" "a piece that is not inside is told as it was asked for";
 
+    WantingNoPad "wanting-no-pad" "an opaque's pad is not counted as wanting";
+    WantingOfMessage "wanting-of-message" "inside a credential bytes are wanting at the message's end, not the body's";
+    WantingLengthWord "wanting-length-word" "where content is short, the rest of the length word is told in its place";
+    WantingLengthCounted "wanting-counts-length" "the length word's bytes are counted as content that is there";
+    WantingCutLength "wanting-cut-length" "a length word that is cut is taken as it is, and its content is told";
+    WantingWraps "wanting-wraps" "what is wanting is worked out in 32 bits";
+    WantingOneWord "wanting-one-word" "of a short list only the rest of one word is told";
+    WantingInWords "wanting-in-words" "a record tells whole words";
+    WantingNotChosen "wanting-not-chosen" "the choice of program does not tell what is wanting";
+    WantingOutside "wanting-outside" "a body that is not inside wants nothing";
+
     JudgePlain "judge-plain" "every header is called plain";
     VerifierPlace "verifier-place" "a verifier's place is that of its length";
     DefaultPlace "default-place" "the pieces of a call of zeros are where the reading ended";

@@ -1,8 +1,8 @@
 //! A model of the rules of docs/SCOPE.md, written from the rules. It calls nothing of the crate and nothing of the proved library.
 //!
-//! It has three uses: it fills in what the crate cannot tell (places of refusals and pieces, states that don't fit); it tells
-//! beforehand how much the crate would allocate for a message; and, with the feature `model`, it stands on the proved
-//! side, where faults can be planted to show that the oracle finds them.
+//! It has three uses: it fills in what the crate cannot tell (places of refusals and pieces, what is wanting, states that
+//! don't fit); it tells beforehand how much the crate would allocate for a message; and, with the feature `model`, it
+//! stands on the proved side, where faults can be planted to show that the oracle finds them.
 
 mod choice;
 #[cfg(feature = "model")]

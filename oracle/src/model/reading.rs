@@ -52,7 +52,10 @@ impl Reader<'_> {
             Shape::Opaque => self.opaque(),
             Shape::WordList => self.list(),
             Shape::Closed(declared) => self.closed(declared),
-            Shape::Record(fields) => fields.iter().try_for_each(|field| self.shape(field)),
+            Shape::Record(fields) => {
+                let answer = fields.iter().try_for_each(|field| self.shape(field));
+                answer.map_err(|refusal| self.passed_up(refusal))
+            },
             Shape::Optional(value) => {
                 if self.flag()? {
                     self.shape(value)?;
@@ -63,10 +66,24 @@ impl Reader<'_> {
         }
     }
 
+    /// The bytes that are there, from a place on.
+    fn there(&self, at: usize) -> u64 {
+        (self.source.len() - at) as u64
+    }
+
+    /// What a field is refused with is what its record is refused with.
+    fn passed_up(&self, refusal: Refusal) -> Refusal {
+        if self.model.has(Fault::WantingInWords) {
+            return Refusal { wanting: refusal.wanting.next_multiple_of(4), ..refusal };
+        }
+        refusal
+    }
+
     /// An item of `count` bytes: refusal 1 at its first byte if they are not all there.
     fn bytes(&mut self, count: usize) -> Result<(), Refusal> {
-        if self.source.len() - self.at < count {
-            return Err(Refusal { number: 1, place: self.at });
+        let there = self.there(self.at);
+        if there < count as u64 {
+            return Err(Refusal::ended(self.at, count as u64 - there));
         }
         self.rewriting.extend_from_slice(&self.source[self.at..self.at + count]);
         self.at += count;
@@ -81,10 +98,38 @@ impl Reader<'_> {
     }
 
     fn peek(&self) -> Result<u32, Refusal> {
-        if self.source.len() - self.at < 4 {
-            return Err(Refusal { number: 1, place: self.at });
+        let there = self.there(self.at);
+        if there < 4 {
+            return Err(Refusal::ended(self.at, 4 - there));
         }
         Ok(word_at(self.source, self.at))
+    }
+
+    /// The length word that an opaque or a list begins with. Where it is cut, only its own rest is wanting.
+    fn length(&mut self) -> Result<u32, Refusal> {
+        let answer = self.peek();
+        if let (Err(refusal), true) = (answer, self.model.has(Fault::WantingCutLength)) {
+            let begun = self.source[self.at..].iter().fold(0, |number, byte| number * 256 + u64::from(*byte));
+            return Err(Refusal { wanting: begun, ..refusal });
+        }
+        let length = answer?;
+        self.claim = self.claim.max(length);
+        Ok(length)
+    }
+
+    /// Refusal 1 of an opaque or a list that has its length word: so much content and pad should follow it.
+    fn short(&self, content: u64, pad: u64) -> Refusal {
+        let there = self.there(self.at + 4);
+        let has = |fault| self.model.has(fault);
+        let due = if has(Fault::WantingNoPad) { content } else { content + pad };
+        let wanting = match due.saturating_sub(there) {
+            // All of that word is there.
+            _ if has(Fault::WantingLengthWord) => 0,
+            _ if has(Fault::WantingLengthCounted) => due.saturating_sub(there + 4),
+            wanting if has(Fault::WantingWraps) => wanting % (1 << 32),
+            wanting => wanting,
+        };
+        Refusal::ended(self.at, wanting)
     }
 
     fn write(&mut self, number: u32) {
@@ -101,19 +146,18 @@ impl Reader<'_> {
 
     fn opaque(&mut self) -> Result<(), Refusal> {
         let first = self.at;
-        let short = Err(Refusal { number: 1, place: first });
-        let length = self.peek()?;
-        self.claim = self.claim.max(length);
+        let length = self.length()?;
         // In 64 bits: a length near 2^32 must not wrap.
         let pad = (4 - u64::from(length) % 4) % 4;
         let mut bytes = u64::from(length) + pad;
         if self.model.has(Fault::LengthWraps) {
             bytes %= 1 << 32;
         }
-        if ((self.source.len() - first - 4) as u64) < bytes {
+        let short = Err(self.short(u64::from(length), pad));
+        let content = first + 4;
+        if self.there(content) < bytes {
             return short;
         }
-        let content = first + 4;
         let next = content + bytes as usize;
         let end = next.min(content + length as usize);
         let dirty = self.source[end..next].iter().any(|b| *b != 0);
@@ -130,13 +174,17 @@ impl Reader<'_> {
 
     fn list(&mut self) -> Result<(), Refusal> {
         let first = self.at;
-        let count = self.peek()?;
-        self.claim = self.claim.max(count);
-        let there = (self.source.len() - first - 4) as u64;
+        let count = self.length()?;
+        let there = self.there(first + 4);
         if there < 4 * u64::from(count) || (count > 16 && self.model.has(Fault::ListBounded)) {
-            let missing = first + 4 + there as usize / 4 * 4;
-            let place = if self.model.has(Fault::PlaceOfWord) { missing } else { first };
-            return Err(Refusal { number: 1, place });
+            let mut refusal = self.short(4 * u64::from(count), 0);
+            if self.model.has(Fault::PlaceOfWord) {
+                refusal.place = first + 4 + there as usize / 4 * 4;
+            }
+            if self.model.has(Fault::WantingOneWord) {
+                refusal.wanting = 4 - there % 4;
+            }
+            return Err(refusal);
         }
         self.bytes(4 + 4 * count as usize)
     }
@@ -145,7 +193,7 @@ impl Reader<'_> {
         let number = self.peek()?;
         let gap = self.model.has(Fault::EnumerationGap) && number == 29 && declared.len() == 29;
         if !declared.contains(&number) && !gap {
-            return Err(Refusal { number: 2, place: self.at });
+            return Err(Refusal::undeclared(self.at));
         }
         self.bytes(4)
     }
@@ -157,7 +205,7 @@ impl Reader<'_> {
             self.write(tag);
             return self.shape(arm);
         }
-        let refusal = Err(Refusal { number: 2, place: first });
+        let refusal = Err(Refusal::undeclared(first));
         let words: &[u32] = match undeclared {
             Undeclared::Refused if self.model.has(Fault::TimeTagTolerated) => &[0],
             Undeclared::Refused => return refusal,

@@ -25,11 +25,16 @@ impl Model {
             return ValueRead { answer: Err(Refusal::plain(3)), claim: 0 };
         }
         if !self.is_inside(message, at, count) {
-            let refusal = if self.has(Fault::UnixOutside) { Refusal::plain(9) } else { Refusal { number: 1, place: 0 } };
+            let wanting = if self.has(Fault::WantingOutside) { 0 } else { 4 };
+            let refusal = if self.has(Fault::UnixOutside) { Refusal::plain(9) } else { Refusal::ended(0, wanting) };
             return ValueRead { answer: Err(refusal), claim: 0 };
         }
-        let read = self.read_shape(&AUTH_UNIX, &message[..at + count], at, &mut Vec::new());
-        let answer = read.answer.map(|took| self.figures(Value::AuthUnix, message, at, &took));
+        let end = at + count;
+        let read = self.read_shape(&AUTH_UNIX, &message[..end], at, &mut Vec::new());
+        let mut answer = read.answer.map(|took| self.figures(Value::AuthUnix, message, at, &took));
+        if let (Err(refusal), true) = (&mut answer, self.has(Fault::WantingOfMessage)) {
+            refusal.wanting = refusal.wanting.saturating_sub((message.len() - end) as u64);
+        }
         ValueRead { answer, claim: read.claim }
     }
 

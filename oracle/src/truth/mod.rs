@@ -1,6 +1,6 @@
 //! What the answers must be. The crate is asked wherever it can tell; the rules of docs/SCOPE.md (the bound, places past
 //! the end, room) stand in front of it; and the model fills in what the crate has no word for: the places of refusals and
-//! of pieces.
+//! of pieces, and how many bytes are wanting.
 mod values;
 
 use nfsserve::{Handler, Reading, Records, Wire};
@@ -12,7 +12,7 @@ use crate::model::Model;
 /// what the message holds) it is not asked, and the answer must be refusal 1.
 const LARGEST_CLAIM: usize = 70_000;
 
-/// Where the model and the crate differ, no place can be told; no answer has this one.
+/// Where the model and the crate differ, no place can be told, nor what is wanting; no answer has this one.
 const NO_PLACE: usize = usize::MAX;
 
 pub struct Truth {
@@ -125,15 +125,15 @@ fn too_large(claim: u32, source: &[u8]) -> bool {
     claim as usize > LARGEST_CLAIM.max(source.len())
 }
 
-/// The crate's refusal, with the place that the model has for it. A model that refuses otherwise gives none.
+/// The crate's refusal, with the place and the count that the model has for it. A model that refuses otherwise gives none.
 fn placed(refused: Reading, model: Option<Refusal>) -> Refusal {
     let number = match refused {
         Reading::Short => 1,
         Reading::Undeclared => 2,
         other => panic!("docs/SCOPE.md has no refusal for the crate's answer {other:?}"),
     };
-    let place = model.filter(|refusal| refusal.number == number).map_or(NO_PLACE, |refusal| refusal.place);
-    Refusal { number, place }
+    let nowhere = Refusal { number, place: NO_PLACE, wanting: NO_PLACE as u64 };
+    model.filter(|refusal| refusal.number == number).unwrap_or(nowhere)
 }
 
 /// The place of the first header whose fragment doesn't fit behind what its record has before it.

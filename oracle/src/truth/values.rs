@@ -25,8 +25,8 @@ impl Truth {
             return Err(Refusal::plain(3));
         }
         let Some(body) = at.checked_add(count).and_then(|end| message.get(at..end)) else {
-            // A body that does not lie in the message is as an empty one, at the start.
-            return Err(Refusal { number: 1, place: 0 });
+            // A body that does not lie in the message is as an empty one, at the start: its first word is wanting.
+            return Err(Refusal::ended(0, 4));
         };
         if too_large(model.claim, message) {
             self.unasked += 1;

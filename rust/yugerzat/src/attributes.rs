@@ -4,7 +4,7 @@ use crate::{sys, Piece, Read, Refusal};
 fn written(answer: u32, after: u64) -> Result<usize, Refusal> {
     match answer {
         0 => Ok(after as usize),
-        _ => Err(Refusal::of(answer, 0)),
+        _ => Err(Refusal::of(answer, 0, 0)),
     }
 }
 
@@ -107,7 +107,7 @@ impl Fattr3 {
                 };
                 Ok(Read { value, next: info[0] as usize, plain: info[1] == 1 })
             },
-            answer => Err(Refusal::of(answer, info[0])),
+            answer => Err(Refusal::of(answer, info[0], info[1])),
         }
     }
 
@@ -216,7 +216,7 @@ impl Sattr3 {
                 };
                 Ok(Read { value, next: info[0] as usize, plain: info[1] == 1 })
             },
-            answer => Err(Refusal::of(answer, info[0])),
+            answer => Err(Refusal::of(answer, info[0], info[1])),
         }
     }
 
@@ -283,7 +283,7 @@ impl DirOpArgs3 {
                 let value = DirOpArgs3 { dir: piece(2), name: piece(4) };
                 Ok(Read { value, next: info[0] as usize, plain: info[1] == 1 })
             },
-            answer => Err(Refusal::of(answer, info[0])),
+            answer => Err(Refusal::of(answer, info[0], info[1])),
         }
     }
 

@@ -38,6 +38,8 @@ pub enum Choice {
 ///
 /// # Errors
 /// Refusals 3, 1, 2, 8 (a REPLY came), 1 of the credential, and 5 where a reply is due and `out` is shorter than 24 bytes.
+/// What 1 of the credential wants is wanting in the credential's body, and more bytes behind the message do not help;
+/// [`judge`](crate::judge) tells, since it takes such a message.
 pub fn choose(message: &[u8], seen: bool, out: &mut [u8]) -> Result<Choice, Refusal> {
     let mut info = [0; 12];
     match sys::choose(message, seen, out, &mut info) {
@@ -50,6 +52,6 @@ pub fn choose(message: &[u8], seen: bool, out: &mut [u8]) -> Result<Choice, Refu
         }),
         101 => Ok(Choice::Reply(info[0] as usize)),
         102 => Ok(Choice::Silence),
-        answer => Err(Refusal::of(answer, info[0])),
+        answer => Err(Refusal::of(answer, info[0], info[1])),
     }
 }

@@ -128,6 +128,6 @@ pub fn rewrite(kind: Kind, src: &[u8], at: usize, out: &mut [u8]) -> Result<Rewr
     let mut info = [0; 3];
     match sys::read(kind.number(), src, at, out, &mut info) {
         0 => Ok(Rewritten { next: info[0] as usize, plain: info[1] == 1, len: info[2] as usize }),
-        answer => Err(Refusal::of(answer, info[0])),
+        answer => Err(Refusal::of(answer, info[0], info[1])),
     }
 }

@@ -25,7 +25,7 @@
 //!
 //! What no function of this crate does is panic or touch memory that was not lent: every byte string and every place gets
 //! an answer, `Ok` or a [`Refusal`]. A refusal leaves every buffer as it was; the one exception is
-//! [`Assembler::feed`], which says so.
+//! [`Assembler::feed`], which says so. Where a message ends too early, the refusal says how many bytes are wanting.
 #![deny(missing_docs, unsafe_op_in_unsafe_fn)]
 #![warn(clippy::pedantic)]
 // Figures are 64-bit numbers of which the library has proved that they fit their fields.

@@ -131,7 +131,7 @@ pub fn judge(message: &[u8], at: usize) -> Result<Read<Message>, Refusal> {
             let value = Message { xid: info[2] as u32, body: body(info[3], &info[4..14]) };
             Ok(Read { value, next: info[0] as usize, plain: info[1] == 1 })
         },
-        answer => Err(Refusal::of(answer, info[0])),
+        answer => Err(Refusal::of(answer, info[0], info[1])),
     }
 }
 
@@ -196,7 +196,7 @@ impl Call {
         let mut info = [0; 1];
         match sys::write_call(source, &fields, out, start, &mut info) {
             0 => Ok(info[0] as usize),
-            answer => Err(Refusal::of(answer, 0)),
+            answer => Err(Refusal::of(answer, 0, 0)),
         }
     }
 }
@@ -245,12 +245,13 @@ impl AuthUnix {
     /// ```
     ///
     /// # Errors
-    /// Refusals 1 and 3. A body that does not lie in the message is as an empty one at its start.
+    /// Refusals 1 and 3. What 1 wants is wanting in the body: more bytes behind the message do not help. A body that does
+    /// not lie in the message is as an empty one at its start.
     pub fn read(message: &[u8], body: Piece) -> Result<Read<AuthUnix>, Refusal> {
         let mut info = [0; 9];
         match sys::read_auth_unix(message, body.at, body.count, &mut info) {
             0 => Ok(Read { value: AuthUnix::of(&info[2..9]), next: info[0] as usize, plain: info[1] == 1 }),
-            answer => Err(Refusal::of(answer, info[0])),
+            answer => Err(Refusal::of(answer, info[0], info[1])),
         }
     }
 }

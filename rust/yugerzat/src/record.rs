@@ -92,7 +92,7 @@ impl Assembler {
         match answer {
             100 => Ok(Fed::More { used }),
             101 => Ok(Fed::Complete { length: info[1] as usize, used }),
-            answer => Err(FeedError { refusal: Refusal::of(answer, 0), used }),
+            answer => Err(FeedError { refusal: Refusal::of(answer, 0, 0), used }),
         }
     }
 
@@ -131,6 +131,6 @@ pub fn write_fragment(message: &[u8], out: &mut [u8], start: usize) -> Result<us
     let mut info = [0; 1];
     match sys::fragment(message, out, start, &mut info) {
         0 => Ok(info[0] as usize),
-        answer => Err(Refusal::of(answer, 0)),
+        answer => Err(Refusal::of(answer, 0, 0)),
     }
 }

@@ -13,7 +13,12 @@ fn words(numbers: &[u32]) -> Vec<u8> {
 }
 
 fn refused<T: std::fmt::Debug>(answer: Result<T, Refusal>, number: u32, place: Option<usize>) {
-    assert_eq!(answer.expect_err("a refusal is due"), Refusal { number, place });
+    assert_eq!(answer.expect_err("a refusal is due"), Refusal { number, place, wanting: None });
+}
+
+fn ended<T: std::fmt::Debug>(answer: Result<T, Refusal>, place: usize, wanting: usize) {
+    let due = Refusal { number: 1, place: Some(place), wanting: Some(wanting) };
+    assert_eq!(answer.expect_err("a refusal is due"), due);
 }
 
 /// The rows of kinds.txt: number, name, and a message in published form.
@@ -54,13 +59,91 @@ fn every_kind_is_rewritten() {
             let refusal = rewrite(kind, &message[..cut], 0, &mut out).expect_err("it is cut");
             assert_eq!(refusal.number, 1, "{kind} cut at {cut}");
             assert!(refusal.place.is_some_and(|place| place <= cut), "{kind} cut at {cut}");
+            assert!(refusal.wanting.is_some_and(|wanting| (1..=size - cut).contains(&wanting)), "{kind} cut at {cut}");
         }
-        refused(rewrite(kind, &[], 0, &mut out), 1, Some(0));
-        refused(rewrite(kind, &message, size, &mut out), 1, Some(size));
+        let first = match kind {
+            Kind::I64 | Kind::U64 | Kind::Eight | Kind::WccAttr => 8,
+            _ => 4,
+        };
+        ended(rewrite(kind, &[], 0, &mut out), 0, first);
+        ended(rewrite(kind, &message, size, &mut out), size, first);
         refused(rewrite(kind, &message, size + 1, &mut out), 9, None);
         refused(rewrite(kind, &message, usize::MAX, &mut out), 9, None);
         assert!(out.iter().all(|b| *b == 0xEE), "{kind}: a refusal writes nothing");
     }
+}
+
+#[test]
+fn refusals_say_how_many_bytes_are_wanting() {
+    let cases = [
+        (Kind::U32, "000000", 1),
+        (Kind::U64, "", 8),
+        (Kind::Eight, "01020304 05", 3),
+        (Kind::Opaque, "0000", 2),
+        (Kind::Opaque, "00000001 AA0000", 1),
+        (Kind::Opaque, "FFFFFFFF", 4_294_967_296),
+        (Kind::Words, "000000", 1),
+        (Kind::Words, "00000003 00000001 0000", 6),
+        (Kind::Words, "FFFFFFFF", 17_179_869_180),
+    ];
+    for (kind, message, wanting) in cases {
+        ended(rewrite(kind, &hex(message), 0, &mut [0; 8]), 0, wanting);
+    }
+}
+
+/// Cuts a message at every place; its bytes are read from place `first` on. As long as fewer bytes have come than are
+/// wanting, the others are. Once all have come, the item is whole, and what was read ends there, or the next item begins
+/// there; or only the length word is, where that was cut.
+fn finishes(what: &str, message: &[u8], first: usize, read: impl Fn(&[u8]) -> Result<usize, Refusal>) {
+    for cut in 0..message.len() {
+        let refusal = read(&message[..cut]).expect_err("it is cut");
+        let Refusal { number: 1, place: Some(place), wanting: Some(wanting) } = refusal else {
+            panic!("{what} cut at {cut}: {refusal}")
+        };
+        for more in 1..wanting {
+            ended(read(&message[..cut + more]), place, wanting - more);
+        }
+        let end = first + cut + wanting;
+        match read(&message[..cut + wanting]) {
+            Ok(next) => assert_eq!(next, end, "{what} cut at {cut}"),
+            Err(Refusal { number: 1, place: Some(then), wanting: Some(_) }) => {
+                assert!(then == end || then == place && end == place + 4, "{what} cut at {cut}: then at {then}");
+            },
+            Err(refusal) => panic!("{what} cut at {cut}: {refusal}"),
+        }
+    }
+}
+
+#[test]
+fn what_is_wanting_finishes_the_item() {
+    for (kind, (_, name, message)) in Kind::ALL.into_iter().zip(table()) {
+        finishes(name, &message, 0, |bytes| rewrite(kind, bytes, 0, &mut [0; 160]).map(|done| done.next));
+    }
+    let sample = |kind: Kind| table().nth(kind.number() as usize).expect("every kind has a row").2;
+    finishes("Fattr3", &hex(FATTR3), 0, |bytes| Fattr3::read(bytes, 0).map(|read| read.next));
+    finishes("Sattr3", &hex(SATTR3), 0, |bytes| Sattr3::read(bytes, 0).map(|read| read.next));
+    finishes("DirOpArgs3", &sample(Kind::Diropargs3), 0, |bytes| DirOpArgs3::read(bytes, 0).map(|read| read.next));
+    finishes("judge", &sample(Kind::RpcMsg), 0, |bytes| judge(bytes, 0).map(|read| read.next));
+
+    // A call with this body of an AUTH_UNIX credential, and a null verifier.
+    let call = |body: &[u8]| {
+        let mut message = words(&[42, 0, 2, 100_003, 3, 6, 1, body.len() as u32]);
+        message.extend(body);
+        message.resize((message.len() + 3) / 4 * 4 + 8, 0);
+        message
+    };
+    let caller = sample(Kind::AuthUnix);
+    finishes("choose", &call(&caller), 0, |bytes| {
+        choose(bytes, false, &mut []).map(|choice| match choice {
+            Choice::HandOver { arguments, .. } => arguments,
+            other => panic!("a call of NFS is handed over: {other:?}"),
+        })
+    });
+    // Where the body alone is cut, the bytes are wanting in the body.
+    finishes("AuthUnix", &caller, 32, |body| {
+        AuthUnix::read(&call(body), Piece { at: 32, count: body.len() }).map(|read| read.next)
+    });
+    finishes("choose by AUTH_UNIX", &caller, 32, |body| choose(&call(body), false, &mut []).map(|_| 32 + body.len()));
 }
 
 #[test]
@@ -121,7 +204,7 @@ fn attributes_are_read_and_written() {
     refused(due.write(&mut [], 0), 5, None);
     assert_eq!(short, [0xEE; 86]);
     refused(Fattr3::read(&words(&[9, 8]), 4), 2, Some(4));
-    refused(Fattr3::read(&message[..83], 0), 1, Some(80));
+    ended(Fattr3::read(&message[..83], 0), 80, 1);
     for number in 1..=7 {
         let mut other = message.clone();
         other[3] = number;
@@ -223,7 +306,7 @@ fn messages_are_judged() {
     }
     refused(judge(&words(&[42, 1, 1, 1, 6]), 0), 2, Some(16));
     refused(judge(&words(&[42, 0, 2, 7, 1, 0, 4, 0, 0, 0]), 0), 2, Some(24));
-    refused(judge(&words(&[42, 0, 2]), 0), 1, Some(12));
+    ended(judge(&words(&[42, 0, 2]), 0), 12, 4);
     refused(judge(&words(&[42]), 5), 9, None);
 }
 
@@ -252,8 +335,8 @@ fn calls_are_written_and_their_callers_read() {
     assert_eq!((caller.value.stamp, caller.value.uid, caller.value.gid), (7, 1000, 100));
     assert_eq!(caller.value.machinename.of(&out), Some(&b"abc"[..]));
     assert!(caller.value.gids.of(&out).unwrap().eq([27]));
-    refused(AuthUnix::read(&out, Piece { at: 33, count: 27 }), 1, Some(53));
-    refused(AuthUnix::read(&out, Piece { at: 33, count: 99 }), 1, Some(0));
+    ended(AuthUnix::read(&out, Piece { at: 33, count: 27 }), 53, 1);
+    ended(AuthUnix::read(&out, Piece { at: 33, count: 99 }), 0, 4);
     assert!(Words { at: 0, count: usize::MAX }.of(&out).is_none());
 
     refused(call.write(0, &source, &mut out[..67], 0), 5, None);
@@ -282,7 +365,11 @@ fn programs_are_chosen() {
     assert_eq!(choose(&other, false, &mut out), Ok(Choice::Reply(24)));
     assert_eq!((&out[..24], &out[24..]), (&words(&[42, 1, 0, 0, 0, 1])[..], &[0xEE; 6][..]));
     refused(choose(&words(&[42, 1, 0, 0, 0, 0]), false, &mut out), 8, None);
-    refused(choose(&words(&[42, 0]), false, &mut out), 1, Some(8));
+    ended(choose(&words(&[42, 0]), false, &mut out), 8, 4);
+    // The credential's body lacks its list of groups, and the message lacks nothing.
+    let short = words(&[42, 0, 2, 100_005, 3, 1, 1, 16, 9, 0, 1, 2, 0, 0]);
+    ended(choose(&short, false, &mut out), 48, 4);
+    assert_eq!(judge(&short, 0).map(|read| read.next), Ok(short.len()));
 }
 
 #[test]
@@ -317,8 +404,8 @@ fn a_fragment_that_is_too_long_stops_the_assembler() {
     let mut buf = [0xEE; 4];
     let mut assembler = Assembler::new(4).unwrap();
     assert_eq!(assembler.capacity(), 4);
-    let six = Refusal { number: 6, place: None };
-    let seven = Refusal { number: 7, place: None };
+    let six = Refusal { number: 6, place: None, wanting: None };
+    let seven = Refusal { number: 7, place: None, wanting: None };
     assert_eq!(assembler.feed(&[0x80], &mut buf[..3]), Err(FeedError { refusal: six, used: 0 }));
     assert!(!assembler.is_stopped());
     let stopped = assembler.feed(&hex("00000002 ABCD 80000003 01"), &mut buf);
@@ -347,8 +434,11 @@ fn what_is_written_as_a_fragment_is_assembled() {
 
 #[test]
 fn refusals_say_what_they_mean() {
-    let all: Vec<String> = (1..=9).map(|number| Refusal { number, place: None }.to_string()).collect();
+    let all: Vec<String> = (1..=9).map(|number| Refusal { number, place: None, wanting: None }.to_string()).collect();
     assert!(all.iter().all(|text| text.starts_with("refusal ") && !text.contains("no such")));
-    let place = Refusal { number: 2, place: Some(8) };
+    let place = Refusal { number: 2, place: Some(8), wanting: None };
     assert_eq!(place.to_string(), "refusal 2 at place 8: a number that must be declared is not");
+    let wanting = |count: usize| Refusal { number: 1, place: Some(4), wanting: Some(count) }.to_string();
+    assert_eq!(wanting(1), "refusal 1 at place 4: the message ends inside an item, 1 byte is wanting");
+    assert_eq!(wanting(3), "refusal 1 at place 4: the message ends inside an item, 3 bytes are wanting");
 }

@@ -90,7 +90,7 @@ equal-iff F m m′ =
 
 -- `yugerzat_read` answered 0: its kind has a format, and the copy was made with the figures that it gave
 numbers-none : (r : Refusal) → 0 ≡ numberOf r → ⊥
-numbers-none (Ended p) e = omega arith
+numbers-none (Ended p w) e = omega arith
 numbers-none (Undeclared p) e = omega arith
 numbers-none TooLong e = omega arith
 numbers-none Outside e = omega arith

@@ -9,7 +9,7 @@ use lib.Seq.{sets}
 use mathlib.Core.Option.{Option, none, some}
 use mathlib.Core.Logic.{_⊎_}
 use lib.Dec.{eqb}
-use Rattle.xdr.specs.Meaning.Refusal.{numberOf, placeOf}
+use Rattle.xdr.specs.Meaning.Refusal.{numberOf, placeOf, wantingOf}
 use Rattle.xdr.specs.Meaning.Answer.{Written, done, unwritten}
 use Rattle.rpc.specs.declared.auth.auth_unix.{«auth_unix»}
 use Rattle.rpcwire.specs.Meaning.Fragment.{WritesFragment}
@@ -27,7 +27,7 @@ codeOf (made n b e) = 0
 
 abbrev pub figures : Copy → List ℕ
 figures unknown = 0 ∷ 0 ∷ 0 ∷ []
-figures (unread r) = placeOf r ∷ 0 ∷ 0 ∷ []
+figures (unread r) = placeOf r ∷ wantingOf r ∷ 0 ∷ []
 figures (unmade r) = 0 ∷ 0 ∷ 0 ∷ []
 figures (made n b e) = n ∷ cond b 1 0 ∷ e ∷ []
 
@@ -78,7 +78,7 @@ handedFigures p v f n (some a) =
     p ∷ v ∷ f ∷ n ∷ 1 ∷ a .stamp ∷ a .machinename .at ∷ a .machinename .count ∷ a .uid ∷ a .gid ∷ a .gids .at ∷ a .gids .count ∷ []
 
 abbrev pub chosenFigures : Chosen → List ℕ
-chosenFigures (turned-away r) = placeOf r ∷ 0 ∷ 0 ∷ 0 ∷ 0 ∷ 0 ∷ 0 ∷ 0 ∷ 0 ∷ 0 ∷ 0 ∷ 0 ∷ []
+chosenFigures (turned-away r) = placeOf r ∷ wantingOf r ∷ 0 ∷ 0 ∷ 0 ∷ 0 ∷ 0 ∷ 0 ∷ 0 ∷ 0 ∷ 0 ∷ 0 ∷ []
 chosenFigures (replied n) = n ∷ 0 ∷ 0 ∷ 0 ∷ 0 ∷ 0 ∷ 0 ∷ 0 ∷ 0 ∷ 0 ∷ 0 ∷ 0 ∷ []
 chosenFigures silent = 0 ∷ 0 ∷ 0 ∷ 0 ∷ 0 ∷ 0 ∷ 0 ∷ 0 ∷ 0 ∷ 0 ∷ 0 ∷ 0 ∷ []
 chosenFigures (handed p v f a n) = handedFigures p v f n a

@@ -33,7 +33,7 @@ use Rattle.rpc.specs.declared.reply.accept_body.{«accept_body»}
 use Rattle.rpc.specs.declared.reply.accept_body.the-variants.{SUCCESS, «PROG_UNAVAIL», «PROG_MISMATCH», «PROC_UNAVAIL», «GARBAGE_ARGS»}
 use Rattle.rpc.specs.declared.reply.reply_body.the-variants.{«MSG_ACCEPTED», «MSG_DENIED»}
 use Rattle.rpc.specs.declared.reply.rejected_reply.the-variants.{«RPC_MISMATCH», «AUTH_ERROR»}
-use Rattle.xdr.specs.Meaning.Refusal.{numberOf, placeOf}
+use Rattle.xdr.specs.Meaning.Refusal.{numberOf, placeOf, wantingOf}
 
 -- what is told of a reading, where a value of its kind has k figures: 0 with the place after the value, 1 if it was in published form and
 -- else 0, and its figures; or the refusal's number with its place and zeros
@@ -43,7 +43,7 @@ readCode (refused r) = numberOf r
 
 abbrev pub readFigures : {S : Type 0} → (S → List ℕ) → ℕ → Answer S → List ℕ
 readFigures f k (took x n b) = n ∷ cond b 1 0 ∷ f x
-readFigures f k (refused r) = placeOf r ∷ 0 ∷ replicate k 0
+readFigures f k (refused r) = placeOf r ∷ wantingOf r ∷ replicate k 0
 
 module _ {S : Type 0} (Answered : Answer S → Type 0) (f : S → List ℕ) (k : ℕ) (i : List ℕ) (r : ℕ) (i′ : List ℕ) where
   pub record ValueTold : Type 0 where

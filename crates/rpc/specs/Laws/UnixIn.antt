@@ -29,7 +29,7 @@ use Rattle.xdr.specs.declared.refusal.Refusal.the-variants.{Ended, TooLong}
 module _ (s : List ℕ) (x : Piece) where
   -- by the test of the body
   module _ (i : Bool) (e : i ≡ isInside s x) where
-    pub unix-outside : not i ≡ true → refused (Ended 0) ≡ unixIn s x
+    pub unix-outside : not i ≡ true → refused (Ended 0 4) ≡ unixIn s x
     unfolding unixIn
     unix-outside t = simp (no e t)
 

@@ -14,7 +14,7 @@ use Rattle.xdr.specs.Meaning.Bytes.{Bytes, part}
 use Rattle.xdr.specs.Meaning.Refusal.{OfReading}
 use Rattle.xdr.specs.Meaning.Answer.{Answer, took, refused, most, opened}
 use Rattle.xdr.specs.Meaning.Promise.{Begins}
-use Rattle.xdr.specs.Meaning.Public.{Answers, Took}
+use Rattle.xdr.specs.Meaning.Public.{Answers, Took, Later}
 use Rattle.xdr.specs.Meaning.Pieces.{isInside}
 use Rattle.xdr.specs.Laws.Lists.{bytes-take}
 use Rattle.xdr.specs.Laws.Held.{refused-means}
@@ -43,7 +43,7 @@ module _ (s : List ℕ) (x : Piece) where
   unfolding unixIn
   inside-read i = simp i
 
-  outside-read : isInside s x ≡ false → unixIn s x ≡ refused (Ended 0)
+  outside-read : isInside s x ≡ false → unixIn s x ≡ refused (Ended 0 4)
   unfolding unixIn
   outside-read i = simp i
 
@@ -69,7 +69,7 @@ module _ (s : List ℕ) (x : Piece) where
   took-inside : (t : Bool) → isInside s x ≡ t → {v : «auth_unix»} {n : ℕ} {b : Bool} → unixIn s x ≡ took v n b → isInside s x ≡ true
   took-inside true i e = i
   took-inside false i {v} {n} {b} e =
-      let g : _≡_ {A = Answer «auth_unix»} (refused (Ended 0)) (took v n b) = sym (outside-read i) ∙ e in
+      let g : _≡_ {A = Answer «auth_unix»} (refused (Ended 0 4)) (took v n b) = sym (outside-read i) ∙ e in
       let z : _≡_ {A = ℕ} 0 1 = cc in absurd (omega arith)
 
   -- accepted exactly if the message is short enough, the body lies inside, and one begins there before the body's end
@@ -106,9 +106,30 @@ module _ (s : List ℕ) (x : Piece) where
       auth-unix .codec .laws .numbered upTo (x .at) r
       (keeps (auth-unix .codec) .fault-iff upTo (x .at) r (bytes-take (x .at + x .count) s h) .0 f)
   by-inside false i h {r} e =
-      let g : _≡_ {A = Answer «auth_unix»} (refused (Ended 0)) (refused r) = sym (outside-read i) ∙ e in
-      let q : Ended 0 ≡ r = cc in subst OfReading q tt
+      let g : _≡_ {A = Answer «auth_unix»} (refused (Ended 0 4)) (refused r) = sym (outside-read i) ∙ e in
+      let q : Ended 0 4 ≡ r = cc in subst OfReading q tt
 
   -- refused as a reader refuses
   pub unix-numbered : Bytes s → {r : Refusal} → unixIn s x ≡ refused r → OfReading r
   unix-numbered h e = by-inside (isInside s x) refl h e
+
+-- a body in s, and in s′ one that begins at the same place, with the same bytes before its end and t behind them
+pub record Longer (s s′ : List ℕ) (x x′ : Piece) (t : List ℕ) : Type 0 where
+  pub at : x′ .at ≡ x .at
+  pub more : upTo s′ x′ ≡ upTo s x ++ t
+  pub inside : isInside s x ≡ true
+  pub inside′ : isInside s′ x′ ≡ true
+  pub short : length s ≤ most
+  pub short′ : length s′ ≤ most
+
+-- bytes are wanting in the body: those that come at its end are what comes to a public reading of auth_unix (`kept auth-unix`: few, enough, stays)
+pub unix-later : {s s′ : List ℕ} {x x′ : Piece} {t : List ℕ} {a a′ : Answer «auth_unix»} → Longer s s′ x x′ t → AnswersIn s x a → AnswersIn s′ x′ a′
+    → Later auth-unix (upTo s x) t (x .at) a a′
+unix-later {s} {s′} {x} {x′} {t} {a} {a′} l c d =
+    record {
+      before = as-answers s x c (l .short) (l .inside);
+      then =
+          subst (λ (z : List ℕ). Answers auth-unix z (x .at) a′) (l .more)
+          (subst (λ (p : ℕ). Answers auth-unix (upTo s′ x′) p a′) (l .at) (as-answers s′ x′ d (l .short′) (l .inside′)));
+      fits = subst (λ (z : List ℕ). length z ≤ most) (l .more) (up-to-short s′ x′ (l .short′));
+    }

@@ -13,10 +13,11 @@ use Rattle.rpc.specs.Meaning.Auth.{auth-unix}
 use Rattle.rpc.specs.declared.auth.auth_unix.{«auth_unix»}
 use Rattle.xdr.specs.declared.refusal.Refusal.the-variants.{Ended}
 
--- a body that does not lie inside is the empty part at the start, in which the first word has no bytes: refusal 1 at place 0
+-- a body that does not lie inside is the empty part at the start, in which the first word has no bytes: refusal 1 at place 0, wanting that word.
+-- In a body that lies inside, bytes are wanting in the body
 unfoldable pub unixIn : List ℕ → Piece → Answer «auth_unix»
 unfolding isInside
-unixIn s x = cond (isInside s x) (auth-unix .held .read (take (x .at + x .count) s) (x .at)) (refused (Ended 0))
+unixIn s x = cond (isInside s x) (auth-unix .held .read (take (x .at + x .count) s) (x .at)) (refused (Ended 0 4))
 
 -- what the public reader answers: refusal 3 first, and the message is bytes
 pub record AnswersIn (s : List ℕ) (x : Piece) (a : Answer «auth_unix») : Type 0 where

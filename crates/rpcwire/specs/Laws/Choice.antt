@@ -5,18 +5,18 @@ use mathlib.Core.Bool.{Bool, true, false, cond}
 use mathlib.Core.Logic.{_⊎_, inl, inr, ⊎-elim}
 use mathlib.Core.Option.{Option, none, some}
 use mathlib.Core.List.{List, [], _++_}
-use Prim.Native.Nat.{ℕ, _+_, _≤_, _<_}
+use Prim.Native.Nat.{ℕ, _+_, _-_, _≤_, _<_}
 use native.Mathlib.Omega.{arith}
 use lib.Dec.{eqb, leb}
 use lib.ListN.{length, drop, length-append, length-drop}
 use lib.Seq.{drop-at}
 use borrow.Author.Tests.{eq-eqb, ne-eqb, le-leb, lt-leb, leb-true, leb-false}
-use Rattle.xdr.specs.Meaning.Answer.{Answer, took, refused, opened, Written, done, unwritten}
+use Rattle.xdr.specs.Meaning.Answer.{Answer, took, refused, most, opened, Written, done, unwritten}
 use Rattle.xdr.specs.Meaning.Items.{number, word, opaque}
 use Rattle.xdr.specs.Meaning.Pieces.{isInside}
 use Rattle.xdr.specs.Meaning.Formats.{pieceHeld}
 use Rattle.xdr.specs.Meaning.Order.{placing}
-use Rattle.xdr.specs.Meaning.Public.{output, writing, leaving, Writes}
+use Rattle.xdr.specs.Meaning.Public.{Answers, output, writing, leaving, Writes}
 use Rattle.rpc.specs.Meaning.Closed.{auth-flavor, flavorNumber}
 use Rattle.rpc.specs.Meaning.Auth.{opaque-auth}
 use Rattle.rpc.specs.Meaning.Reply.{mismatch-info, accept-body, accepted-reply, rejected-reply, reply-body}
@@ -37,7 +37,7 @@ use Rattle.xdr.specs.Meaning.Refusal.{OfReading}
 use Rattle.xdr.specs.Laws.Public.{kept}
 use Rattle.rpc.specs.Laws.UnixKept.{unix-numbered}
 use Rattle.xdr.specs.declared.refusal.Refusal.{Refusal}
-use Rattle.xdr.specs.declared.refusal.Refusal.the-variants.{TooLong, NoRoom, NotCall, PastEnd}
+use Rattle.xdr.specs.declared.refusal.Refusal.the-variants.{Ended, TooLong, NoRoom, NotCall, PastEnd}
 
 -- a message of 24 bytes that has no pieces
 pub record Short (m : «rpc_msg») : Type 0 where
@@ -264,3 +264,16 @@ module _ (s : List ℕ) (seen : Bool) (o : List ℕ) {c : Chosen} {o′ : List �
         );
         replies = λ {m} e f. said-held (due e ∙ reply-room m o f);
       }
+
+-- a message that ends too soon: the choice is refused as its reading is; and with fewer bytes than are wanting it is refused at the same place,
+-- and wants that many less. (With as many, the reading gets further: `enough` of `kept rpc-msg`. In a credential: `unix-later` of `rpc`.)
+module _ (s : List ℕ) (seen : Bool) (o : List ℕ) {c : Chosen} {o′ : List ℕ} where
+  pub cut-choice : {r : Refusal} → Answers rpc-msg s 0 (refused r) → Chooses s seen o c o′ → c ≡ turned-away r
+  cut-choice a h = said-held (h .is ∙ sym (not-taken s seen o (sym (a .is)))) .0
+
+pub few-choice : (s t : List ℕ) {seen : Bool} {o o′ : List ℕ} {q w : ℕ} {c : Chosen} → Answers rpc-msg s 0 (refused (Ended q w))
+    → Chooses (s ++ t) seen o c o′ → length (s ++ t) ≤ most → length t < w → c ≡ turned-away (Ended q (w - length t))
+few-choice s t {seen} {o} {o′} {q} {w} a h fits k =
+    let b : Answers rpc-msg (s ++ t) 0 (opened (s ++ t) 0 (rpc-msg .held .read (s ++ t) 0)) = record { is = refl; bytes = h .bytes } in
+    let e = kept rpc-msg .few (record { before = a; then = b; fits = fits }) k in
+    cut-choice (s ++ t) seen o (record { is = sym e; bytes = h .bytes }) h

@@ -10,6 +10,7 @@ use lib.IntN.{ℤ}
 use lib.ListN.{length}
 use borrow.Author.Tests.{leb-true, leb-false, le-leb, lt-leb, le-ltb, ne-eqb}
 use Rattle.xdr.specs.Meaning.Bytes.{numberAt, signed}
+use Rattle.xdr.specs.Meaning.Refusal.{cutShort}
 use Rattle.xdr.specs.Meaning.Answer.{Answer, took, refused}
 use Rattle.xdr.specs.Meaning.Codecs.{_⨾_}
 use Rattle.xdr.specs.Meaning.Items.{number, word, hyper, word-pair, hyper-pair, flag, int, long}
@@ -31,7 +32,7 @@ module _ {R A : Type 0} (view : R → Answer A) {x : Answer A} {r t : R} where
 
 -- a number of k bytes, by the room for it
 module _ (k : ℕ) (s : List ℕ) (p : ℕ) where
-  pub number-short : length s - p < k → refused (Ended p) ≡ number k .kind .read s p
+  pub number-short : length s - p < k → refused (cutShort k s p) ≡ number k .kind .read s p
   number-short h = rw (number-read k s p, lt-leb k (length s - p) h)
 
   pub number-took : {v : ℕ} → k ≤ length s - p → v ≡ numberAt k s p → took v (p + k) true ≡ number k .kind .read s p
@@ -43,7 +44,7 @@ module _ (k : ℕ) (s : List ℕ) (p : ℕ) where
       let g : took (numberAt k s p) (p + k) true ≡ took v n b = simp e at (sym (number-read k s p) ∙ f) in
       (leb-true k (length s - p) e, cc, cc)
   by-room {v} {n} {b} false e f =
-      let g : _≡_ {A = Answer ℕ} (refused (Ended p)) (took v n b) = simp e at (sym (number-read k s p) ∙ f) in
+      let g : _≡_ {A = Answer ℕ} (refused (cutShort k s p)) (took v n b) = simp e at (sym (number-read k s p) ∙ f) in
       let z : _≡_ {A = ℕ} 0 1 = cc in absurd (omega arith)
 
   -- what was taken had room
@@ -51,46 +52,50 @@ module _ (k : ℕ) (s : List ℕ) (p : ℕ) where
   number-within f = by-room (leb k (length s - p)) refl f
 
   by-no-room : {r : Refusal} (t : Bool) → leb k (length s - p) ≡ t → number k .kind .read s p ≡ refused r
-      → (length s - p < k) × (_≡_ {A = Answer ℕ} (refused r) (refused (Ended p)))
+      → (length s - p < k) × (_≡_ {A = Answer ℕ} (refused r) (refused (cutShort k s p)))
   by-no-room {r} true e f =
       let g : _≡_ {A = Answer ℕ} (took (numberAt k s p) (p + k) true) (refused r) = simp e at (sym (number-read k s p) ∙ f) in
       let z : _≡_ {A = ℕ} 0 1 = cc in absurd (omega arith)
   by-no-room {r} false e f =
-      let g : _≡_ {A = Answer ℕ} (refused (Ended p)) (refused r) = simp e at (sym (number-read k s p) ∙ f) in
+      let g : _≡_ {A = Answer ℕ} (refused (cutShort k s p)) (refused r) = simp e at (sym (number-read k s p) ∙ f) in
       (leb-false k (length s - p) e, sym g)
 
   -- what was refused had none
-  pub number-without : {r : Refusal} → number k .kind .read s p ≡ refused r → (length s - p < k) × (_≡_ {A = Answer ℕ} (refused r) (refused (Ended p)))
+  pub number-without : {r : Refusal} → number k .kind .read s p ≡ refused r → (length s - p < k) × (_≡_ {A = Answer ℕ} (refused r) (refused (cutShort k s p)))
   number-without f = by-no-room (leb k (length s - p)) refl f
 
--- two numbers of k bytes that stand together: where the first that is not whole begins, in a source of n bytes
-unfoldable pub pairEnd : ℕ → ℕ → ℕ → ℕ
-pairEnd k n p = cond (leb k (n - p)) (p + k) p
+-- past the end there is none of it
+pub cut-past : (k n p : ℕ) → n < p → Ended p k ≡ Ended p (k - (n - p))
+cut-past k n p h = ap (λ (i : ℕ). Ended p i) (omega arith)
 
-module _ (k n p : ℕ) where
-  pub first-ends : n - p < k → Ended p ≡ Ended (pairEnd k n p)
-  unfolding pairEnd
-  first-ends h = rw (lt-leb k (n - p) h)
+-- two numbers of k bytes that stand together: the refusal of the first that is not whole
+unfoldable pub pairEnd : ℕ → List ℕ → ℕ → Refusal
+pairEnd k s p = cond (leb k (length s - p)) (cutShort k s (p + k)) (cutShort k s p)
 
-  pub second-ends : k ≤ n - p → Ended (p + k) ≡ Ended (pairEnd k n p)
+module _ (k : ℕ) (s : List ℕ) (p : ℕ) {r : Refusal} where
+  pub first-ends : length s - p < k → r ≡ cutShort k s p → r ≡ pairEnd k s p
   unfolding pairEnd
-  second-ends h = rw (le-leb k (n - p) h)
+  first-ends h e = rw (lt-leb k (length s - p) h, e)
+
+  pub second-ends : k ≤ length s - p → r ≡ cutShort k s (p + k) → r ≡ pairEnd k s p
+  unfolding pairEnd
+  second-ends h e = rw (le-leb k (length s - p) h, e)
 
 -- by the room for both and for one
 module _ (k : ℕ) (s : List ℕ) (p : ℕ) where
   pub pair-took : {a b n : ℕ} → k + k ≤ length s - p → a ≡ numberAt k s p → b ≡ numberAt k s (p + k) → n ≡ p + k + k → took (a, b) n true ≡ (number k ⨾ number k) .kind .read s p
   pair-took {a} {b} h e f g = rw (g, sym (number-took k s p {v = a} (omega arith) e), sym (number-took k s (p + k) {v = b} (omega arith) f))
 
-  pair-end : (t : Bool) → leb k (length s - p) ≡ t → length s - p < k + k → refused (Ended (cond t (p + k) p)) ≡ (number k ⨾ number k) .kind .read s p
+  pair-end : (t : Bool) → leb k (length s - p) ≡ t → length s - p < k + k → refused (cond t (cutShort k s (p + k)) (cutShort k s p)) ≡ (number k ⨾ number k) .kind .read s p
   pair-end true e h = rw (sym (number-took k s p (leb-true k (length s - p) e) refl), sym (number-short k s (p + k) (omega (arith, leb-true k (length s - p) e))))
   pair-end false e h = rw (sym (number-short k s p (leb-false k (length s - p) e)))
 
-  pub pair-short : length s - p < k + k → refused (Ended (pairEnd k (length s) p)) ≡ (number k ⨾ number k) .kind .read s p
+  pub pair-short : length s - p < k + k → refused (pairEnd k s p) ≡ (number k ⨾ number k) .kind .read s p
   unfolding pairEnd
   pair-short h = pair-end (leb k (length s - p)) refl h
 
 module _ (s : List ℕ) (p : ℕ) where
-  pub word-short : length s - p < 4 → refused (Ended p) ≡ word .kind .read s p
+  pub word-short : length s - p < 4 → refused (cutShort 4 s p) ≡ word .kind .read s p
   unfolding word
   word-short h = number-short 4 s p h
 
@@ -98,7 +103,7 @@ module _ (s : List ℕ) (p : ℕ) where
   unfolding word
   word-took h e = number-took 4 s p h e
 
-  pub hyper-short : length s - p < 8 → refused (Ended p) ≡ hyper .kind .read s p
+  pub hyper-short : length s - p < 8 → refused (cutShort 8 s p) ≡ hyper .kind .read s p
   unfolding hyper
   hyper-short h = number-short 8 s p h
 
@@ -114,7 +119,7 @@ module _ (s : List ℕ) (p : ℕ) where
   unfolding word-pair word
   word-pair-took h e f = pair-took 4 s p h e f (omega arith)
 
-  pub word-pair-short : length s - p < 8 → refused (Ended (pairEnd 4 (length s) p)) ≡ word-pair .kind .read s p
+  pub word-pair-short : length s - p < 8 → refused (pairEnd 4 s p) ≡ word-pair .kind .read s p
   unfolding word-pair word
   word-pair-short h = pair-short 4 s p h
 
@@ -122,7 +127,7 @@ module _ (s : List ℕ) (p : ℕ) where
   unfolding hyper-pair hyper
   hyper-pair-took h e f = pair-took 8 s p h e f (omega arith)
 
-  pub hyper-pair-short : length s - p < 16 → refused (Ended (pairEnd 8 (length s) p)) ≡ hyper-pair .kind .read s p
+  pub hyper-pair-short : length s - p < 16 → refused (pairEnd 8 s p) ≡ hyper-pair .kind .read s p
   unfolding hyper-pair hyper
   hyper-pair-short h = pair-short 8 s p h
 
@@ -176,17 +181,17 @@ module _ (s : List ℕ) (p : ℕ) where
   unfolding pieceHeld word
   piece-refused r f =
       let w = number-without 4 s p f in
-      let e : _≡_ {A = Answer ℕ} (refused _) (refused (Ended p)) = w .1 in
+      let e : _≡_ {A = Answer ℕ} (refused _) (refused (cutShort 4 s p)) = w .1 in
       rw (lt-leb 4 (length s - p) (w .0)) (cc e)
 
   pub words-refused : (r : Refusal) → word .kind .read s p ≡ refused r → refused r ≡ wordsHeld .read s p
   unfolding wordsHeld word
   words-refused r f =
       let w = number-without 4 s p f in
-      let e : _≡_ {A = Answer ℕ} (refused _) (refused (Ended p)) = w .1 in
+      let e : _≡_ {A = Answer ℕ} (refused _) (refused (cutShort 4 s p)) = w .1 in
       rw (lt-leb 4 (length s - p) (w .0)) (cc e)
 
-  pub words-short : {v n : ℕ} {b : Bool} → word .kind .read s p ≡ took v n b → length s - n < v * 4 → refused (Ended p) ≡ wordsHeld .read s p
+  pub words-short : {v n : ℕ} {b : Bool} → word .kind .read s p ≡ took v n b → length s - n < v * 4 → refused (cutShort (4 + v * 4) s p) ≡ wordsHeld .read s p
   unfolding wordsHeld
   words-short {v} {n} f h =
       let w = word-within f in

@@ -1,6 +1,6 @@
 -- Items that are read by the number in front, by the answer of the call that reads it: each law is in the shape of a reader's goal.
 -- Assumes nothing.
-use mathlib.Core.Path.{_≡_, refl, _∙_}
+use mathlib.Core.Path.{_≡_, refl, ap, _∙_}
 use mathlib.Core.Bool.{Bool, true, not}
 use mathlib.Core.List.{List}
 use Prim.Native.Nat.{ℕ, _+_, _*_, _-_, _/_, _≤_, _<_}
@@ -11,7 +11,8 @@ use lib.ListN.{length, getD}
 use mir.Syntax.{w8, w32, w64}
 use mir.Val.{Fits, SFits, toZ, ofZ}
 use mir.ValLaws.{toZ-ofZ}
-use Rattle.xdr.specs.Meaning.Bytes.{signed, numberAt}
+use Rattle.xdr.specs.Meaning.Bytes.{signed, numberAt, padding}
+use Rattle.xdr.specs.Meaning.Refusal.{cutShort}
 use Rattle.xdr.specs.Meaning.Answer.{Answer, took, refused}
 use Rattle.xdr.specs.Meaning.Items.{word, hyper, flag, int, long}
 use Rattle.xdr.specs.Meaning.Formats.{pieceHeld, wordsHeld}
@@ -21,7 +22,6 @@ use Rattle.xdr.specs.Laws.Answers.{on, off, word-within, flag-took, int-
 use Rattle.xdr.specs.Laws.Padding.{lastZeros, padded, body-short, body-took}
 use Rattle.xdr.specs.declared.piece.Piece.{Piece}
 use Rattle.xdr.specs.declared.refusal.Refusal.{Refusal}
-use Rattle.xdr.specs.declared.refusal.Refusal.the-variants.{Ended}
 use Rattle.xdr.specs.declared.answer.U32Read.{U32Read}
 use Rattle.xdr.specs.declared.answer.U32Read.the-variants as U32
 use Rattle.xdr.specs.declared.answer.U64Read.{U64Read}
@@ -50,8 +50,11 @@ module _ (s : List ℕ) (p : ℕ) (r : U32Read) (v n : ℕ) (e : viewU32 r ≡ w
   pub by-next : n ≤ length s
   by-next = omega (arith, word-within s p (on viewU32 e f))
 
-  pub by-words-short : length s - n < v * 4 → refused (Ended p) ≡ wordsHeld .read s p
-  by-words-short g = words-short s p (on viewU32 e f) g
+  pub by-words-room : length s - n < v * 4 → length s - p < 4 + v * 4
+  by-words-room g = omega (arith, word-within s p (on viewU32 e f))
+
+  pub by-words-short : (q : Refusal) → length s - n < v * 4 → q ≡ cutShort (4 + v * 4) s p → refused q ≡ wordsHeld .read s p
+  by-words-short q g h = ap refused h ∙ words-short s p (on viewU32 e f) g
 
   pub by-words : v * 4 ≤ length s - n → took (record { at = n; count = v }) (n + v * 4) true ≡ wordsHeld .read s p
   by-words g = words-took s p (on viewU32 e f) g
@@ -63,8 +66,10 @@ module _ (s : List ℕ) (p : ℕ) (r : U64Read) (v n : ℕ) (e : viewU64 r ≡ h
 
 -- the bytes of an opaque behind its length word, by the test of room for them
 module _ (s : List ℕ) (p n : ℕ) (h : p + 4 ≤ length s) where
-  pub body-off : length s - p - 4 < (n + 3) / 4 * 4 → refused (Ended p) ≡ pieceAnswer s p n
-  body-off r = body-short s p n (omega (arith, padded n))
+  pub body-off : (q : Refusal) → length s - p - 4 < (n + 3) / 4 * 4 → q ≡ cutShort (4 + (n + 3) / 4 * 4) s p → refused q ≡ pieceAnswer s p n
+  body-off q r f =
+      let e : 4 + (n + 3) / 4 * 4 ≡ 4 + n + padding n = omega (arith, padded n) in
+      ap refused f ∙ ap (λ (k : ℕ). refused (cutShort k s p)) e ∙ body-short s p n (omega (arith, padded n))
 
   pub body-on : (w : ℕ) (b : Bool) → ((i : ℕ) → Fits w8 (getD s i 0)) → (n + 3) / 4 * 4 ≤ length s - p - 4 → w ≡ numberAt 4 s (p + (n + 3) / 4 * 4)
       → b ≡ lastZeros w ((n + 3) / 4 * 4 - n) → took (record { at = p + 4; count = n }) (p + 4 + (n + 3) / 4 * 4) b ≡ pieceAnswer s p n

@@ -4,19 +4,21 @@ use mathlib.Core.Path.{_≡_, refl, sym, ap, ap₂, subst, _∙_}
 use mathlib.Core.Logic.{_⊎_, inl, inr}
 use mathlib.Core.Bool.{Bool, _&&_}
 use mathlib.Core.List.{List, [], _++_}
-use Prim.Native.Nat.{ℕ, _+_}
+use Prim.Native.Nat.{ℕ, _+_, _≤_, _<_}
 use native.Mathlib.Nat.{add-assoc}
 use native.Mathlib.Omega.{arith}
 use lib.ListN.{length, length-append}
 use Rattle.xdr.specs.Meaning.Bytes.{Bytes, Stands}
-use Rattle.xdr.specs.Meaning.Refusal.{OfReading}
-use Rattle.xdr.specs.Meaning.Answer.{Answer, took, refused, Loose, shifted, clean}
+use Rattle.xdr.specs.Meaning.Refusal.{OfReading, TooFew, lessBy}
+use Rattle.xdr.specs.Meaning.Answer.{Answer, took, refused, Reaches, Came, Loose, shifted, clean}
 use Rattle.xdr.specs.Meaning.Kind.{Kind, Found, Sound, Lawful}
 use Rattle.xdr.specs.Meaning.Combinators.{first, second, Chained, Behind, chainKind}
-use Rattle.xdr.specs.Laws.Lists.{stands-append, stands-first, stands-second}
+use Rattle.xdr.specs.Laws.Lists.{stands-append, stands-first, stands-second, stands-grow, stands-inside}
+use Rattle.xdr.specs.Laws.Cuts.{at-end, came-by}
 use Rattle.xdr.specs.Laws.Marks.{clean-append, clean-shifted, none-left, none-right, none-shifted}
 use Rattle.xdr.specs.Laws.Parted.{parted, same-message}
 use Rattle.xdr.specs.declared.refusal.Refusal.{Refusal}
+use Rattle.xdr.specs.declared.refusal.Refusal.the-variants.{Ended}
 
 module _ {M : Type 0} {N : M → Type 0} (A : Kind M) (B : (a : M) → Kind (N a)) (LA : Lawful A) (LB : (a : M) → Lawful (B a)) where
   sound₂ : (s : List ℕ) (p : ℕ) (a : M) (n : ℕ) (b : Bool) → Found A s p a n b → (y : Answer (N a))
@@ -85,6 +87,51 @@ module _ {M : Type 0} {N : M → Type 0} (A : Kind M) (B : (a : M) → Kind (N a
       let w₂ : f .w₂ ≡ f′ .w₂ = LB (m .0) .alike (m .1) (m .1) (f .w₂) (f′ .w₂) (f .e₂) (f .form₂) g₂ in
       f .loose ∙ ap₂ (λ x y. x ++ y) w₁ (ap₂ (λ (x : List ℕ) y. shifted (length x) y) (c .head) w₂) ∙ sym (f′ .loose)
 
+  -- bytes that come: a fault of the second stands behind a form of the first, which stays
+  chain-ended : (s : List ℕ) (p q w : ℕ) → p ≤ length s → A .Fault s p (Ended q w) ⊎ Behind A B s p (Ended q w) → (p ≤ q) × (q ≤ length s) × (0 < w)
+  chain-ended s p q w h (inl f) = LA .ended s p q w h f
+  chain-ended s p q w h (inr f) =
+      let k = stands-inside (f .used) (f .left) s p h (f .stands) in
+      let g = LB (f .message) .ended s (p + length (f .used)) q w k (f .fault) in
+      (omega (arith, g .0), g .1, g .2)
+
+  chain-few : (s t : List ℕ) (p : ℕ) (r : Refusal) → p ≤ length s → A .Fault s p r ⊎ Behind A B s p r → TooFew (length t) r
+      → A .Fault (s ++ t) p (lessBy (length t) r) ⊎ Behind A B (s ++ t) p (lessBy (length t) r)
+  chain-few s t p r h (inl f) g = inl (LA .few s t p r h f g)
+  chain-few s t p r h (inr f) g =
+      let k = stands-inside (f .used) (f .left) s p h (f .stands) in
+      inr
+      (record {
+        message = f .message;
+        loose = f .loose;
+        used = f .used;
+        left = f .left ++ t;
+        form = f .form;
+        stands = stands-grow (f .used) (f .left) s t p h (f .stands);
+        fault = LB (f .message) .few s t (p + length (f .used)) r k (f .fault) g;
+      })
+
+  reach-second : (a : M) (b : Bool) (n : ℕ) (y : Answer (N a)) → Reaches n y → Reaches n (second A B a b y)
+  reach-second a b n (took c k b′) e = e
+  reach-second a b n (refused r) e = e
+
+  reach-first : (s : List ℕ) → Bytes s → (x : Answer M) → Reaches (length s) x → Reaches (length s) (first A B s x)
+  reach-first s h (took a n b) e =
+      reach-second a b (length s) (B a .read s n) (at-end (B a) (LB a) s n e (B a .read s n) (LB a .sound s n h))
+  reach-first s h (refused r) e = e
+
+  chain-enough : (s t : List ℕ) (p q w : ℕ) → p ≤ length s → Bytes (s ++ t) → A .Fault s p (Ended q w) ⊎ Behind A B s p (Ended q w) → length t ≡ w
+      → Came s t q (first A B (s ++ t) (A .read (s ++ t) p))
+  chain-enough s t p q w h b (inl f) e =
+      came-by (first A B (s ++ t)) s t (reach-first (s ++ t) b) (λ r. refl) q (A .read (s ++ t) p) (LA .enough s t p q w h b f e)
+  chain-enough s t p q w h b (inr f) e =
+      let n : ℕ = p + length (f .used) in
+      let k = stands-inside (f .used) (f .left) s p h (f .stands) in
+      let g = stands-grow (f .used) (f .left) s t p h (f .stands) in
+      subst (λ x. Came s t q (first A B (s ++ t) x)) (sym (LA .complete (f .message) (f .loose) (f .used) (f .left ++ t) (s ++ t) p (f .form) g))
+      (came-by (second A B (f .message) (clean (f .loose))) s t (reach-second (f .message) (clean (f .loose)) (length (s ++ t))) (λ r. refl) q
+      (B (f .message) .read (s ++ t) n) (LB (f .message) .enough s t n q w k b (f .fault) e))
+
   pub chain-lawful : Lawful (chainKind A B)
   chain-lawful =
       record {
@@ -106,4 +153,7 @@ module _ {M : Type 0} {N : M → Type 0} (A : Kind M) (B : (a : M) → Kind (N a
               loose = refl;
             };
         plain = chain-plain;
+        ended = chain-ended;
+        few = chain-few;
+        enough = chain-enough;
       }

@@ -3,7 +3,7 @@
 use mathlib.Core.Path.{_≡_, refl, sym, ap, subst, _∙_}
 use mathlib.Core.Bool.{Bool, true, false}
 use mathlib.Core.List.{List, [], _∷_, _++_}
-use Prim.Native.Nat.{ℕ, zero, suc, _+_, _-_, _≤_, max}
+use Prim.Native.Nat.{ℕ, zero, suc, _+_, _-_, _*_, _≤_, max}
 use native.Mathlib.Omega.{arith}
 use lib.ListN.{length, drop, length-append, length-drop}
 use lib.Seq.{length-take-le}
@@ -11,14 +11,15 @@ use Rattle.xdr.specs.Meaning.Bytes.{digits}
 use Rattle.xdr.specs.Meaning.Answer.{Way, Loose}
 use Rattle.xdr.specs.Meaning.Kind.{Kind, Lawful, Codec}
 use Rattle.xdr.specs.Meaning.Promise.{used, NoLonger}
-use Rattle.xdr.specs.Meaning.Combinators.{blockKind, voidKind, chainKind, means, Faithful, View, viewKind, itemKind, among}
+use Rattle.xdr.specs.Meaning.Combinators.{blockKind, voidKind, chainKind, means, Faithful, View, viewKind, runKind, itemKind, among}
 use Rattle.xdr.specs.Meaning.Codecs.{chain, mapped, times}
-use Rattle.xdr.specs.Meaning.Items.{number, word, hyper, flag, fromFlag, int, long, eight, opaque, words, closed, if, option}
+use Rattle.xdr.specs.Meaning.Items.{number, word, hyper, flag, fromFlag, int, long, eight, word-takes, counted, opaque, words, closed, if, option}
 use Rattle.xdr.specs.Meaning.Pieces.{opaqueSize}
 use Rattle.xdr.specs.Meaning.Format.{Format}
 use Rattle.xdr.specs.Meaning.Public.{Took, rewritten}
 use Rattle.xdr.specs.Laws.Digits.{length-digits}
 use Rattle.xdr.specs.Laws.Block.{block-lawful}
+use Rattle.xdr.specs.Laws.Takes.{times-take}
 use Rattle.xdr.specs.Laws.Forms.{opaque-form}
 use Rattle.xdr.specs.Laws.Padding.{word-length, opaque-long}
 use Rattle.xdr.specs.Laws.Promise.{keeps}
@@ -141,8 +142,8 @@ module _ {M N : Type 0} (K : Kind M) (W : View M (K .Good) N) where
 pub no-default : {N P : Type 0} {a b : N} {l : Way} {u : List Way} → means a [] ≡ means b (l ∷ u) → P
 no-default e = let z : _≡_ {A = ℕ} 0 1 = cc in absurd (omega arith)
 
-pub item-lengths : {M : Type 0} {K : Kind M} {lo hi : ℕ} → Lengths lo hi K → Lengths lo hi (itemKind K)
-item-lengths h = record { of = h .of }
+pub run-within : {M : Type 0} {K : Kind M} {n k : ℕ} → Within k K → Within k (runKind n K)
+run-within h = record { of = h .of }
 
 pub item-within : {M : Type 0} {K : Kind M} {k : ℕ} → Within k K → Within k (itemKind K)
 item-within h = record { of = h .of }
@@ -233,8 +234,8 @@ times-within C h (suc n) = chain-within h (λ a. times-within C h n)
 pub words-within : Within 0 (words .kind)
 unfolding words
 words-within =
-    item-within
-    (view-within _ _ (chain word (times word) .laws) (chain-within word-within (times-within word word-within)) (λ x m l u w e s f. no-default s))
+    view-within _ _ (counted (λ n. n * 4) (times word) (times-take word word-takes) .laws)
+    (item-within (chain-within word-within (λ n. run-within (times-within word word-within n)))) (λ x m l u w e s f. no-default s)
 
 -- the same bytes under other names, and a value that a flag says is there
 pub mapped-within : {M N : Type 0} (C : Codec M) (f : M → N) (g : N → M) (gf : (x : M) → g (f x) ≡ x) (fg : (y : N) → f (g y) ≡ y) {k : ℕ}

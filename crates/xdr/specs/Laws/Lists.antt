@@ -2,10 +2,10 @@
 -- Assumes nothing.
 use mathlib.Core.Path.{_≡_, sym, ap, _∙_}
 use mathlib.Core.List.{List, [], _∷_, _++_, append-assoc}
-use Prim.Native.Nat.{ℕ, zero, suc, _+_, _-_, _<_}
+use Prim.Native.Nat.{ℕ, zero, suc, _+_, _-_, _≤_, _<_}
 use native.Mathlib.Omega.{arith}
 use lib.ListN.{length, getD, take, drop, length-append, length-drop}
-use lib.Seq.{drop-drop, drop-append-seam}
+use lib.Seq.{drop-drop, drop-append-seam, drop-append-le}
 use mir.Syntax.{w8}
 use mir.Val.{Fits}
 use Rattle.xdr.specs.Meaning.Bytes.{Bytes, Stands}
@@ -46,3 +46,11 @@ stands-first e e′ t s p h = h ∙ append-assoc e e′ t
 
 pub stands-second : (e e′ t s : List ℕ) (p : ℕ) → Stands (e ++ e′) t s p → Stands e′ t s (p + length e)
 stands-second e e′ t s p h = after e (e′ ++ t) s p (stands-first e e′ t s p h)
+
+-- what stands in a source stands there with more behind it
+pub stands-grow : (e l s t : List ℕ) (p : ℕ) → p ≤ length s → Stands e l s p → Stands e (l ++ t) (s ++ t) p
+stands-grow e l s t p g h = drop-append-le p s t g ∙ ap (λ x. x ++ t) h ∙ append-assoc e l t
+
+-- and what comes after it lies inside too
+pub stands-inside : (e l s : List ℕ) (p : ℕ) → p ≤ length s → Stands e l s p → p + length e ≤ length s
+stands-inside e l s p g h = omega (arith, room e l s p h)

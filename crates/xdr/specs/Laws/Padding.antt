@@ -12,13 +12,13 @@ use lib.ListN.{length, getD, take, drop, replicate, length-append, length-drop, 
 use lib.Seq.{drop-cons, length-take-le}
 use borrow.Author.Tests.{eq-eqb, ne-eqb, eqb-true, eqb-false, le-leb, lt-leb, leb-true}
 use Rattle.xdr.specs.Meaning.Bytes.{value, digits, numberAt, padding, zeros}
+use Rattle.xdr.specs.Meaning.Refusal.{cutShort}
 use Rattle.xdr.specs.Meaning.Answer.{took, refused, most}
 use Rattle.xdr.specs.Meaning.Items.{number, word, hyper, word-pair, hyper-pair, flag, fromFlag, eight, opaque}
 use Rattle.xdr.specs.Meaning.Pieces.{bytesIn, isInside, pieceAnswer, opaqueSize, sizeUpTo, wordsUpTo}
 use Rattle.xdr.specs.Laws.Digits.{length-digits}
 use Rattle.xdr.specs.Laws.Pieces.{inside-le}
 use Rattle.xdr.specs.declared.piece.Piece.{Piece}
-use Rattle.xdr.specs.declared.refusal.Refusal.the-variants.{Ended}
 
 -- whether the low k bytes of a word are zero, for k up to 3
 abbrev pub lastZeros : ℕ → ℕ → Bool
@@ -92,7 +92,7 @@ module _ (s : List ℕ) (given : (i : ℕ) → getD s i 0 < 256) where
       let nx : p + 4 + m ≡ p + 4 + n + padding n = omega arith in
       rw (le-leb (4 + n + padding n) (length s - p) h, nx, eb, ew, c, z)
 
-pub body-short : (s : List ℕ) (p n : ℕ) → length s - p < 4 + n + padding n → refused (Ended p) ≡ pieceAnswer s p n
+pub body-short : (s : List ℕ) (p n : ℕ) → length s - p < 4 + n + padding n → refused (cutShort (4 + n + padding n) s p) ≡ pieceAnswer s p n
 body-short s p n h = simp (lt-leb (4 + n + padding n) (length s - p) h)
 
 -- how long items are

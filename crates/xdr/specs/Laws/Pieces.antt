@@ -11,23 +11,23 @@ use lib.ListN.{length, take, drop, length-take, length-drop, length-append}
 use lib.Seq.{take-append-le, drop-append-le}
 use borrow.Author.Tests.{le-leb, lt-leb, leb-true}
 use Rattle.xdr.specs.Meaning.Bytes.{Bytes, numberAt, padding, zeros}
+use Rattle.xdr.specs.Meaning.Refusal.{cutShort}
 use Rattle.xdr.specs.Meaning.Answer.{took, refused, mapAnswer, Taken, most}
 use Rattle.xdr.specs.Meaning.Items.{number, word, opaque}
 use Rattle.xdr.specs.Meaning.Pieces.{bytesIn, isInside, partOf, partPlace, Part, pieceAt, nothing}
 use Rattle.xdr.specs.Laws.Lists.{bytes-take, bytes-drop}
 use Rattle.xdr.specs.Laws.Reading.{opaque-read}
 use Rattle.xdr.specs.declared.piece.Piece.{Piece}
-use Rattle.xdr.specs.declared.refusal.Refusal.the-variants.{Ended}
 
 module _ (s : List ℕ) (p : ℕ) where
   agree : (t u : Bool) (n : ℕ)
       → cond t
-      (cond u (took (take n (drop (p + 4) s)) (p + 4 + n + padding n) (zeros (take (padding n) (drop (p + 4 + n) s)))) (refused (Ended p)))
-      (refused (Ended p))
+      (cond u (took (take n (drop (p + 4) s)) (p + 4 + n + padding n) (zeros (take (padding n) (drop (p + 4 + n) s)))) (refused (cutShort (4 + n + padding n) s p)))
+      (refused (cutShort 4 s p))
       ≡ mapAnswer (bytesIn s)
       (cond t
-      (cond u (took (record { at = p + 4; count = n }) (p + 4 + n + padding n) (zeros (take (padding n) (drop (p + 4 + n) s)))) (refused (Ended p)))
-      (refused (Ended p)))
+      (cond u (took (record { at = p + 4; count = n }) (p + 4 + n + padding n) (zeros (take (padding n) (drop (p + 4 + n) s)))) (refused (cutShort (4 + n + padding n) s p)))
+      (refused (cutShort 4 s p)))
   agree true true n = refl
   agree true false n = refl
   agree false u n = refl
@@ -35,8 +35,8 @@ module _ (s : List ℕ) (p : ℕ) where
   keeps : (n : ℕ) (t u : Bool) → leb (4 + n + padding n) (length s - p) ≡ u
       → Taken (λ x. isInside s x ≡ true)
       (cond t
-      (cond u (took (record { at = p + 4; count = n }) (p + 4 + n + padding n) (zeros (take (padding n) (drop (p + 4 + n) s)))) (refused (Ended p)))
-      (refused (Ended p)))
+      (cond u (took (record { at = p + 4; count = n }) (p + 4 + n + padding n) (zeros (take (padding n) (drop (p + 4 + n) s)))) (refused (cutShort (4 + n + padding n) s p)))
+      (refused (cutShort 4 s p)))
   unfolding isInside
   keeps n false u e = tt
   keeps n true false e = tt

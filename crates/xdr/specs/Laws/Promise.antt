@@ -1,10 +1,10 @@
 -- The promise holds of every lawful kind.
 -- Assumes nothing.
-use mathlib.Core.Path.{_≡_, refl, sym, ap, subst, _∙_}
+use mathlib.Core.Path.{_≡_, refl, sym, ap, ap₂, subst, _∙_}
 use mathlib.Core.Logic.{_↔_}
 use mathlib.Core.Bool.{Bool, true}
-use mathlib.Core.List.{List, [], append-nil}
-use Prim.Native.Nat.{ℕ, _+_, _-_, _≤_}
+use mathlib.Core.List.{List, [], _++_, append-nil}
+use Prim.Native.Nat.{ℕ, _+_, _-_, _≤_, _<_}
 use native.Mathlib.Nat.{zero-add}
 use native.Mathlib.Omega.{arith}
 use lib.ListN.{length}
@@ -12,9 +12,10 @@ use lib.Seq.{take-at}
 use Rattle.xdr.specs.Meaning.Bytes.{Bytes, Stands, part}
 use Rattle.xdr.specs.Meaning.Answer.{Answer, took, refused, mapAnswer, Loose, clean}
 use Rattle.xdr.specs.Meaning.Kind.{Kind, Found, Sound, Lawful, Codec}
-use Rattle.xdr.specs.Meaning.Promise.{Begins, Accepted, Refused, Reading, used, rewriting, Promise}
-use Rattle.xdr.specs.Laws.Lists.{room}
+use Rattle.xdr.specs.Meaning.Promise.{Begins, Accepted, Refused, Reading, used, rewriting, Wants, Promise}
+use Rattle.xdr.specs.Laws.Lists.{room, stands-grow}
 use Rattle.xdr.specs.Laws.Marks.{clean-none}
+use Rattle.xdr.specs.declared.refusal.Refusal.the-variants.{Ended, Undeclared}
 
 module _ {M : Type 0} (K : Kind M) (L : Lawful K) where
   begins : (s : List ℕ) (p : ℕ) → Bytes s → Accepted K s p → Begins K s p
@@ -91,6 +92,28 @@ module _ {M : Type 0} (K : Kind M) (L : Lawful K) where
     flagged : used K r ≡ rewriting K r → r .plain ≡ true
     flagged e = marks [] (subst (K .Form (r .message) []) (sym e) (L .written (r .message) in-range))
 
+    -- its form stands there with more behind it
+    stays : (t : List ℕ) → K .read (r .input ++ t) (r .place) ≡ took (r .message) (r .next) (r .plain)
+    stays t =
+        let f = found in
+        L .complete (r .message) (f .loose) (f .used) (f .left ++ t) (r .input ++ t) (r .place) (f .form)
+        (stands-grow (f .used) (f .left) (r .input) t (r .place) (r .inside) (f .stands))
+        ∙ ap₂ (λ (n : ℕ) b. took (r .message) n b) (sym (f .next)) (sym (f .plain))
+
+  final : (s t : List ℕ) (p q : ℕ) → Bytes s → p ≤ length s → K .read s p ≡ refused (Undeclared q) → K .read (s ++ t) p ≡ refused (Undeclared q)
+  final s t p q h k e = L .refuses (s ++ t) p (Undeclared q) (L .few s t p (Undeclared q) k (subst (Sound K s p) e (L .sound s p h)) tt)
+
+  wants : (s : List ℕ) (p q w : ℕ) → Bytes s → p ≤ length s → K .read s p ≡ refused (Ended q w) → Wants K s p q w
+  wants s p q w h k e =
+      let f : K .Fault s p (Ended q w) = subst (Sound K s p) e (L .sound s p h) in
+      let g = L .ended s p q w k f in
+      record {
+        inside = (g .0, g .1);
+        some = g .2;
+        few = λ t l. L .refuses (s ++ t) p (Ended q (w - length t)) (L .few s t p (Ended q w) k f l);
+        enough = λ t b l. L .enough s t p q w k b f l;
+      }
+
   promise : Promise K
   promise =
       record {
@@ -107,6 +130,9 @@ module _ {M : Type 0} (K : Kind M) (L : Lawful K) where
         clean-iff = clean-iff;
         one-list = λ r w w′ f f′. L .alike (r .message) (r .message) w w′ (used K r) f f′;
         formed = formed;
+        stays = stays;
+        final = final;
+        wants = wants;
       }
 
 pub keeps : {M : Type 0} (C : Codec M) → Promise (C .kind)

@@ -1,20 +1,20 @@
 -- Demands 2 and 3 hold of the answers of every public reader, and what it answers by the tests that come first.
 -- Assumes nothing.
 use mathlib.Core.Logic.{_↔_, _⊎_, inl, inr}
-use mathlib.Core.Path.{_≡_, refl, sym, ap, _∙_}
+use mathlib.Core.Path.{_≡_, refl, sym, ap, ap₂, subst, _∙_}
 use mathlib.Core.Bool.{Bool, true, false}
-use mathlib.Core.List.{List}
-use Prim.Native.Nat.{ℕ, _<_, _≤_}
+use mathlib.Core.List.{List, _++_}
+use Prim.Native.Nat.{ℕ, _-_, _<_, _≤_}
 use native.Mathlib.Omega.{arith}
 use lib.Dec.{leb}
-use lib.ListN.{length, getD}
+use lib.ListN.{length, getD, length-append}
 use borrow.Author.Tests.{le-leb, lt-leb, leb-true}
 use mir.Syntax.{w8}
 use mir.Val.{Fits}
-use Rattle.xdr.specs.Meaning.Answer.{Answer, took, refused, most, opened}
-use Rattle.xdr.specs.Meaning.Promise.{Begins, Accepted, Reading}
+use Rattle.xdr.specs.Meaning.Answer.{Answer, took, refused, mapAnswer, Came, most, opened}
+use Rattle.xdr.specs.Meaning.Promise.{Begins, Accepted, Reading, Wants}
 use Rattle.xdr.specs.Meaning.Format.{Format}
-use Rattle.xdr.specs.Meaning.Public.{Answers, Took, message, Kept}
+use Rattle.xdr.specs.Meaning.Public.{Answers, Took, message, Later, Kept}
 use Rattle.xdr.specs.Laws.Lists.{known-bytes}
 use Rattle.xdr.specs.Laws.Held.{taken-means, refused-means, taken-inside}
 use Rattle.xdr.specs.Laws.Promise.{keeps}
@@ -22,7 +22,7 @@ use Rattle.xdr.specs.Meaning.Views.{viewOpening}
 use Rattle.xdr.specs.declared.refusal.Refusal.{Refusal}
 use Rattle.xdr.specs.declared.order.Opening.{Opening}
 use Rattle.xdr.specs.declared.order.Opening.the-variants as opening
-use Rattle.xdr.specs.declared.refusal.Refusal.the-variants.{TooLong, PastEnd}
+use Rattle.xdr.specs.declared.refusal.Refusal.the-variants.{Ended, Undeclared, TooLong, PastEnd}
 use Rattle.xdr.specs.Meaning.Refusal.{OfReading}
 
 module _ {A : Type 0} (s : List ℕ) (p : ℕ) where
@@ -157,6 +157,90 @@ module _ {M S : Type 0} (F : Format M S) where
       by true h true k =
           inr (inr (F .codec .laws .numbered s p r (fault-of s p r c (leb-true (length s) most h) (leb-true p (length s) k) .0 refl)))
 
+  -- what was refused by 1 or 2 was read, and refused there
+  opened-refused : (s : List ℕ) (p : ℕ) {r : Refusal} → OfReading r → Answers F s p (refused r)
+      → (F .codec .kind .read s p ≡ refused r) × (length s ≤ most) × (p ≤ length s)
+  unfolding opened
+  opened-refused s p {r} o c = by (leb (length s) most) refl (leb p (length s)) refl
+    where
+      by : (t : Bool) → leb (length s) most ≡ t → (u : Bool) → leb p (length s) ≡ u → (F .codec .kind .read s p ≡ refused r) × (length s ≤ most) × (p ≤ length s)
+      by false h u k =
+          let f : _≡_ {A = Answer S} (refused r) (refused TooLong) = simp h at (c .is) in
+          let e : r ≡ TooLong = cc in absurd (subst OfReading e o)
+      by true h false k =
+          let f : _≡_ {A = Answer S} (refused r) (refused PastEnd) = simp (h, k) at (c .is) in
+          let e : r ≡ PastEnd = cc in absurd (subst OfReading e o)
+      by true h true k =
+          let f : refused r ≡ F .held .read s p = simp (h, k) at (c .is) in
+          (refused-means (F .held) s p (sym f), leb-true (length s) most h, leb-true p (length s) k)
+
+  -- the later answer is the reading
+  module _ {s t : List ℕ} {p : ℕ} {a a′ : Answer S} (l : Later F s t p a a′) where
+    later-in : p ≤ length s → a′ ≡ F .held .read (s ++ t) p
+    later-in h = l .then .is ∙ opened-in (s ++ t) p (F .held .read (s ++ t) p) (l .fits) (omega (arith, length-append s t))
+
+    later-refused : p ≤ length s → {r : Refusal} → F .codec .kind .read (s ++ t) p ≡ refused r → a′ ≡ refused r
+    later-refused h e = later-in h ∙ held-refused (s ++ t) p e (F .held .read (s ++ t) p) refl
+
+  stays : {s t : List ℕ} {p : ℕ} {x : S} {n : ℕ} {b : Bool} {a : Answer S} → Later F s t p (took x n b) a
+      → (y : S) × (a ≡ took y n b) × (F .held .mean (s ++ t) y ≡ F .held .mean s x)
+  stays {s} {t} {p} {x} {n} {b} {a} l =
+      let o = opened-took s p (F .held .read s p) (l .before .is) in
+      let r : Reading (F .codec .kind) =
+      record {
+        input = s;
+        place = p;
+        message = F .held .mean s x;
+        next = n;
+        plain = b;
+        bytes = l .before .bytes;
+        inside = o .2;
+        reads = taken-means (F .held) s p (o .0);
+      } in
+      by (F .held .read (s ++ t) p) refl (sym (F .held .agrees (s ++ t) p) ∙ keeps (F .codec) .stays r t) (o .2)
+    where
+      by : (z : Answer S) → F .held .read (s ++ t) p ≡ z → mapAnswer (F .held .mean (s ++ t)) z ≡ took (F .held .mean s x) n b → p ≤ length s
+          → (y : S) × (a ≡ took y n b) × (F .held .mean (s ++ t) y ≡ F .held .mean s x)
+      by (took y n′ b′) e f h =
+          let i : took y n′ b′ ≡ took y n b = ap₂ (λ (n : ℕ) b. took y n b) (cc) (cc) in
+          (y, later-in l h ∙ e ∙ i, cc)
+      by (refused r) e f h = let z : _≡_ {A = ℕ} 0 1 = cc in absurd (omega arith)
+
+  final : {s t : List ℕ} {p q : ℕ} {a : Answer S} → Later F s t p (refused (Undeclared q)) a → a ≡ refused (Undeclared q)
+  final {s} {t} {p} {q} l =
+      let o = opened-refused s p tt (l .before) in
+      later-refused l (o .2) (keeps (F .codec) .final s t p q (l .before .bytes) (o .2) (o .0))
+
+  wanting : {s : List ℕ} {p q w : ℕ} → Answers F s p (refused (Ended q w)) → Wants (F .codec .kind) s p q w
+  wanting {s} {p} {q} {w} c =
+      let o = opened-refused s p tt c in
+      keeps (F .codec) .wants s p q w (c .bytes) (o .2) (o .0)
+
+  some : {s : List ℕ} {p q w : ℕ} → Answers F s p (refused (Ended q w)) → 0 < w
+  some c = wanting c .some
+
+  few : {s t : List ℕ} {p q w : ℕ} {a : Answer S} → Later F s t p (refused (Ended q w)) a → length t < w → a ≡ refused (Ended q (w - length t))
+  few {s} {t} {p} l h = later-refused l (opened-refused s p tt (l .before) .2) (wanting (l .before) .few t h)
+
+  -- the reading that holds goes as far as the codec's
+  came-held : (s t : List ℕ) (q : ℕ) (z : Answer S) → Came s t q (mapAnswer (F .held .mean (s ++ t)) z) → Came s t q z
+  came-held s t q (took y n b) (inl e) = inl e
+  came-held s t q (took y n b) (inr g) =
+      let f : _≡_ {A = Answer M} (took (F .held .mean (s ++ t) y) n b) (refused (Ended q (g .wanting))) = g .is in
+      let z : _≡_ {A = ℕ} 0 1 = cc in absurd (omega arith)
+  came-held s t q (refused r) (inl e) = inl e
+  came-held s t q (refused r) (inr g) =
+      let f : _≡_ {A = Answer M} (refused r) (refused (Ended q (g .wanting))) = g .is in
+      let e : r ≡ Ended q (g .wanting) = cc in
+      inr (record { cut = g .cut; whole = g .whole; wanting = g .wanting; is = ap refused e })
+
+  enough : {s t : List ℕ} {p q w : ℕ} {a : Answer S} → Later F s t p (refused (Ended q w)) a → length t ≡ w → Came s t q a
+  enough {s} {t} {p} {q} l e =
+      let h = opened-refused s p tt (l .before) .2 in
+      subst (Came s t q) (sym (later-in l h))
+      (came-held s t q (F .held .read (s ++ t) p)
+      (subst (Came s t q) (F .held .agrees (s ++ t) p) (wanting (l .before) .enough t (l .then .bytes) e)))
+
   pub kept : Kept F
   unfolding reading
   kept =
@@ -176,5 +260,10 @@ module _ {M S : Type 0} (F : Format M S) where
         formed = λ t. keeps (F .codec) .formed (reading t);
         one-list = λ t. keeps (F .codec) .one-list (reading t);
         clean-iff = λ t. keeps (F .codec) .clean-iff (reading t);
+        stays = stays;
+        final = final;
+        some = some;
+        few = few;
+        enough = enough;
         one = λ s p c d. c .is ∙ sym (d .is);
       }

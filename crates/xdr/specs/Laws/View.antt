@@ -4,16 +4,23 @@ use mathlib.Core.Path.{_≡_, refl, sym, ap, ap₂, _∙_, subst}
 use mathlib.Core.Logic.{_⊎_, inl, inr}
 use mathlib.Core.Bool.{Bool, _&&_}
 use mathlib.Core.List.{List, [], _++_}
-use Prim.Native.Nat.{ℕ, _+_}
+use Prim.Native.Nat.{ℕ, _+_, _≤_, _<_}
+use native.Mathlib.Omega.{arith}
 use lib.ListN.{length}
-use Rattle.xdr.specs.Meaning.Bytes.{Stands}
-use Rattle.xdr.specs.Meaning.Refusal.{OfReading}
-use Rattle.xdr.specs.Meaning.Answer.{Answer, took, refused, Loose, here, clean}
+use Rattle.xdr.specs.Meaning.Bytes.{Bytes, Stands}
+use Rattle.xdr.specs.Meaning.Refusal.{OfReading, TooFew, lessBy}
+use Rattle.xdr.specs.Meaning.Answer.{Answer, took, refused, Reaches, Came, Loose, here, clean}
 use Rattle.xdr.specs.Meaning.Kind.{Kind, Found, Sound, Lawful}
 use Rattle.xdr.specs.Meaning.Combinators.{Seen, means, undeclared, Faithful, View, meant, look, Viewed, Unseen, viewKind}
+use Rattle.xdr.specs.Laws.Lists.{stands-grow}
+use Rattle.xdr.specs.Laws.Cuts.{came-by}
 use Rattle.xdr.specs.Laws.Marks.{clean-append, clean-here, none-left, none-right, none-here}
 use Rattle.xdr.specs.Laws.Parted.{same-message}
 use Rattle.xdr.specs.declared.refusal.Refusal.{Refusal}
+use Rattle.xdr.specs.declared.refusal.Refusal.the-variants.{Ended, Undeclared}
+
+apart : {P : Type 0} {p q w : ℕ} → Ended q w ≡ Undeclared p → P
+apart e = let z : _≡_ {A = ℕ} 0 1 = cc in absurd (omega arith)
 
 module _ {M N : Type 0} (K : Kind M) (W : View M (K .Good) N) (L : Lawful K) where
   sound₂ : (s : List ℕ) (p : ℕ) (x : M) (n : ℕ) (b : Bool) → Found K s p x n b → (y : Seen N) → W .see x ≡ y
@@ -65,6 +72,41 @@ module _ {M N : Type 0} (K : Kind M) (W : View M (K .Good) N) (L : Lawful K) whe
       ∙ ap₂ (λ x y. x ++ y) (ap here v) (L .alike (f .of) (f′ .of) (f .w₁) (f′ .w₁) e (f .form) (f′ .form))
       ∙ sym (f′ .loose)
 
+  -- bytes that come: what is seen as nothing is no 1, and stays
+  view-ended : (s : List ℕ) (p q w : ℕ) → p ≤ length s → K .Fault s p (Ended q w) ⊎ Unseen K W s p (Ended q w) → (p ≤ q) × (q ≤ length s) × (0 < w)
+  view-ended s p q w h (inl f) = L .ended s p q w h f
+  view-ended s p q w h (inr f) = apart (f .is)
+
+  view-few : (s t : List ℕ) (p : ℕ) (r : Refusal) → p ≤ length s → K .Fault s p r ⊎ Unseen K W s p r → TooFew (length t) r
+      → K .Fault (s ++ t) p (lessBy (length t) r) ⊎ Unseen K W (s ++ t) p (lessBy (length t) r)
+  view-few s t p r h (inl f) g = inl (L .few s t p r h f g)
+  view-few s t p r h (inr f) g =
+      inr
+      (record {
+        of = f .of;
+        loose = f .loose;
+        used = f .used;
+        left = f .left ++ t;
+        form = f .form;
+        stands = stands-grow (f .used) (f .left) s t p h (f .stands);
+        sees = f .sees;
+        is = ap (lessBy (length t)) (f .is);
+      })
+
+  reach-meant : (p k n : ℕ) (b : Bool) (y : Seen N) → k ≡ n → Reaches n (meant K W p k b y)
+  reach-meant p k n b (means m w) e = e
+  reach-meant p k n b undeclared e = tt
+
+  reach-look : (p n : ℕ) (x : Answer M) → Reaches n x → Reaches n (look K W p x)
+  reach-look p n (took x k b) e = reach-meant p k n b (W .see x) e
+  reach-look p n (refused r) e = e
+
+  view-enough : (s t : List ℕ) (p q w : ℕ) → p ≤ length s → Bytes (s ++ t) → K .Fault s p (Ended q w) ⊎ Unseen K W s p (Ended q w) → length t ≡ w
+      → Came s t q (look K W p (K .read (s ++ t) p))
+  view-enough s t p q w h b (inl f) e =
+      came-by (look K W p) s t (reach-look p (length (s ++ t))) (λ r. refl) q (K .read (s ++ t) p) (L .enough s t p q w h b f e)
+  view-enough s t p q w h b (inr f) e = apart (f .is)
+
   pub view-lawful : Lawful (viewKind K W)
   view-lawful =
       record {
@@ -84,4 +126,7 @@ module _ {M N : Type 0} (K : Kind M) (W : View M (K .Good) N) (L : Lawful K) whe
               loose = refl;
             };
         plain = view-plain;
+        ended = view-ended;
+        few = view-few;
+        enough = view-enough;
       }

@@ -12,6 +12,7 @@ use lib.ListN.{length, take, drop, length-drop, length-append, List·getD-append
 use lib.Seq.{length-take-le, drop-drop}
 use borrow.Author.Tests.{le-leb, lt-leb, leb-true, leb-false}
 use Rattle.xdr.specs.Meaning.Bytes.{Bytes, value, digits, numberAt}
+use Rattle.xdr.specs.Meaning.Refusal.{cutShort}
 use Rattle.xdr.specs.Meaning.Answer.{took, refused, mapAnswer, Taken, most}
 use Rattle.xdr.specs.Meaning.Shapes.{Tuple}
 use Rattle.xdr.specs.Meaning.Codecs.{times}
@@ -23,7 +24,6 @@ use Rattle.xdr.specs.Meaning.Shapes.{toList, fromList}
 use Rattle.xdr.specs.Laws.Reading.{number-read}
 use Rattle.xdr.specs.Laws.Digits.{length-digits}
 use Rattle.xdr.specs.declared.piece.Piece.{Piece}
-use Rattle.xdr.specs.declared.refusal.Refusal.the-variants.{Ended}
 
 -- n words from place q on
 abbrev tupleAt : (n : ℕ) → List ℕ → ℕ → Tuple ℕ n
@@ -38,7 +38,7 @@ word-here : (s : List ℕ) (q : ℕ) → 4 ≤ length s - q → word .kind .read
 unfolding word number
 word-here s q h = rw (number-read 4 s q, le-leb 4 (length s - q) h)
 
-word-not : (s : List ℕ) (q : ℕ) → length s - q < 4 → word .kind .read s q ≡ refused (Ended q)
+word-not : (s : List ℕ) (q : ℕ) → length s - q < 4 → word .kind .read s q ≡ refused (cutShort 4 s q)
 unfolding word number
 word-not s q h = rw (number-read 4 s q, lt-leb 4 (length s - q) h)
 
@@ -49,32 +49,21 @@ times-took (suc n) s q h =
     let e : q + 4 + n * 4 ≡ q + suc n * 4 = omega arith in
     rw (word-here s q k, times-took n s (q + 4) (omega arith), e)
 
-cut-step : (n : ℕ) (s : List ℕ) (q : ℕ)
-    → (length s - (q + 4) < n * 4 → (p : ℕ) × (times word n .kind .read s (q + 4) ≡ refused (Ended p)))
-    → length s - q < suc n * 4 → (t : Bool) → leb 4 (length s - q) ≡ t → (p : ℕ) × (times word (suc n) .kind .read s q ≡ refused (Ended p))
-cut-step n s q more h true e =
-    let k : 4 ≤ length s - q = leb-true 4 (length s - q) e in
-    let r = more (omega arith) in
-    (r .0, rw (word-here s q k, r .1))
-cut-step n s q more h false e = (q, rw (word-not s q (leb-false 4 (length s - q) e)))
-
-times-cut : (n : ℕ) (s : List ℕ) (q : ℕ) → length s - q < n * 4 → (p : ℕ) × (times word n .kind .read s q ≡ refused (Ended p))
-times-cut zero s q h = absurd (omega arith)
-times-cut (suc n) s q h = cut-step n s q (λ k. times-cut n s (q + 4) k) h (leb 4 (length s - q)) refl
-
 module _ (s : List ℕ) (p : ℕ) where
   counted : (n : ℕ) → numberAt 4 s p ≡ n → 4 ≤ length s - p → (t : Bool) → leb (4 + n * 4) (length s - p) ≡ t
-      → words .kind .read s p ≡ mapAnswer (wordsIn s) (cond t (took (record { at = p + 4; count = n }) (p + 4 + n * 4) true) (refused (Ended p)))
+      → words .kind .read s p
+      ≡ mapAnswer (wordsIn s) (cond t (took (record { at = p + 4; count = n }) (p + 4 + n * 4) true) (refused (cutShort (4 + n * 4) s p)))
   unfolding words
   counted n c h true e =
       let k : 4 + n * 4 ≤ length s - p = leb-true (4 + n * 4) (length s - p) e in
-      rw (word-here s p h, c, times-took n s (p + 4) (omega arith), list-tuple n s (p + 4))
+      rw (word-here s p h, c, le-leb (n * 4) (length s - (p + 4)) (omega arith), times-took n s (p + 4) (omega arith), list-tuple n s (p + 4))
   counted n c h false e =
       let k : length s - p < 4 + n * 4 = leb-false (4 + n * 4) (length s - p) e in
-      rw (word-here s p h, c, times-cut n s (p + 4) (omega arith) .1)
+      let i : n * 4 - (length s - (p + 4)) ≡ 4 + n * 4 - (length s - p) = omega arith in
+      rw (word-here s p h, c, lt-leb (n * 4) (length s - (p + 4)) (omega arith), i)
 
   by-word : (t : Bool) → leb 4 (length s - p) ≡ t
-      → words .kind .read s p ≡ mapAnswer (wordsIn s) (cond t (wordsAnswer s p (numberAt 4 s p)) (refused (Ended p)))
+      → words .kind .read s p ≡ mapAnswer (wordsIn s) (cond t (wordsAnswer s p (numberAt 4 s p)) (refused (cutShort 4 s p)))
   unfolding words
   by-word true e =
       counted (numberAt 4 s p) refl (leb-true 4 (length s - p) e) (leb (4 + numberAt 4 s p * 4) (length s - p)) refl
@@ -85,7 +74,7 @@ module _ (s : List ℕ) (p : ℕ) where
 
   keeps : (n : ℕ) (t u : Bool) → leb (4 + n * 4) (length s - p) ≡ u
       → Taken (λ x. areInside s x ≡ true)
-      (cond t (cond u (took (record { at = p + 4; count = n }) (p + 4 + n * 4) true) (refused (Ended p))) (refused (Ended p)))
+      (cond t (cond u (took (record { at = p + 4; count = n }) (p + 4 + n * 4) true) (refused (cutShort (4 + n * 4) s p))) (refused (cutShort 4 s p)))
   unfolding areInside
   keeps n false u e = tt
   keeps n true false e = tt

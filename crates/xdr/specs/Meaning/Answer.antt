@@ -1,12 +1,15 @@
 -- What reading and writing answer.
 -- Assumes nothing.
+use mathlib.Core.Path.{_≡_}
+use mathlib.Core.Logic.{_⊎_}
 use mathlib.Core.Bool.{Bool, true, false, cond}
-use mathlib.Core.List.{List, [], _∷_}
-use Prim.Native.Nat.{ℕ, _+_}
+use mathlib.Core.List.{List, [], _∷_, _++_}
+use Prim.Native.Nat.{ℕ, _+_, _-_, _<_}
 use lib.Dec.{leb}
 use lib.ListN.{length}
+use Rattle.xdr.specs.Meaning.Refusal.{EndedAt}
 use Rattle.xdr.specs.declared.refusal.Refusal.{Refusal}
-use Rattle.xdr.specs.declared.refusal.Refusal.the-variants.{TooLong, PastEnd}
+use Rattle.xdr.specs.declared.refusal.Refusal.the-variants.{Ended, TooLong, PastEnd}
 
 -- what reading at a place finds: the message, the next place, and whether its bytes are in published form; or a refusal
 pub data Answer (M : Type 0) : Type 0 where
@@ -21,6 +24,23 @@ mapAnswer f (refused r) = refused r
 abbrev pub Taken : {A : Type 0} → (A → Type 0) → Answer A → Type 0
 Taken P (took a n b) = P a
 Taken P (refused r) = Unit {0}
+
+-- it goes on to place n: what was taken ends there, or the item inside which the message now ends begins there
+abbrev pub Reaches : {A : Type 0} → ℕ → Answer A → Type 0
+Reaches n (took a k b) = k ≡ n
+Reaches n (refused r) = EndedAt n r
+
+-- the item at q is refused again: its length word was cut in s, and now ends where the bytes end
+pub record Again {A : Type 0} (s t : List ℕ) (q : ℕ) (a : Answer A) : Type 0 where
+  pub cut : length s - q < 4
+  pub whole : q + 4 ≡ length (s ++ t)
+  pub wanting : ℕ
+  pub is : a ≡ refused (Ended q wanting)
+
+-- what is answered once the bytes t that the item at q wanted have come behind s, and no more: the item is whole, and ends where they end;
+-- or its length word is
+abbrev pub Came : {A : Type 0} → List ℕ → List ℕ → ℕ → Answer A → Type 0
+Came s t q a = Reaches (length (s ++ t)) a ⊎ Again s t q a
 
 -- the ways in which bytes that are read are not in published form: a flag above 1, padding that is not zero,
 -- and a tag that is not declared, where the crate reads it as a default

@@ -5,11 +5,11 @@ use mathlib.Core.List.{List, []}
 use Prim.Native.Nat.{ℕ, zero, suc}
 use Rattle.xdr.specs.Meaning.Kind.{Codec}
 use Rattle.xdr.specs.Meaning.Shapes.{Tuple}
-use Rattle.xdr.specs.Meaning.Combinators.{blockKind, voidKind, chainKind, Seen, means, View, viewKind, itemKind}
+use Rattle.xdr.specs.Meaning.Combinators.{blockKind, voidKind, chainKind, Seen, means, View, viewKind, runKind, Takes}
 use Rattle.xdr.specs.Laws.Block.{block-lawful, void-lawful}
 use Rattle.xdr.specs.Laws.Chain.{chain-lawful}
 use Rattle.xdr.specs.Laws.View.{view-lawful}
-use Rattle.xdr.specs.Laws.Item.{item-lawful}
+use Rattle.xdr.specs.Laws.Run.{run-lawful}
 use Rattle.xdr.specs.Meaning.Combinators.{Exact}
 use Rattle.xdr.specs.Laws.Exact.{exact-faithful}
 
@@ -29,8 +29,8 @@ chain C D =
 abbrev pub view : {M N : Type 0} (C : Codec M) → View M (C .kind .Good) N → Codec N
 view C W = record { kind = viewKind (C .kind) W; laws = view-lawful (C .kind) W (C .laws) }
 
-abbrev pub item : {M : Type 0} → Codec M → Codec M
-item C = record { kind = itemKind (C .kind); laws = item-lawful (C .kind) (C .laws) }
+abbrev pub run : {M : Type 0} (n : ℕ) (C : Codec M) → Takes n (C .kind) → Codec M
+run n C T = record { kind = runKind n (C .kind); laws = run-lawful n (C .kind) (C .laws) T }
 
 -- a view with no range but the one that C has: what is seen with nothing loose is what is written, and a default is in range
 module _ {M N : Type 0} (C : Codec M) (see : M → Seen N) (to : N → M) (exact : (x : M) → Exact (C .kind .Good) to x (see x))

@@ -1,4 +1,5 @@
--- The four ways to make a kind: bytes as they stand, one kind after another, a kind seen as another, and a kind that is one item.
+-- The ways to make a kind: bytes as they stand, one kind after another, a kind seen as another, a kind as one run of bytes, and a kind that is
+-- one item.
 -- Assumes nothing.
 use mathlib.Core.Path.{_≡_}
 use mathlib.Core.Logic.{_⊎_}
@@ -8,11 +9,11 @@ use Prim.Native.Nat.{ℕ, _+_, _-_, _<_}
 use lib.Dec.{leb, eqb}
 use lib.ListN.{length, take, drop}
 use Rattle.xdr.specs.Meaning.Bytes.{Bytes, Stands}
-use Rattle.xdr.specs.Meaning.Refusal.{movedTo}
+use Rattle.xdr.specs.Meaning.Refusal.{movedTo, cutShort, Cut}
 use Rattle.xdr.specs.Meaning.Answer.{Answer, took, refused, Way, Loose, here, shifted, clean}
 use Rattle.xdr.specs.Meaning.Kind.{Kind}
 use Rattle.xdr.specs.declared.refusal.Refusal.{Refusal}
-use Rattle.xdr.specs.declared.refusal.Refusal.the-variants.{Ended, Undeclared}
+use Rattle.xdr.specs.declared.refusal.Refusal.the-variants.{Undeclared}
 
 -- n bytes
 pub record Raw (n : ℕ) (l : List ℕ) : Type 0 where
@@ -25,8 +26,8 @@ blockKind n =
     record {
       Good = Raw n;
       Form = λ l w e. (w ≡ []) × (e ≡ l) × Raw n l;
-      Fault = λ s p r. (r ≡ Ended p) × (length s - p < n);
-      read = λ s p. cond (leb n (length s - p)) (took (take n (drop p s)) (p + n) true) (refused (Ended p));
+      Fault = Cut n;
+      read = λ s p. cond (leb n (length s - p)) (took (take n (drop p s)) (p + n) true) (refused (cutShort n s p));
       write = λ l. l;
     }
 
@@ -151,6 +152,22 @@ module _ {M N : Type 0} (K : Kind M) (W : View M (K .Good) N) where
         read = λ s p. look p (K .read s p);
         write = λ m. K .write (W .to m);
       }
+
+-- a kind that takes n bytes, as one run of them: where there are fewer, the rest of all n is wanting
+abbrev pub runKind : {M : Type 0} → ℕ → Kind M → Kind M
+runKind n K =
+    record {
+      Good = K .Good;
+      Form = K .Form;
+      Fault = Cut n;
+      read = λ s p. cond (leb n (length s - p)) (K .read s p) (refused (cutShort n s p));
+      write = K .write;
+    }
+
+-- it takes n bytes, and where they are there nothing is refused
+pub record Takes {M : Type 0} (n : ℕ) (K : Kind M) : Type 0 where
+  pub long : (m : M) (w : List Loose) (e : List ℕ) → K .Form m w e → length e ≡ n
+  pub short : (s : List ℕ) (p : ℕ) (r : Refusal) → K .Fault s p r → length s - p < n
 
 -- one item: every refusal inside is that of the whole, at its first byte
 abbrev pub whole : {M : Type 0} → ℕ → Answer M → Answer M

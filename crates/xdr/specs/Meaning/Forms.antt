@@ -8,9 +8,9 @@ use Prim.Native.Nat.{ℕ, _+_, _-_, _^_, _≤_, _<_}
 use lib.Dec.{eqb, leb}
 use lib.ListN.{length}
 use Rattle.xdr.specs.Meaning.Bytes.{Bytes, digits, numberAt, padding, zeros}
+use Rattle.xdr.specs.Meaning.Refusal.{Cut}
 use Rattle.xdr.specs.Meaning.Answer.{Loose, odd-flag, dirty-pad, here}
 use Rattle.xdr.specs.declared.refusal.Refusal.{Refusal}
-use Rattle.xdr.specs.declared.refusal.Refusal.the-variants.{Ended}
 
 -- a number of k bytes has one form, and nothing in it is loose
 pub record NumberForm (k n : ℕ) (w : List Loose) (e : List ℕ) : Type 0 where
@@ -51,14 +51,9 @@ pub record WordsForm (l : List ℕ) (w : List Loose) (e : List ℕ) : Type 0 whe
   pub all : AllWords l
   pub bytes : e ≡ digits 4 (length l) ++ allDigits l
 
--- Where the items are cut short: the whole item is not there, and the refusal has the place of its first byte.
+-- Where the items are cut short: the whole item is not there, and the refusal has the place of its first byte. Of k bytes that stand together,
+-- a number or fixed bytes, the rest is wanting (`Cut k` of Meaning.Refusal).
 
--- k bytes that stand together: a number, or fixed bytes
-pub record Cut (k : ℕ) (s : List ℕ) (p : ℕ) (r : Refusal) : Type 0 where
-  pub is : r ≡ Ended p
-  pub short : length s - p < k
-
--- a length word, and as many bytes as `body` says of it
-pub record CountedCut (body : ℕ → ℕ) (s : List ℕ) (p : ℕ) (r : Refusal) : Type 0 where
-  pub is : r ≡ Ended p
-  pub short : (length s - p < 4) ⊎ ((4 ≤ length s - p) × (length s - p < 4 + body (numberAt 4 s p)))
+-- Of a length word, and as many bytes as `body` says of it: while the length word is not there, its rest; then the rest of all.
+abbrev pub CountedCut : (ℕ → ℕ) → List ℕ → ℕ → Refusal → Type 0
+CountedCut body s p r = Cut 4 s p r ⊎ ((4 ≤ length s - p) × Cut (4 + body (numberAt 4 s p)) s p r)

@@ -4,19 +4,23 @@ use mathlib.Core.Path.{_≡_, refl}
 use mathlib.Core.Bool.{Bool, true, false, cond}
 use mathlib.Core.Option.{Option}
 use mathlib.Core.List.{List, [], _∷_}
-use Prim.Native.Nat.{ℕ, zero, suc, _+_, _-_, _^_, _<_}
+use Prim.Native.Nat.{ℕ, zero, suc, _+_, _-_, _*_, _^_, _<_}
 use lib.IntN.{ℤ}
 use lib.ListN.{length, replicate}
 use Rattle.xdr.specs.Meaning.Bytes.{Bytes, value, digits, padding, zeros, signed, unsigned, InHalf}
+use Rattle.xdr.specs.Meaning.Refusal.{Cut}
 use Rattle.xdr.specs.Meaning.Answer.{odd-flag, dirty-pad}
 use Rattle.xdr.specs.Meaning.Kind.{Codec}
-use Rattle.xdr.specs.Meaning.Combinators.{Raw, Seen, means, undeclared}
-use Rattle.xdr.specs.Meaning.Codecs.{block, void, chain, view, item, seen, _⨾_, mapped, times}
+use Rattle.xdr.specs.Meaning.Combinators.{Raw, Seen, means, undeclared, Takes, itemKind}
+use Rattle.xdr.specs.Meaning.Codecs.{block, void, chain, view, run, seen, _⨾_, mapped, times}
 use Rattle.xdr.specs.Meaning.Combinators.{Exact, among}
 use Rattle.xdr.specs.Laws.Exact.{among-exact}
 use Rattle.xdr.specs.Meaning.Shapes.{If, toOption, fromOption, toList, fromList}
 use Rattle.xdr.specs.Laws.Made.{from-to, to-from, list-from-to, list-to-from}
 use Rattle.xdr.specs.Laws.Items as laws
+use Rattle.xdr.specs.Laws.Takes as takes
+use Rattle.xdr.specs.Laws.Item.{item-lawful}
+use Rattle.xdr.specs.declared.refusal.Refusal.{Refusal}
 
 -- a number of k bytes, the most significant first
 unfoldable pub number : ℕ → Codec ℕ
@@ -119,12 +123,31 @@ pad k =
       see-to = laws.pad-see-to k;
     })
 
--- opaque bytes: their number, they themselves, and padding; one item
+-- a word is four bytes, and is cut short as they are
+pub word-takes : Takes 4 (word .kind)
+unfolding word number
+word-takes = takes.view-takes _ _ (λ l. takes.seen) (takes.block-takes 4)
+
+pub word-cut : (s : List ℕ) (p : ℕ) (r : Refusal) → word .kind .Fault s p r → Cut 4 s p r
+unfolding word number
+word-cut = takes.view-cut _ _ (λ l. takes.seen)
+
+-- a number n, and what takes `size n` bytes, as one run of them: one item
+abbrev pub counted : {N : ℕ → Type 0} (size : ℕ → ℕ) (C : (n : ℕ) → Codec (N n)) → ((n : ℕ) → Takes (size n) (C n .kind)) → Codec ((n : ℕ) × N n)
+counted size C T =
+    record {
+      kind = itemKind (chain word (λ n. run (size n) (C n) (T n)) .kind);
+      laws = item-lawful (word .kind) (λ n. C n .kind) size (word .laws) word-takes word-cut (λ n. C n .laws) T;
+    }
+
+pub body-takes : (n : ℕ) → Takes (n + padding n) ((block n ⨾ pad (padding n)) .kind)
+body-takes n = takes.pair-takes _ _ (takes.block-takes n) (takes.view-takes _ _ (λ l. takes.seen) (takes.block-takes (padding n)))
+
+-- opaque bytes: their number, they themselves, and padding
 unfoldable pub opaque : Codec (List ℕ)
 unfolding word number
 opaque =
-    item
-    (view (chain word (λ n. block n ⨾ pad (padding n)))
+    view (counted (λ n. n + padding n) (λ n. block n ⨾ pad (padding n)) body-takes)
     (record {
       Good = λ l. word .kind .Good (length l) × Bytes l;
       see = λ x. means (x .1 .0) [];
@@ -132,15 +155,13 @@ opaque =
       faithful = laws.opaque-faithful;
       to-good = laws.opaque-to-good;
       see-to = λ l g. refl;
-    }))
+    })
 
--- a counted array; a list of words is one item
-abbrev pub counted : {M : Type 0} → Codec M → Codec (List M)
-counted {M} C =
-    mapped (chain word (times C)) (λ x. toList M (x .0) (x .1)) (fromList M) (λ x. list-from-to M (x .0) (x .1)) (list-to-from M)
-
+-- a list of words: how many, and they themselves
 unfoldable pub words : Codec (List ℕ)
-words = item (counted word)
+words =
+    mapped (counted (λ n. n * 4) (times word) (takes.times-take word word-takes)) (λ x. toList ℕ (x .0) (x .1)) (fromList ℕ)
+    (λ x. list-from-to ℕ (x .0) (x .1)) (list-to-from ℕ)
 
 -- a closed enumeration: a word that is the number of one of a list of values; any other is undeclared
 abbrev pub closed : {A : Type 0} (number : A → ℕ) (l : List A) → ((a : A) → among number l (number a) ≡ means a []) → Codec A

@@ -2,13 +2,14 @@
 -- Assumes nothing.
 use mathlib.Core.Path.{_≡_}
 use mathlib.Core.Bool.{Bool}
-use mathlib.Core.List.{List, []}
-use Prim.Native.Nat.{ℕ, _+_}
+use mathlib.Core.List.{List, [], _++_}
+use Prim.Native.Nat.{ℕ, _+_, _≤_, _<_}
 use lib.ListN.{length}
 use Rattle.xdr.specs.Meaning.Bytes.{Bytes, Stands}
-use Rattle.xdr.specs.Meaning.Refusal.{OfReading}
-use Rattle.xdr.specs.Meaning.Answer.{Answer, took, refused, Loose, clean}
+use Rattle.xdr.specs.Meaning.Refusal.{OfReading, TooFew, lessBy}
+use Rattle.xdr.specs.Meaning.Answer.{Answer, took, refused, Came, Loose, clean}
 use Rattle.xdr.specs.declared.refusal.Refusal.{Refusal}
+use Rattle.xdr.specs.declared.refusal.Refusal.the-variants.{Ended}
 
 -- `Good m`: m is in range. `Form m w e`: the bytes e are a form of m, and w lists what is loose in it, so the published form has w empty.
 -- `Fault s p r`: what stands at place p of s is whole up to the place of r, and r is what is wrong there.
@@ -54,6 +55,12 @@ module _ {M : Type 0} (K : Kind M) where
     pub written : (m : M) → K .Good m → K .Form m [] (K .write m)
     -- a form with nothing loose is what is written
     pub plain : (m : M) (e : List ℕ) → K .Form m [] e → e ≡ K .write m
+    -- 1 stands inside what is there, from the place of reading on, and wants something
+    pub ended : (s : List ℕ) (p q w : ℕ) → p ≤ length s → K .Fault s p (Ended q w) → (p ≤ q) × (q ≤ length s) × (0 < w)
+    -- bytes that are too few to mend a fault leave it
+    pub few : (s t : List ℕ) (p : ℕ) (r : Refusal) → p ≤ length s → K .Fault s p r → TooFew (length t) r → K .Fault (s ++ t) p (lessBy (length t) r)
+    -- and as many as 1 wants finish the item, or its length word
+    pub enough : (s t : List ℕ) (p q w : ℕ) → p ≤ length s → Bytes (s ++ t) → K .Fault s p (Ended q w) → length t ≡ w → Came s t q (K .read (s ++ t) p)
 
 pub record Codec (M : Type 0) : Type 1 where
   pub kind : Kind M

@@ -8,9 +8,9 @@ use Prim.Native.Nat.{ℕ, zero, suc, _+_, _-_, _*_}
 use lib.Dec.{leb}
 use lib.ListN.{length, take, drop}
 use Rattle.xdr.specs.Meaning.Bytes.{numberAt, padding, zeros}
+use Rattle.xdr.specs.Meaning.Refusal.{cutShort}
 use Rattle.xdr.specs.Meaning.Answer.{Answer, took, refused, most}
 use Rattle.xdr.specs.declared.piece.Piece.{Piece}
-use Rattle.xdr.specs.declared.refusal.Refusal.the-variants.{Ended}
 
 -- the bytes of a piece, and whether all of it lies inside
 abbrev pub bytesIn : List ℕ → Piece → List ℕ
@@ -64,18 +64,18 @@ abbrev pub pieceAnswer : List ℕ → ℕ → ℕ → Answer Piece
 pieceAnswer s p n =
     cond (leb (4 + n + padding n) (length s - p))
     (took (record { at = p + 4; count = n }) (p + 4 + n + padding n) (zeros (take (padding n) (drop (p + 4 + n) s))))
-    (refused (Ended p))
+    (refused (cutShort (4 + n + padding n) s p))
 
 abbrev pub pieceAt : List ℕ → ℕ → Answer Piece
-pieceAt s p = cond (leb 4 (length s - p)) (pieceAnswer s p (numberAt 4 s p)) (refused (Ended p))
+pieceAt s p = cond (leb 4 (length s - p)) (pieceAnswer s p (numberAt 4 s p)) (refused (cutShort 4 s p))
 
 -- the same of a word list
 abbrev pub wordsAnswer : List ℕ → ℕ → ℕ → Answer Piece
 wordsAnswer s p n =
-    cond (leb (4 + n * 4) (length s - p)) (took (record { at = p + 4; count = n }) (p + 4 + n * 4) true) (refused (Ended p))
+    cond (leb (4 + n * 4) (length s - p)) (took (record { at = p + 4; count = n }) (p + 4 + n * 4) true) (refused (cutShort (4 + n * 4) s p))
 
 abbrev pub wordPieceAt : List ℕ → ℕ → Answer Piece
-wordPieceAt s p = cond (leb 4 (length s - p)) (wordsAnswer s p (numberAt 4 s p)) (refused (Ended p))
+wordPieceAt s p = cond (leb 4 (length s - p)) (wordsAnswer s p (numberAt 4 s p)) (refused (cutShort 4 s p))
 
 -- the empty piece at place 0, which stands for the empty bytes of a default
 abbrev pub nothing : Piece

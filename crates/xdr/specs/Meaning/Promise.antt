@@ -1,15 +1,16 @@
--- The promise: demands 2 and 3, of any kind.
+-- The promise: demands 2 and 3, of any kind, and what bytes that come behind a message bring.
 -- Assumes nothing.
 use mathlib.Core.Path.{_≡_}
 use mathlib.Core.Logic.{_↔_}
 use mathlib.Core.Bool.{Bool, true}
-use mathlib.Core.List.{List, []}
-use Prim.Native.Nat.{ℕ, _+_, _-_, _≤_, max}
+use mathlib.Core.List.{List, [], _++_}
+use Prim.Native.Nat.{ℕ, _+_, _-_, _≤_, _<_, max}
 use lib.ListN.{length}
 use Rattle.xdr.specs.Meaning.Bytes.{Bytes, Stands, part}
-use Rattle.xdr.specs.Meaning.Answer.{took, refused, mapAnswer, Loose}
+use Rattle.xdr.specs.Meaning.Answer.{took, refused, mapAnswer, Came, Loose}
 use Rattle.xdr.specs.Meaning.Kind.{Kind}
 use Rattle.xdr.specs.declared.refusal.Refusal.{Refusal}
+use Rattle.xdr.specs.declared.refusal.Refusal.the-variants.{Ended, Undeclared}
 
 module _ {M : Type 0} (K : Kind M) where
   -- a message of this kind begins at place p of s
@@ -49,6 +50,16 @@ module _ {M : Type 0} (K : Kind M) where
   abbrev pub rewriting : Reading → List ℕ
   rewriting r = K .write (r .message)
 
+  -- of a reading of s at p that is refused with 1 at q, wanting w bytes: what appending t brings
+  pub record Wants (s : List ℕ) (p q w : ℕ) : Type 0 where
+    -- the item begins in what there is, and wants something
+    pub inside : (p ≤ q) × (q ≤ length s)
+    pub some : 0 < w
+    -- with fewer bytes it is refused at q again, and wants that many less
+    pub few : (t : List ℕ) → length t < w → K .read (s ++ t) p ≡ refused (Ended q (w - length t))
+    -- with exactly w the item at q is whole, or its length word is, and it was cut there
+    pub enough : (t : List ℕ) → Bytes (s ++ t) → length t ≡ w → Came s t q (K .read (s ++ t) p)
+
   pub record Promise : Type 0 where
     -- demand 2: bytes are refused exactly if no message of this kind begins there, and else accepted
     pub refused-iff : (s : List ℕ) (p : ℕ) → Bytes s → Refused s p ↔ ¬ (Begins s p)
@@ -72,6 +83,10 @@ module _ {M : Type 0} (K : Kind M) where
     pub formed : (r : Reading) → (w : List Loose) × K .Form (r .message) w (used r)
     pub one-list : (r : Reading) (w w′ : List Loose) → K .Form (r .message) w (used r) → K .Form (r .message) w′ (used r) → w ≡ w′
     pub clean-iff : (r : Reading) (w : List Loose) → K .Form (r .message) w (used r) → (r .plain ≡ true) ↔ (w ≡ [])
+    -- bytes that come: nothing that was taken changes by appending bytes, nor does refusal 2; and refusal 1 says how many are wanting
+    pub stays : (r : Reading) (t : List ℕ) → K .read (r .input ++ t) (r .place) ≡ took (r .message) (r .next) (r .plain)
+    pub final : (s t : List ℕ) (p q : ℕ) → Bytes s → p ≤ length s → K .read s p ≡ refused (Undeclared q) → K .read (s ++ t) p ≡ refused (Undeclared q)
+    pub wants : (s : List ℕ) (p q w : ℕ) → Bytes s → p ≤ length s → K .read s p ≡ refused (Ended q w) → Wants s p q w
 
   -- some kinds promise also that a rewriting is no longer than the larger of k bytes and the bytes read
   abbrev pub NoLonger : ℕ → Type 0

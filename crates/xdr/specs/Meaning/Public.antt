@@ -4,17 +4,17 @@ use mathlib.Core.Path.{_≡_}
 use mathlib.Core.Logic.{_↔_, _⊎_}
 use mathlib.Core.Bool.{Bool, true, cond}
 use mathlib.Core.List.{List, [], _++_}
-use Prim.Native.Nat.{ℕ, _+_, _≤_}
+use Prim.Native.Nat.{ℕ, _+_, _-_, _≤_, _<_}
 use lib.Dec.{leb}
 use lib.ListN.{length, take, drop}
 use Rattle.xdr.specs.Meaning.Bytes.{Bytes, part}
-use Rattle.xdr.specs.Meaning.Answer.{Answer, took, refused, mapAnswer, Loose, most, opened, Written, done, unwritten}
+use Rattle.xdr.specs.Meaning.Answer.{Answer, took, refused, mapAnswer, Came, Loose, most, opened, Written, done, unwritten}
 use Rattle.xdr.specs.Meaning.Order.{placing}
 use Rattle.xdr.specs.Meaning.Promise.{Begins}
 use Rattle.xdr.specs.Meaning.Format.{Format}
 use Rattle.xdr.specs.Meaning.Refusal.{OfReading}
 use Rattle.xdr.specs.declared.refusal.Refusal.{Refusal}
-use Rattle.xdr.specs.declared.refusal.Refusal.the-variants.{TooLong, PastEnd}
+use Rattle.xdr.specs.declared.refusal.Refusal.the-variants.{Ended, Undeclared, TooLong, PastEnd}
 
 module _ {M S : Type 0} (F : Format M S) where
   -- a public reader's answer at a place of a source: the format's reading, once refusals 3 and 9 are tested; and the source is bytes
@@ -89,6 +89,12 @@ module _ {M S : Type 0} (F : Format M S) where
   abbrev pub usedBy : Took → List ℕ
   usedBy t = part (t .source) (t .place) (t .next)
 
+  -- the answer a to s at p, and the answer a′ once t has come behind s and is not too long for a reader
+  pub record Later (s t : List ℕ) (p : ℕ) (a a′ : Answer S) : Type 0 where
+    pub before : Answers F s p a
+    pub then : Answers F (s ++ t) p a′
+    pub fits : length (s ++ t) ≤ most
+
   pub record Kept : Type 0 where
     -- taken exactly if the source is short enough, the place is in it, and a message of this kind begins there
     pub accepted-iff : (s : List ℕ) (p : ℕ) {a : Answer S} → Answers F s p a
@@ -111,5 +117,14 @@ module _ {M S : Type 0} (F : Format M S) where
     pub formed : (t : Took) → (w : List Loose) × F .codec .kind .Form (message t) w (usedBy t)
     pub one-list : (t : Took) (w w′ : List Loose) → F .codec .kind .Form (message t) w (usedBy t) → F .codec .kind .Form (message t) w′ (usedBy t) → w ≡ w′
     pub clean-iff : (t : Took) (w : List Loose) → F .codec .kind .Form (message t) w (usedBy t) → (t .plain ≡ true) ↔ (w ≡ [])
+    -- bytes that come: nothing that was taken changes by appending bytes, and no refusal but 1
+    pub stays : {s t : List ℕ} {p : ℕ} {x : S} {n : ℕ} {b : Bool} {a : Answer S} → Later s t p (took x n b) a
+        → (y : S) × (a ≡ took y n b) × (F .held .mean (s ++ t) y ≡ F .held .mean s x)
+    pub final : {s t : List ℕ} {p q : ℕ} {a : Answer S} → Later s t p (refused (Undeclared q)) a → a ≡ refused (Undeclared q)
+    -- refusal 1 wants something; with fewer bytes it is refused at the same place, and wants that many less; with exactly as many the item is
+    -- whole, or its length word is, and it was cut there
+    pub some : {s : List ℕ} {p q w : ℕ} → Answers F s p (refused (Ended q w)) → 0 < w
+    pub few : {s t : List ℕ} {p q w : ℕ} {a : Answer S} → Later s t p (refused (Ended q w)) a → length t < w → a ≡ refused (Ended q (w - length t))
+    pub enough : {s t : List ℕ} {p q w : ℕ} {a : Answer S} → Later s t p (refused (Ended q w)) a → length t ≡ w → Came s t q a
     -- two answers that the contract permits are one
     pub one : (s : List ℕ) (p : ℕ) {a b : Answer S} → Answers F s p a → Answers F s p b → a ≡ b

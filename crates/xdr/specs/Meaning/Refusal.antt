@@ -1,11 +1,14 @@
 -- Refusals: the code's own type, by the numbers of docs/SCOPE.md. What passes a refusal up does not look inside it.
 -- Assumes nothing.
-use Prim.Native.Nat.{ℕ}
+use mathlib.Core.Path.{_≡_}
+use mathlib.Core.List.{List}
+use Prim.Native.Nat.{ℕ, _-_, _<_}
+use lib.ListN.{length}
 use Rattle.xdr.specs.declared.refusal.Refusal.{Refusal}
 use Rattle.xdr.specs.declared.refusal.Refusal.the-variants.{Ended, Undeclared, TooLong, Outside, NoRoom, Unfit, Overrun, NotCall, PastEnd}
 
 abbrev pub numberOf : Refusal → ℕ
-numberOf (Ended p) = 1
+numberOf (Ended p w) = 1
 numberOf (Undeclared p) = 2
 numberOf TooLong = 3
 numberOf Outside = 4
@@ -17,7 +20,7 @@ numberOf PastEnd = 9
 
 -- only 1 and 2 have a place
 abbrev pub placeOf : Refusal → ℕ
-placeOf (Ended p) = p
+placeOf (Ended p w) = p
 placeOf (Undeclared p) = p
 placeOf TooLong = 0
 placeOf Outside = 0
@@ -27,9 +30,21 @@ placeOf Overrun = 0
 placeOf NotCall = 0
 placeOf PastEnd = 0
 
+-- and only 1 wants bytes
+abbrev pub wantingOf : Refusal → ℕ
+wantingOf (Ended p w) = w
+wantingOf (Undeclared p) = 0
+wantingOf TooLong = 0
+wantingOf Outside = 0
+wantingOf NoRoom = 0
+wantingOf Unfit = 0
+wantingOf Overrun = 0
+wantingOf NotCall = 0
+wantingOf PastEnd = 0
+
 -- the same refusal, at another place
 abbrev pub movedTo : ℕ → Refusal → Refusal
-movedTo p (Ended q) = Ended p
+movedTo p (Ended q w) = Ended p w
 movedTo p (Undeclared q) = Undeclared p
 movedTo p TooLong = TooLong
 movedTo p Outside = Outside
@@ -41,7 +56,7 @@ movedTo p PastEnd = PastEnd
 
 -- the refusals that reading a kind can give; 3 and 9 come before it is read, and the others are not a reader's
 abbrev pub OfReading : Refusal → Type 0
-OfReading (Ended p) = Unit {0}
+OfReading (Ended p w) = Unit {0}
 OfReading (Undeclared p) = Unit {0}
 OfReading TooLong = ⊥
 OfReading Outside = ⊥
@@ -50,3 +65,48 @@ OfReading Unfit = ⊥
 OfReading Overrun = ⊥
 OfReading NotCall = ⊥
 OfReading PastEnd = ⊥
+
+-- k bytes that come are too few to mend it: fewer than 1 wants, and no byte mends another
+abbrev pub TooFew : ℕ → Refusal → Type 0
+TooFew k (Ended q w) = k < w
+TooFew k (Undeclared q) = Unit {0}
+TooFew k TooLong = Unit {0}
+TooFew k Outside = Unit {0}
+TooFew k NoRoom = Unit {0}
+TooFew k Unfit = Unit {0}
+TooFew k Overrun = Unit {0}
+TooFew k NotCall = Unit {0}
+TooFew k PastEnd = Unit {0}
+
+-- the same refusal once they have come: 1 wants so many less
+abbrev pub lessBy : ℕ → Refusal → Refusal
+lessBy k (Ended q w) = Ended q (w - k)
+lessBy k (Undeclared q) = Undeclared q
+lessBy k TooLong = TooLong
+lessBy k Outside = Outside
+lessBy k NoRoom = NoRoom
+lessBy k Unfit = Unfit
+lessBy k Overrun = Overrun
+lessBy k NotCall = NotCall
+lessBy k PastEnd = PastEnd
+
+-- where 1 stands
+abbrev pub EndedAt : ℕ → Refusal → Type 0
+EndedAt n (Ended q w) = q ≡ n
+EndedAt n (Undeclared q) = Unit {0}
+EndedAt n TooLong = Unit {0}
+EndedAt n Outside = Unit {0}
+EndedAt n NoRoom = Unit {0}
+EndedAt n Unfit = Unit {0}
+EndedAt n Overrun = Unit {0}
+EndedAt n NotCall = Unit {0}
+EndedAt n PastEnd = Unit {0}
+
+-- of k bytes that begin at place p of s, those that are not there are wanting
+abbrev pub cutShort : ℕ → List ℕ → ℕ → Refusal
+cutShort k s p = Ended p (k - (length s - p))
+
+-- the message ends inside k bytes that begin at p
+pub record Cut (k : ℕ) (s : List ℕ) (p : ℕ) (r : Refusal) : Type 0 where
+  pub is : r ≡ cutShort k s p
+  pub short : length s - p < k

@@ -5,4 +5,4 @@ use Rattle.door.proofs.exports.tell_chosen.Statement.{statement}
 use Rattle.door.proofs.exports.tell_chosen.Tie as tie
 
 pub tell-chosen-spec : {M : Type 1} → statement M
-tell-chosen-spec = tie.close (tie.spec (search needs) (search needs) (search needs) (search needs) (search needs) (search needs) (search needs) (search needs) (search needs) (search needs) (search needs) (search needs) (search needs) (search needs) (λ c. search (says-case viewChoice, listed)) (search needs) (λ c. search (says-case viewChoice, listed)) (search needs) (λ c. search (says-case viewChoice, listed)) (search needs) (λ c. search (says-case viewChoice, listed)))
+tell-chosen-spec = tie.close (tie.spec (search needs) (search needs) (search needs) (search needs) (search needs) (search needs) (search needs) (search needs) (search needs) (search needs) (search needs) (search needs) (search needs) (search needs) (search needs) (λ c. search (says-case viewChoice, listed)) (search needs) (λ c. search (says-case viewChoice, listed)) (search needs) (λ c. search (says-case viewChoice, listed)) (search needs) (λ c. search (says-case viewChoice, listed)))

@@ -7,5 +7,5 @@ pub body-at-spec : {M : Type 1} → statement M
 body-at-spec =
     tie.close
     (tie.spec
-    (search needs) (search needs) (search needs) (search needs) (λ c. search body-off) (search needs) (search needs) (search needs)
+    (search needs) (search needs) (search needs) (search needs) (search needs) (search needs) (λ c. search body-off) (search needs) (search needs) (search needs)
     (search needs) (search needs) (search needs) (search needs) (λ c. search (needs, body-on)))

@@ -8,4 +8,6 @@ pub pair-end-spec : {M : Type 1} → statement M
 pair-end-spec =
     tie.close
     (tie.spec
-    (λ c. first-ends _ _ _ (omega arith)) (search needs) (λ c. first-ends _ _ _ (omega arith)) (search needs) (λ c. second-ends _ _ _ (omega arith)))
+    (search needs) (λ c. first-ends _ _ _ (omega arith) (c .cut-short .ensures)) (search needs) (search needs)
+    (λ c. first-ends _ _ _ (omega arith) (c .cut-short2 .ensures)) (search needs) (search needs)
+    (λ c. second-ends _ _ _ (omega arith) (c .cut-short3 .ensures)))
