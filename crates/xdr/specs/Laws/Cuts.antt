@@ -6,7 +6,6 @@ use mathlib.Core.List.{List, _++_}
 use Prim.Native.Nat.{ℕ, _+_, _-_, _≤_, _<_}
 use native.Mathlib.Omega.{arith}
 use lib.ListN.{length, length-append}
-use Rattle.xdr.specs.Meaning.Bytes.{Bytes}
 use Rattle.xdr.specs.Meaning.Refusal.{TooFew, lessBy, EndedAt, Cut}
 use Rattle.xdr.specs.Meaning.Answer.{Answer, took, refused, Reaches, Came}
 use Rattle.xdr.specs.Meaning.Kind.{Kind, Sound, Lawful}

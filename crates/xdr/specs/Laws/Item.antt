@@ -6,13 +6,13 @@ use mathlib.Core.Bool.{Bool}
 use mathlib.Core.List.{List, _++_}
 use Prim.Native.Nat.{ℕ, _+_, _-_, _≤_, _<_}
 use native.Mathlib.Omega.{arith}
-use lib.ListN.{length, length-append}
+use lib.ListN.{length}
 use Rattle.xdr.specs.Meaning.Bytes.{Bytes}
 use Rattle.xdr.specs.Meaning.Answer.{Answer, took, refused, Reaches, Came}
-use Rattle.xdr.specs.Meaning.Kind.{Kind, Found, Sound, Lawful}
-use Rattle.xdr.specs.Meaning.Refusal.{OfReading, movedTo, TooFew, lessBy, cutShort, Cut}
+use Rattle.xdr.specs.Meaning.Kind.{Kind, Sound, Lawful}
+use Rattle.xdr.specs.Meaning.Refusal.{OfReading, movedTo, TooFew, lessBy, Cut}
 use Rattle.xdr.specs.Meaning.Combinators.{first, second, Behind, chainKind, whole, runKind, Takes, itemKind}
-use Rattle.xdr.specs.Laws.Lists.{room, stands-grow, stands-inside}
+use Rattle.xdr.specs.Laws.Lists.{stands-grow, stands-inside}
 use Rattle.xdr.specs.Laws.Cuts.{cut-whole, at-end}
 use Rattle.xdr.specs.Laws.Chain.{chain-lawful}
 use Rattle.xdr.specs.Laws.Run.{run-lawful}

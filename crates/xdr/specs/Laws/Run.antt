@@ -16,7 +16,6 @@ use Rattle.xdr.specs.Meaning.Kind.{Kind, Sound, Lawful}
 use Rattle.xdr.specs.Meaning.Combinators.{runKind, Takes}
 use Rattle.xdr.specs.Laws.Lists.{room}
 use Rattle.xdr.specs.Laws.Cuts.{cut-ended, cut-few, cut-whole}
-use Rattle.xdr.specs.declared.refusal.Refusal.{Refusal}
 use Rattle.xdr.specs.declared.refusal.Refusal.the-variants.{Ended}
 
 module _ {M : Type 0} (n : ℕ) (K : Kind M) (L : Lawful K) (T : Takes n K) where
