@@ -1,6 +1,6 @@
--- Laws of each kind of the table: demands 2 and 3, of readings, of a public reader's answers and of what a public writer wrote; what bytes
--- that come behind a message bring, and how many refusal 1 wants; that two answers which a public reader's contract permits are one, in the
--- code's own types; and that a rewriting is never longer than the larger of 40 bytes and the bytes read.
+-- Laws of each kind of the table: demands 2 and 3, of readings, of a public reader's answers and of what a public writer wrote; what
+-- appending bytes changes, and how many refusal 1 wants; that two answers which a public reader's contract permits are one, in the code's own
+-- types; and that a rewriting is never longer than the larger of 40 bytes and the bytes read.
 -- Assumes nothing.
 use mathlib.Core.Path.{_≡_}
 use mathlib.Core.List.{List, [], _∷_}

@@ -122,7 +122,7 @@ pub record Longer (s s′ : List ℕ) (x x′ : Piece) (t : List ℕ) : Type 0 w
   pub short : length s ≤ most
   pub short′ : length s′ ≤ most
 
--- bytes are wanting in the body: those that come at its end are what comes to a public reading of auth_unix (`kept auth-unix`: few, enough, stays)
+-- bytes are wanting in the body: appending them there is appending them to a public reading of auth_unix, so `kept auth-unix` says what changes
 pub unix-later : {s s′ : List ℕ} {x x′ : Piece} {t : List ℕ} {a a′ : Answer «auth_unix»} → Longer s s′ x x′ t → AnswersIn s x a → AnswersIn s′ x′ a′
     → Later auth-unix (upTo s x) t (x .at) a a′
 unix-later {s} {s′} {x} {x′} {t} {a} {a′} l c d =

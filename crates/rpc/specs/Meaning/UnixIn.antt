@@ -1,4 +1,5 @@
--- auth_unix inside a credential: the body's end is the end, places are those of the whole message, and bytes left over are ignored.
+-- auth_unix inside a credential: the body's end is the end, so bytes are wanting in the body; places are those of the whole message, and bytes
+-- left over are ignored.
 -- Assumes nothing.
 use mathlib.Core.Path.{_≡_}
 use mathlib.Core.Bool.{cond}
@@ -13,8 +14,7 @@ use Rattle.rpc.specs.Meaning.Auth.{auth-unix}
 use Rattle.rpc.specs.declared.auth.auth_unix.{«auth_unix»}
 use Rattle.xdr.specs.declared.refusal.Refusal.the-variants.{Ended}
 
--- a body that does not lie inside is the empty part at the start, in which the first word has no bytes: refusal 1 at place 0, wanting that word.
--- In a body that lies inside, bytes are wanting in the body
+-- a body that does not lie inside is the empty part at the start, in which the first word has no bytes: refusal 1 at place 0, wanting that word
 unfoldable pub unixIn : List ℕ → Piece → Answer «auth_unix»
 unfolding isInside
 unixIn s x = cond (isInside s x) (auth-unix .held .read (take (x .at + x .count) s) (x .at)) (refused (Ended 0 4))

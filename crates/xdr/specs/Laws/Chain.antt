@@ -87,7 +87,7 @@ module _ {M : Type 0} {N : M → Type 0} (A : Kind M) (B : (a : M) → Kind (N a
       let w₂ : f .w₂ ≡ f′ .w₂ = LB (m .0) .alike (m .1) (m .1) (f .w₂) (f′ .w₂) (f .e₂) (f .form₂) g₂ in
       f .loose ∙ ap₂ (λ x y. x ++ y) w₁ (ap₂ (λ (x : List ℕ) y. shifted (length x) y) (c .head) w₂) ∙ sym (f′ .loose)
 
-  -- bytes that come: a fault of the second stands behind a form of the first, which stays
+  -- appending bytes: a fault of the second stands behind a form of the first, which stays
   chain-ended : (s : List ℕ) (p q w : ℕ) → p ≤ length s → A .Fault s p (Ended q w) ⊎ Behind A B s p (Ended q w) → (p ≤ q) × (q ≤ length s) × (0 < w)
   chain-ended s p q w h (inl f) = LA .ended s p q w h f
   chain-ended s p q w h (inr f) =

@@ -1,17 +1,17 @@
--- Bytes that stand together and are cut short; and bytes that come behind what there is.
+-- Bytes that stand together and are cut short, and what appending bytes changes.
 -- Assumes nothing.
-use mathlib.Core.Path.{_≡_, refl, ap, subst, _∙_}
+use mathlib.Core.Path.{_≡_, ap, subst, _∙_}
 use mathlib.Core.Logic.{inl, inr}
 use mathlib.Core.List.{List, _++_}
 use Prim.Native.Nat.{ℕ, _+_, _-_, _≤_, _<_}
 use native.Mathlib.Omega.{arith}
 use lib.ListN.{length, length-append}
-use Rattle.xdr.specs.Meaning.Refusal.{TooFew, lessBy, EndedAt, Cut}
+use Rattle.xdr.specs.Meaning.Refusal.{TooFew, lessBy, Cut}
 use Rattle.xdr.specs.Meaning.Answer.{Answer, took, refused, Reaches, Came}
 use Rattle.xdr.specs.Meaning.Kind.{Kind, Sound, Lawful}
 use Rattle.xdr.specs.Laws.Lists.{room}
 use Rattle.xdr.specs.declared.refusal.Refusal.{Refusal}
-use Rattle.xdr.specs.declared.refusal.Refusal.the-variants.{Ended, Undeclared, TooLong, Outside, NoRoom, Unfit, Overrun, NotCall, PastEnd}
+use Rattle.xdr.specs.declared.refusal.Refusal.the-variants.{Ended}
 
 module _ (n : ℕ) where
   pub cut-ended : (s : List ℕ) (p q w : ℕ) → p ≤ length s → Cut n s p (Ended q w) → (p ≤ q) × (q ≤ length s) × (0 < w)
@@ -22,7 +22,7 @@ module _ (n : ℕ) where
 
   pub cut-few : (s t : List ℕ) (p : ℕ) (r : Refusal) → p ≤ length s → Cut n s p r → TooFew (length t) r → Cut n (s ++ t) p (lessBy (length t) r)
   cut-few s t p r h c g =
-      let k : length t < n - (length s - p) = subst (TooFew (length t)) (c .is) g in
+      let k : length t < n - (length s - p) = g p (n - (length s - p)) (c .is) in
       let l : length (s ++ t) ≡ length s + length t = length-append s t in
       let e : n - (length s - p) - length t ≡ n - (length (s ++ t) - p) = omega arith in
       record { is = ap (lessBy (length t)) (c .is) ∙ ap (λ (i : ℕ). Ended p i) e; short = omega arith }
@@ -34,24 +34,13 @@ module _ (n : ℕ) where
       let f : w ≡ n - (length s - p) = cc (c .is) in
       (e, omega (arith, length-append s t, c .short))
 
-pub ended-at : (n : ℕ) (r : Refusal) → ((q w : ℕ) → r ≡ Ended q w → q ≡ n) → EndedAt n r
-ended-at n (Ended q w) h = h q w refl
-ended-at n (Undeclared q) h = tt
-ended-at n TooLong h = tt
-ended-at n Outside h = tt
-ended-at n NoRoom h = tt
-ended-at n Unfit h = tt
-ended-at n Overrun h = tt
-ended-at n NotCall h = tt
-ended-at n PastEnd h = tt
-
 -- what is read where the bytes end goes no further
 pub at-end : {M : Type 0} (K : Kind M) (L : Lawful K) (s : List ℕ) (n : ℕ) → n ≡ length s → (y : Answer M) → Sound K s n y → Reaches (length s) y
 at-end K L s n e (took m k b) f = omega (arith, f .next, room (f .used) (f .left) s n (f .stands))
 at-end K L s n e (refused r) f =
-    ended-at (length s) r (λ q w i. omega (arith, L .ended s n q w (omega arith) (subst (K .Fault s n) i f)))
+    λ q w i. omega (arith, L .ended s n q w (omega arith) (subst (K .Fault s n) i f))
 
--- what passes refusals on, and goes no less far, keeps what has come
+-- what passes refusals on, and gets as far, keeps it
 pub came-by : {A B : Type 0} (f : Answer A → Answer B) (s t : List ℕ) → ((x : Answer A) → Reaches (length (s ++ t)) x → Reaches (length (s ++ t)) (f x))
     → ((r : Refusal) → f (refused r) ≡ refused r) → (q : ℕ) (x : Answer A) → Came s t q x → Came s t q (f x)
 came-by f s t g h q x (inl e) = inl (g x e)

@@ -32,15 +32,7 @@ moved-of p NotCall h = h
 moved-of p PastEnd h = h
 
 moved-few : (p k : ℕ) (r : Refusal) → TooFew k (movedTo p r) → TooFew k r
-moved-few p k (Ended q w) h = h
-moved-few p k (Undeclared q) h = tt
-moved-few p k TooLong h = tt
-moved-few p k Outside h = tt
-moved-few p k NoRoom h = tt
-moved-few p k Unfit h = tt
-moved-few p k Overrun h = tt
-moved-few p k NotCall h = tt
-moved-few p k PastEnd h = tt
+moved-few p k r h = λ q w e. h p w (ap (movedTo p) e)
 
 moved-less : (p k : ℕ) (r : Refusal) → lessBy k (movedTo p r) ≡ movedTo p (lessBy k r)
 moved-less p k (Ended q w) = refl

@@ -1,5 +1,5 @@
--- What is owed of every kind, for any format: demands 2 and 3 of what is read and of the answers of a public reader, what bytes that come
--- behind a message bring, and that whatever a public writer wrote reads back as itself. The writer's contract says that what it wrote is in range, so this holds of every value of the
+-- What is owed of every kind, for any format: demands 2 and 3 of what is read and of the answers of a public reader, what appending
+-- bytes changes, and that whatever a public writer wrote reads back as itself. The writer's contract says that what it wrote is in range, so this holds of every value of the
 -- code's type.
 -- Assumes nothing.
 use mathlib.Core.Path.{_≡_}

@@ -11,6 +11,7 @@ use lib.ListN.{length}
 use lib.Seq.{take-at}
 use Rattle.xdr.specs.Meaning.Bytes.{Bytes, Stands, part}
 use Rattle.xdr.specs.Meaning.Answer.{Answer, took, refused, mapAnswer, Loose, clean}
+use Rattle.xdr.specs.Meaning.Refusal.{TooFew}
 use Rattle.xdr.specs.Meaning.Kind.{Kind, Found, Sound, Lawful, Codec}
 use Rattle.xdr.specs.Meaning.Promise.{Begins, Accepted, Refused, Reading, used, rewriting, Wants, Promise}
 use Rattle.xdr.specs.Laws.Lists.{room, stands-grow}
@@ -101,7 +102,10 @@ module _ {M : Type 0} (K : Kind M) (L : Lawful K) where
         ∙ ap₂ (λ (n : ℕ) b. took (r .message) n b) (sym (f .next)) (sym (f .plain))
 
   final : (s t : List ℕ) (p q : ℕ) → Bytes s → p ≤ length s → K .read s p ≡ refused (Undeclared q) → K .read (s ++ t) p ≡ refused (Undeclared q)
-  final s t p q h k e = L .refuses (s ++ t) p (Undeclared q) (L .few s t p (Undeclared q) k (subst (Sound K s p) e (L .sound s p h)) tt)
+  final s t p q h k e = L .refuses (s ++ t) p (Undeclared q) (L .few s t p (Undeclared q) k (subst (Sound K s p) e (L .sound s p h)) never)
+    where
+      never : TooFew (length t) (Undeclared q)
+      never = λ i w f. let z : _≡_ {A = ℕ} 0 1 = cc in absurd (omega arith)
 
   wants : (s : List ℕ) (p q w : ℕ) → Bytes s → p ≤ length s → K .read s p ≡ refused (Ended q w) → Wants K s p q w
   wants s p q w h k e =
@@ -110,7 +114,7 @@ module _ {M : Type 0} (K : Kind M) (L : Lawful K) where
       record {
         inside = (g .0, g .1);
         some = g .2;
-        few = λ t l. L .refuses (s ++ t) p (Ended q (w - length t)) (L .few s t p (Ended q w) k f l);
+        few = λ t l. L .refuses (s ++ t) p (Ended q (w - length t)) (L .few s t p (Ended q w) k f (λ i v e. let z : w ≡ v = cc in omega arith));
         enough = λ t b l. L .enough s t p q w k b f l;
       }
 

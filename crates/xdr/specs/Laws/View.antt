@@ -72,7 +72,7 @@ module _ {M N : Type 0} (K : Kind M) (W : View M (K .Good) N) (L : Lawful K) whe
       ∙ ap₂ (λ x y. x ++ y) (ap here v) (L .alike (f .of) (f′ .of) (f .w₁) (f′ .w₁) e (f .form) (f′ .form))
       ∙ sym (f′ .loose)
 
-  -- bytes that come: what is seen as nothing is no 1, and stays
+  -- appending bytes: what is seen as nothing is no refusal 1, and stays
   view-ended : (s : List ℕ) (p q w : ℕ) → p ≤ length s → K .Fault s p (Ended q w) ⊎ Unseen K W s p (Ended q w) → (p ≤ q) × (q ≤ length s) × (0 < w)
   view-ended s p q w h (inl f) = L .ended s p q w h f
   view-ended s p q w h (inr f) = apart (f .is)
@@ -95,7 +95,7 @@ module _ {M N : Type 0} (K : Kind M) (W : View M (K .Good) N) (L : Lawful K) whe
 
   reach-meant : (p k n : ℕ) (b : Bool) (y : Seen N) → k ≡ n → Reaches n (meant K W p k b y)
   reach-meant p k n b (means m w) e = e
-  reach-meant p k n b undeclared e = tt
+  reach-meant p k n b undeclared e = λ q w i. apart (sym i)
 
   reach-look : (p n : ℕ) (x : Answer M) → Reaches n x → Reaches n (look K W p x)
   reach-look p n (took x k b) e = reach-meant p k n b (W .see x) e

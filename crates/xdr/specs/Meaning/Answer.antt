@@ -7,7 +7,6 @@ use mathlib.Core.List.{List, [], _∷_, _++_}
 use Prim.Native.Nat.{ℕ, _+_, _-_, _<_}
 use lib.Dec.{leb}
 use lib.ListN.{length}
-use Rattle.xdr.specs.Meaning.Refusal.{EndedAt}
 use Rattle.xdr.specs.declared.refusal.Refusal.{Refusal}
 use Rattle.xdr.specs.declared.refusal.Refusal.the-variants.{Ended, TooLong, PastEnd}
 
@@ -25,10 +24,10 @@ abbrev pub Taken : {A : Type 0} → (A → Type 0) → Answer A → Type 0
 Taken P (took a n b) = P a
 Taken P (refused r) = Unit {0}
 
--- it goes on to place n: what was taken ends there, or the item inside which the message now ends begins there
+-- the reading got to place n: what was taken ends there, or the item that is cut begins there
 abbrev pub Reaches : {A : Type 0} → ℕ → Answer A → Type 0
 Reaches n (took a k b) = k ≡ n
-Reaches n (refused r) = EndedAt n r
+Reaches n (refused r) = (q w : ℕ) → r ≡ Ended q w → q ≡ n
 
 -- the item at q is refused again: its length word was cut in s, and now ends where the bytes end
 pub record Again {A : Type 0} (s t : List ℕ) (q : ℕ) (a : Answer A) : Type 0 where
@@ -37,8 +36,8 @@ pub record Again {A : Type 0} (s t : List ℕ) (q : ℕ) (a : Answer A) : Type 0
   pub wanting : ℕ
   pub is : a ≡ refused (Ended q wanting)
 
--- what is answered once the bytes t that the item at q wanted have come behind s, and no more: the item is whole, and ends where they end;
--- or its length word is
+-- the answer once exactly the bytes t that the item at q wanted are appended to s: the item is whole, and ends where the bytes end; or its
+-- length word is whole
 abbrev pub Came : {A : Type 0} → List ℕ → List ℕ → ℕ → Answer A → Type 0
 Came s t q a = Reaches (length (s ++ t)) a ⊎ Again s t q a
 

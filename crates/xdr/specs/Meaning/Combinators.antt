@@ -164,7 +164,7 @@ runKind n K =
       write = K .write;
     }
 
--- it takes n bytes, and where they are there nothing is refused
+-- it takes exactly n bytes, and is refused only where there are fewer
 pub record Takes {M : Type 0} (n : ℕ) (K : Kind M) : Type 0 where
   pub long : (m : M) (w : List Loose) (e : List ℕ) → K .Form m w e → length e ≡ n
   pub short : (s : List ℕ) (p : ℕ) (r : Refusal) → K .Fault s p r → length s - p < n

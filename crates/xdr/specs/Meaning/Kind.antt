@@ -55,11 +55,11 @@ module _ {M : Type 0} (K : Kind M) where
     pub written : (m : M) → K .Good m → K .Form m [] (K .write m)
     -- a form with nothing loose is what is written
     pub plain : (m : M) (e : List ℕ) → K .Form m [] e → e ≡ K .write m
-    -- 1 stands inside what is there, from the place of reading on, and wants something
+    -- refusal 1 has a place between where the reading begins and where the bytes end, and wants a byte at least
     pub ended : (s : List ℕ) (p q w : ℕ) → p ≤ length s → K .Fault s p (Ended q w) → (p ≤ q) × (q ≤ length s) × (0 < w)
-    -- bytes that are too few to mend a fault leave it
+    -- appending fewer bytes than a fault wants leaves it, wanting that many less
     pub few : (s t : List ℕ) (p : ℕ) (r : Refusal) → p ≤ length s → K .Fault s p r → TooFew (length t) r → K .Fault (s ++ t) p (lessBy (length t) r)
-    -- and as many as 1 wants finish the item, or its length word
+    -- appending exactly as many finishes the item, or its length word
     pub enough : (s t : List ℕ) (p q w : ℕ) → p ≤ length s → Bytes (s ++ t) → K .Fault s p (Ended q w) → length t ≡ w → Came s t q (K .read (s ++ t) p)
 
 pub record Codec (M : Type 0) : Type 1 where

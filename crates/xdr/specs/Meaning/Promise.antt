@@ -1,4 +1,4 @@
--- The promise: demands 2 and 3, of any kind, and what bytes that come behind a message bring.
+-- The promise: demands 2 and 3, of any kind, and what appending bytes to a message changes.
 -- Assumes nothing.
 use mathlib.Core.Path.{_≡_}
 use mathlib.Core.Logic.{_↔_}
@@ -50,9 +50,9 @@ module _ {M : Type 0} (K : Kind M) where
   abbrev pub rewriting : Reading → List ℕ
   rewriting r = K .write (r .message)
 
-  -- of a reading of s at p that is refused with 1 at q, wanting w bytes: what appending t brings
+  -- the reading of s at p is refused with 1 at q, wanting w bytes: what appending bytes t changes
   pub record Wants (s : List ℕ) (p q w : ℕ) : Type 0 where
-    -- the item begins in what there is, and wants something
+    -- the item begins inside s, and wants a byte at least
     pub inside : (p ≤ q) × (q ≤ length s)
     pub some : 0 < w
     -- with fewer bytes it is refused at q again, and wants that many less
@@ -83,7 +83,7 @@ module _ {M : Type 0} (K : Kind M) where
     pub formed : (r : Reading) → (w : List Loose) × K .Form (r .message) w (used r)
     pub one-list : (r : Reading) (w w′ : List Loose) → K .Form (r .message) w (used r) → K .Form (r .message) w′ (used r) → w ≡ w′
     pub clean-iff : (r : Reading) (w : List Loose) → K .Form (r .message) w (used r) → (r .plain ≡ true) ↔ (w ≡ [])
-    -- bytes that come: nothing that was taken changes by appending bytes, nor does refusal 2; and refusal 1 says how many are wanting
+    -- appending bytes changes nothing that was taken, and no refusal 2; refusal 1 says how many are wanting
     pub stays : (r : Reading) (t : List ℕ) → K .read (r .input ++ t) (r .place) ≡ took (r .message) (r .next) (r .plain)
     pub final : (s t : List ℕ) (p q : ℕ) → Bytes s → p ≤ length s → K .read s p ≡ refused (Undeclared q) → K .read (s ++ t) p ≡ refused (Undeclared q)
     pub wants : (s : List ℕ) (p q w : ℕ) → Bytes s → p ≤ length s → K .read s p ≡ refused (Ended q w) → Wants s p q w

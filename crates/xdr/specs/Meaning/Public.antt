@@ -89,7 +89,7 @@ module _ {M S : Type 0} (F : Format M S) where
   abbrev pub usedBy : Took → List ℕ
   usedBy t = part (t .source) (t .place) (t .next)
 
-  -- the answer a to s at p, and the answer a′ once t has come behind s and is not too long for a reader
+  -- the answer a for s, and the answer a′ for s with t appended, which is not too long
   pub record Later (s t : List ℕ) (p : ℕ) (a a′ : Answer S) : Type 0 where
     pub before : Answers F s p a
     pub then : Answers F (s ++ t) p a′
@@ -117,12 +117,12 @@ module _ {M S : Type 0} (F : Format M S) where
     pub formed : (t : Took) → (w : List Loose) × F .codec .kind .Form (message t) w (usedBy t)
     pub one-list : (t : Took) (w w′ : List Loose) → F .codec .kind .Form (message t) w (usedBy t) → F .codec .kind .Form (message t) w′ (usedBy t) → w ≡ w′
     pub clean-iff : (t : Took) (w : List Loose) → F .codec .kind .Form (message t) w (usedBy t) → (t .plain ≡ true) ↔ (w ≡ [])
-    -- bytes that come: nothing that was taken changes by appending bytes, and no refusal but 1
+    -- appending bytes changes nothing that was taken, and no refusal 2
     pub stays : {s t : List ℕ} {p : ℕ} {x : S} {n : ℕ} {b : Bool} {a : Answer S} → Later s t p (took x n b) a
         → (y : S) × (a ≡ took y n b) × (F .held .mean (s ++ t) y ≡ F .held .mean s x)
     pub final : {s t : List ℕ} {p q : ℕ} {a : Answer S} → Later s t p (refused (Undeclared q)) a → a ≡ refused (Undeclared q)
-    -- refusal 1 wants something; with fewer bytes it is refused at the same place, and wants that many less; with exactly as many the item is
-    -- whole, or its length word is, and it was cut there
+    -- refusal 1 wants a byte at least; with fewer bytes than it wants it stays at its place, wanting that many less; with exactly as many the
+    -- item is whole, or its length word is, where that was cut
     pub some : {s : List ℕ} {p q w : ℕ} → Answers F s p (refused (Ended q w)) → 0 < w
     pub few : {s t : List ℕ} {p q w : ℕ} {a : Answer S} → Later s t p (refused (Ended q w)) a → length t < w → a ≡ refused (Ended q (w - length t))
     pub enough : {s t : List ℕ} {p q w : ℕ} {a : Answer S} → Later s t p (refused (Ended q w)) a → length t ≡ w → Came s t q a

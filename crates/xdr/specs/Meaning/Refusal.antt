@@ -66,19 +66,11 @@ OfReading Overrun = ⊥
 OfReading NotCall = ⊥
 OfReading PastEnd = ⊥
 
--- k bytes that come are too few to mend it: fewer than 1 wants, and no byte mends another
+-- if it is a 1, it wants more than k bytes
 abbrev pub TooFew : ℕ → Refusal → Type 0
-TooFew k (Ended q w) = k < w
-TooFew k (Undeclared q) = Unit {0}
-TooFew k TooLong = Unit {0}
-TooFew k Outside = Unit {0}
-TooFew k NoRoom = Unit {0}
-TooFew k Unfit = Unit {0}
-TooFew k Overrun = Unit {0}
-TooFew k NotCall = Unit {0}
-TooFew k PastEnd = Unit {0}
+TooFew k r = (q w : ℕ) → r ≡ Ended q w → k < w
 
--- the same refusal once they have come: 1 wants so many less
+-- the same refusal after k bytes were appended: 1 wants that many less
 abbrev pub lessBy : ℕ → Refusal → Refusal
 lessBy k (Ended q w) = Ended q (w - k)
 lessBy k (Undeclared q) = Undeclared q
@@ -90,19 +82,7 @@ lessBy k Overrun = Overrun
 lessBy k NotCall = NotCall
 lessBy k PastEnd = PastEnd
 
--- where 1 stands
-abbrev pub EndedAt : ℕ → Refusal → Type 0
-EndedAt n (Ended q w) = q ≡ n
-EndedAt n (Undeclared q) = Unit {0}
-EndedAt n TooLong = Unit {0}
-EndedAt n Outside = Unit {0}
-EndedAt n NoRoom = Unit {0}
-EndedAt n Unfit = Unit {0}
-EndedAt n Overrun = Unit {0}
-EndedAt n NotCall = Unit {0}
-EndedAt n PastEnd = Unit {0}
-
--- of k bytes that begin at place p of s, those that are not there are wanting
+-- refusal 1 of k bytes that begin at place p of s: those that are not there are wanting
 abbrev pub cutShort : ℕ → List ℕ → ℕ → Refusal
 cutShort k s p = Ended p (k - (length s - p))
 
