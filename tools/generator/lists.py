@@ -1,13 +1,15 @@
-"""The lists of kinds: the copiers of the crate door and their proofs, and a region of each other file that lists the kinds.
+"""The lists of kinds: the copiers of the crate door and their proofs, and a region of each other file that lists the kinds. And the
+version, which stands in the file VERSION.
 
 Not made here: the oracle's lists, which must not come from the same hand as what they judge, and what the oracle makes.
 """
 
 import re
+import textwrap
 
 from generator.crates import Crates
 from generator.language import read_topic
-from generator.table import Trouble, read_table
+from generator.table import Trouble, read_table, read_text
 
 HEADER = "made by tools/generate from kinds.txt"
 
@@ -31,6 +33,8 @@ NOTES = {
     "opaque": " /* Vec<u8> */",
     "words": " /* a counted list of words: Vec<u32> */",
 }
+
+C_HEADER = "include/yugerzat.h"
 
 # What every copier takes.
 PARAMETERS = ("src: &[u8]", "at: usize", "out: &mut [u8]", "start: usize")
@@ -60,9 +64,11 @@ def outputs(root):
     made += door_meanings(facts, groups, order)
     made += worked_answers(facts, order)
     made += worked_kinds(facts, order, BY_ZERO | without_two(root))
-    made.append(("include/yugerzat.h", "kinds", header_list(kinds)))
+    made += header_lists(kinds)
+    made += versions(root)
     made.append(("rust/yugerzat/src/kind.rs", "kinds", rust_list(kinds)))
     made.append(("crates/answers/src/kinds.rt", "kinds", words_list(kinds)))
+    made.append(("crates/answers/src/usage.rt", "names", usage_list(kinds)))
     return made
 
 
@@ -396,9 +402,15 @@ def worked_kinds(facts, order, by_zero):
 # ---------------------------------------------------------------- the lists of names
 
 
-def header_list(kinds):
-    rows = [f"    YUGERZAT_{kind.name.upper()} = {kind.number},{NOTES.get(kind.name, '')}" for kind in kinds]
-    return lines(*rows, f"    YUGERZAT_KINDS = {len(kinds)} /* how many there are */")
+def header_lists(kinds):
+    """The enumeration of the kinds with their count, and their names in the same order."""
+    rows = [f"    YUGERZAT_KIND_{kind.name.upper()} = {kind.number},{NOTES.get(kind.name, '')}" for kind in kinds]
+    count = f"#define YUGERZAT_KINDS {len(kinds)} /* how many there are: their numbers are below this */"
+    names = [f'        "{kind.name}",' for kind in kinds]
+    return [
+        (C_HEADER, "kinds", lines("enum yugerzat_kind YUGERZAT_32_BITS {", *rows, "};", count)),
+        (C_HEADER, "kind names", lines(*names)),
+    ]
 
 
 def rust_list(kinds):
@@ -407,3 +419,25 @@ def rust_list(kinds):
 
 def words_list(kinds):
     return lines(f'        b"{" ".join(kind.name for kind in kinds)}",')
+
+
+def usage_list(kinds):
+    """The names, for the help of the answering program, in lines of its width."""
+    names = " ".join(kind.name for kind in kinds)
+    rows = textwrap.wrap(names, 100, initial_indent="  ", subsequent_indent="  ")
+    return lines('        b"The kinds:', *rows, '",')
+
+
+# ---------------------------------------------------------------- the version
+
+
+def versions(root):
+    """The version of the project, which the C header and the Rust crate show."""
+    version = read_text(root / "VERSION", root)
+    if not re.fullmatch(r"\d+\.\d+\.\d+\n", version):
+        raise Trouble("VERSION: it has one line, the version, as 1.2.3")
+    version = version.strip()
+    return [
+        (C_HEADER, "version", lines(f'#define YUGERZAT_VERSION "{version}"')),
+        ("rust/yugerzat/Cargo.toml", "[package] version", lines(f'version = "{version}"')),
+    ]
