@@ -125,6 +125,14 @@ __attribute__((noinline, cold)) static uint32_t refused(uint64_t *info, size_t c
     return number;
 }
 
+/* Too little room: how many bytes are needed is the last figure. */
+__attribute__((noinline, cold)) static uint32_t no_room(uint64_t *info, size_t count, size_t needed)
+{
+    memset(info, 0, count * sizeof *info);
+    info[count - 1] = needed;
+    return 5;
+}
+
 /* A refused reading: its place, how many bytes are wanting where an item is cut, then zeros. The arguments stand where a
  * reader has its own, so that they need not move. */
 __attribute__((noinline, cold)) static uint32_t unread(size_t size, size_t len, size_t place, uint64_t *info,
@@ -253,7 +261,7 @@ uint32_t floor_write_fattr3(const uint64_t *f, size_t fields, uint8_t *out, size
     if (start > room)
         return refused(info, 1, 9);
     if (room - start < 84)
-        return refused(info, 1, 5);
+        return no_room(info, 1, 84);
     struct fattr3 v = {
         (uint32_t)f[0], (uint32_t)f[1], (uint32_t)f[2], (uint32_t)f[3],  (uint32_t)f[4],  f[5],
         f[6],           (uint32_t)f[7], (uint32_t)f[8], f[9],            f[10],           (uint32_t)f[11],
@@ -271,7 +279,7 @@ uint32_t floor_copy_fattr3(const uint8_t *src, size_t len, size_t at, uint8_t *o
     OPEN(3);
     READ(3, take_fattr3(r, &v));
     if (room < 84)
-        return refused(info, 3, 5);
+        return no_room(info, 3, 84);
     lay_fattr3(out, &v);
     TOOK(r->at, 1, 84);
 }
@@ -404,7 +412,7 @@ uint32_t floor_write_sattr3(const uint64_t *f, size_t fields, uint8_t *out, size
     if (start > room)
         return refused(info, 1, 9);
     if (room - start < size)
-        return refused(info, 1, 5);
+        return no_room(info, 1, size);
     lay_sattr3(out + start, &v);
     info[0] = start + size;
     return 0;
@@ -419,7 +427,7 @@ uint32_t floor_copy_sattr3(const uint8_t *src, size_t len, size_t at, uint8_t *o
     /* What is read is as long as what is written: a flag is a word however it is set. */
     size_t size = r->at - at;
     if (room < size)
-        return refused(info, 3, 5);
+        return no_room(info, 3, size);
     lay_sattr3(out, &v);
     TOOK(r->at, !r->loose, size);
 }
@@ -447,24 +455,25 @@ static inline int inside(struct piece piece, size_t len)
     return piece.at <= len && piece.count <= len - piece.at;
 }
 
-uint32_t floor_write_diropargs3(const uint8_t *src, size_t len, const uint64_t *f, size_t fields, uint8_t *out,
-                                size_t room, size_t start, uint64_t *info, size_t infos)
+uint32_t floor_write_diropargs3(const uint8_t *dir_src, size_t dir_len, const uint8_t *name_src, size_t name_len,
+                                const uint64_t *f, size_t fields, uint8_t *out, size_t room, size_t start,
+                                uint64_t *info, size_t infos)
 {
     if (fields < 4 || infos < 1)
         return SHORT_LIST;
     struct piece dir = {f[0], f[1]}, name = {f[2], f[3]};
     if (start > room)
         return refused(info, 1, 9);
-    if (len > LIMIT)
+    if (dir_len > LIMIT || name_len > LIMIT)
         return refused(info, 1, 3);
-    if (!inside(dir, len) || !inside(name, len))
+    if (!inside(dir, dir_len) || !inside(name, name_len))
         return refused(info, 1, 4);
     size_t size = padded_size(dir) + padded_size(name);
     if (size > LIMIT)
         return refused(info, 1, 3);
     if (room - start < size)
-        return refused(info, 1, 5);
-    lay_opaque(lay_opaque(out + start, src, dir), src, name);
+        return no_room(info, 1, size);
+    lay_opaque(lay_opaque(out + start, dir_src, dir), name_src, name);
     info[0] = start + size;
     return 0;
 }
@@ -478,7 +487,7 @@ uint32_t floor_copy_diropargs3(const uint8_t *src, size_t len, size_t at, uint8_
     READ(3, take_opaque(r, &name));
     size_t size = r->at - at;
     if (room < size)
-        return refused(info, 3, 5);
+        return no_room(info, 3, size);
     lay_opaque(lay_opaque(out, src, dir), src, name);
     TOOK(r->at, !r->loose, size);
 }
@@ -537,7 +546,7 @@ uint32_t floor_copy_auth_unix(const uint8_t *src, size_t len, size_t at, uint8_t
     READ(3, take_auth_unix(r, &v));
     size_t size = r->at - at;
     if (room < size)
-        return refused(info, 3, 5);
+        return no_room(info, 3, size);
     uint8_t *p = lay_opaque(lay_word(out, v.stamp), src, v.name);
     p = lay_word(lay_word(lay_word(p, v.uid), v.gid), (uint32_t)v.gids.count);
     memcpy(p, src + v.gids.at, 4 * v.gids.count);
@@ -552,7 +561,7 @@ uint32_t floor_copy_opaque(const uint8_t *src, size_t len, size_t at, uint8_t *o
     READ(3, take_opaque(r, &piece));
     size_t size = r->at - at;
     if (room < size)
-        return refused(info, 3, 5);
+        return no_room(info, 3, size);
     lay_opaque(out, src, piece);
     TOOK(r->at, !r->loose, size);
 }
@@ -632,7 +641,7 @@ static inline uint32_t take_message(struct reading *r, struct message *v)
     return 0;
 }
 
-uint32_t floor_judge(const uint8_t *src, size_t len, size_t at, uint64_t *info, size_t infos)
+uint32_t floor_read_rpc_msg(const uint8_t *src, size_t len, size_t at, uint64_t *info, size_t infos)
 {
     struct message v;
     OPEN(14);
@@ -671,7 +680,7 @@ uint32_t floor_judge(const uint8_t *src, size_t len, size_t at, uint64_t *info, 
     return 0;
 }
 
-static inline uint8_t *lay_call(uint8_t *p, const uint8_t *src, const struct message *v)
+static inline uint8_t *lay_call(uint8_t *p, const uint8_t *cred_src, const uint8_t *verf_src, const struct message *v)
 {
     p = lay_word(p, v->xid);
     p = lay_word(p, 0);
@@ -679,12 +688,13 @@ static inline uint8_t *lay_call(uint8_t *p, const uint8_t *src, const struct mes
     p = lay_word(p, v->prog);
     p = lay_word(p, v->vers);
     p = lay_word(p, v->proc);
-    p = lay_opaque(lay_word(p, v->cred.flavor), src, v->cred.body);
-    return lay_opaque(lay_word(p, v->verf.flavor), src, v->verf.body);
+    p = lay_opaque(lay_word(p, v->cred.flavor), cred_src, v->cred.body);
+    return lay_opaque(lay_word(p, v->verf.flavor), verf_src, v->verf.body);
 }
 
-uint32_t floor_write_call(const uint8_t *src, size_t len, const uint64_t *f, size_t fields, uint8_t *out, size_t room,
-                          size_t start, uint64_t *info, size_t infos)
+uint32_t floor_write_call(const uint8_t *cred_src, size_t cred_len, const uint8_t *verf_src, size_t verf_len,
+                          const uint64_t *f, size_t fields, uint8_t *out, size_t room, size_t start, uint64_t *info,
+                          size_t infos)
 {
     if (fields < 11 || infos < 1)
         return SHORT_LIST;
@@ -696,18 +706,40 @@ uint32_t floor_write_call(const uint8_t *src, size_t len, const uint64_t *f, siz
     };
     if (start > room)
         return refused(info, 1, 9);
-    if (len > LIMIT)
+    if (cred_len > LIMIT || verf_len > LIMIT)
         return refused(info, 1, 3);
-    if (!inside(v.cred.body, len) || !inside(v.verf.body, len))
+    if (!inside(v.cred.body, cred_len) || !inside(v.verf.body, verf_len))
         return refused(info, 1, 4);
     size_t size = 32 + padded_size(v.cred.body) + padded_size(v.verf.body);
     if (size > LIMIT)
         return refused(info, 1, 3);
     if (room - start < size)
-        return refused(info, 1, 5);
-    lay_call(out + start, src, &v);
+        return no_room(info, 1, size);
+    lay_call(out + start, cred_src, verf_src, &v);
     info[0] = start + size;
     return 0;
+}
+
+static inline size_t size_of_message(const struct message *v)
+{
+    switch (v->tag) {
+    case 0:
+        return 32 + padded_size(v->cred.body) + padded_size(v->verf.body);
+    case 1:
+        return 20 + padded_size(v->verf.body) + (v->stat == 2 ? 8 : 0);
+    case 2:
+        return 24;
+    default:
+        return 20;
+    }
+}
+
+uint32_t floor_judge_rpc_msg(const uint8_t *src, size_t len, size_t at, uint64_t *info, size_t infos)
+{
+    struct message v;
+    OPEN(3);
+    READ(3, take_message(r, &v));
+    TOOK(r->at, !r->loose, size_of_message(&v));
 }
 
 uint32_t floor_copy_rpc_msg(const uint8_t *src, size_t len, size_t at, uint8_t *out, size_t room, uint64_t *info,
@@ -716,24 +748,11 @@ uint32_t floor_copy_rpc_msg(const uint8_t *src, size_t len, size_t at, uint8_t *
     struct message v;
     OPEN(3);
     READ(3, take_message(r, &v));
-    size_t size;
-    switch (v.tag) {
-    case 0:
-        size = 32 + padded_size(v.cred.body) + padded_size(v.verf.body);
-        break;
-    case 1:
-        size = 20 + padded_size(v.verf.body) + (v.stat == 2 ? 8 : 0);
-        break;
-    case 2:
-        size = 24;
-        break;
-    default:
-        size = 20;
-    }
+    size_t size = size_of_message(&v);
     if (room < size)
-        return refused(info, 3, 5);
+        return no_room(info, 3, size);
     if (v.tag == 0) {
-        lay_call(out, src, &v);
+        lay_call(out, src, src, &v);
     } else {
         uint8_t *p = lay_word(lay_word(out, v.xid), 1);
         if (v.tag == 1) {

@@ -1,9 +1,8 @@
 /*
- * A relay between an old client and a strict server, in small: a SETATTR call comes in whose size flag is FFFFFFFF. It
- * is taken as meant, reported as loose, and passed on in published form.
+ * A relay between an old client and a strict server, in small: a SETATTR call comes in whose size flag is FFFFFFFF.
+ * It is taken as meant, reported as loose (not in published form), and passed on clean.
  */
 #include <stdio.h>
-#include <string.h>
 
 #include "yugerzat.h"
 
@@ -21,10 +20,27 @@ static const uint8_t call[] = {
     0x00, 0x00, 0x00, 0x00,                         /* no guard */
 };
 
-static int refused(const char *what, uint32_t answer, const uint64_t *info)
+/* The clean call, which grows from its start. */
+static uint8_t out[sizeof call + 40];
+
+static int refused(const char *what, const struct yugerzat_refusal *refusal)
 {
-    fprintf(stderr, "%s: refusal %lu at place %lu\n", what, (unsigned long)answer, (unsigned long)info[YUGERZAT_NEXT]);
+    fprintf(stderr, "%s: %s", what, yugerzat_strerror(refusal->answer));
+    if (refusal->place != YUGERZAT_NO_PLACE)
+        fprintf(stderr, ", at place %zu", refusal->place);
+    fprintf(stderr, "\n");
     return 1;
+}
+
+/* Rewrites what stands at *at of the call, of any kind, to *end of out; both move on. */
+static int rewrite(enum yugerzat_kind kind, size_t *at, size_t *end)
+{
+    struct yugerzat_rewriting done;
+    if (yugerzat_rewrite_kind(kind, call, sizeof call, *at, out + *end, sizeof out - *end, &done) != YUGERZAT_DONE)
+        return refused(yugerzat_kind_name(kind), &done.refusal);
+    *at = done.next;
+    *end += done.size;
+    return 0;
 }
 
 static void print(const char *title, const uint8_t *bytes, size_t count)
@@ -32,45 +48,51 @@ static void print(const char *title, const uint8_t *bytes, size_t count)
     size_t i;
     printf("%s", title);
     for (i = 0; i < count; i++)
-        printf("%s%02x", i % 4 ? "" : " ", bytes[i]);
+        printf("%s%02x", i % 32 ? i % 4 ? "" : " " : "\n    ", bytes[i]);
     printf("\n");
 }
 
 int main(void)
 {
-    uint64_t header[YUGERZAT_JUDGE_FIGURES], handle[YUGERZAT_READ_FIGURES], change[YUGERZAT_SATTR3_FIGURES];
-    uint64_t after[YUGERZAT_WRITE_FIGURES];
-    uint8_t out[128];
-    uint32_t answer;
-    size_t at;
+    struct yugerzat_rpc_msg header;
+    struct yugerzat_sattr3 change;
+    struct yugerzat_reading reading;
+    struct yugerzat_writing writing;
+    size_t at, end;
 
-    /* The header. The arguments begin where it ends. */
-    answer = yugerzat_judge(call, sizeof call, 0, header, YUGERZAT_JUDGE_FIGURES);
-    if (answer != YUGERZAT_DONE || header[YUGERZAT_JUDGE_TAG] != YUGERZAT_TAG_CALL)
-        return refused("header", answer, header);
-    printf("call %lu: program %lu, version %lu, procedure %lu\n", (unsigned long)header[YUGERZAT_JUDGE_XID],
-           (unsigned long)header[YUGERZAT_CALL_PROG], (unsigned long)header[YUGERZAT_CALL_VERS],
-           (unsigned long)header[YUGERZAT_CALL_PROC]);
+    /* The header, read into a struct and written from it. The arguments begin where it ends. */
+    if (yugerzat_get_rpc_msg(call, sizeof call, 0, &header, &reading) != YUGERZAT_DONE)
+        return refused("header", &reading.refusal);
+    if (header.tag != YUGERZAT_TAG_CALL)
+        return 1;
+    printf("call %lu: program %lu, version %lu, procedure %lu\n", (unsigned long)header.xid,
+        (unsigned long)header.body.call.prog, (unsigned long)header.body.call.vers,
+        (unsigned long)header.body.call.proc);
+    if (yugerzat_put_rpc_msg(&header, out, sizeof out, 0, &writing) != YUGERZAT_DONE)
+        return refused("header, written", &writing.refusal);
+    at = reading.next;
+    end = writing.after;
 
-    /* The arguments of SETATTR: the handle of a file, then what to change. A handle is any kind like others. */
-    at = (size_t)header[YUGERZAT_NEXT];
-    answer = yugerzat_read(YUGERZAT_NFS_FH3, call, sizeof call, at, out, sizeof out, handle, YUGERZAT_READ_FIGURES);
-    if (answer != YUGERZAT_DONE)
-        return refused("handle", answer, handle);
-    at = (size_t)handle[YUGERZAT_NEXT];
-    answer = yugerzat_read_sattr3(call, sizeof call, at, change, YUGERZAT_SATTR3_FIGURES);
-    if (answer != YUGERZAT_DONE)
-        return refused("sattr3", answer, change);
-    if (change[YUGERZAT_SATTR3_SIZE_SET])
-        printf("set the size to %lu\n", (unsigned long)change[YUGERZAT_SATTR3_SIZE]);
-    printf("the change is %s\n", change[YUGERZAT_PLAIN] ? "plain" : "loose");
+    /* The handle of the file. There is nothing to be known of it, so it needs no struct. */
+    if (rewrite(YUGERZAT_KIND_NFS_FH3, &at, &end))
+        return 1;
 
-    /* What is passed on is in published form. A writer takes what the reader gave, without its first two figures. */
-    answer = yugerzat_write_sattr3(change + YUGERZAT_FIELDS, YUGERZAT_SATTR3_FIELDS, out, sizeof out, 0, after,
-                                   YUGERZAT_WRITE_FIGURES);
-    if (answer != YUGERZAT_DONE)
-        return refused("writing", answer, after);
-    print("as it came:  ", call + at, (size_t)change[YUGERZAT_NEXT] - at);
-    print("as it leaves:", out, (size_t)after[YUGERZAT_AFTER]);
+    /* What is to be changed. */
+    if (yugerzat_get_sattr3(call, sizeof call, at, &change, &reading) != YUGERZAT_DONE)
+        return refused("change", &reading.refusal);
+    if (change.set_size)
+        printf("set the size to %llu\n", (unsigned long long)change.size);
+    printf("the change is %s\n", reading.plain ? "plain" : "loose");
+    if (yugerzat_put_sattr3(&change, out, sizeof out, end, &writing) != YUGERZAT_DONE)
+        return refused("change, written", &writing.refusal);
+    at = reading.next;
+    end = writing.after;
+
+    /* The guard: a flag, and a time if it is true. */
+    if (rewrite(YUGERZAT_KIND_BOOL, &at, &end) || (out[end - 1] && rewrite(YUGERZAT_KIND_NFSTIME3, &at, &end)))
+        return 1;
+
+    print("as it came:", call, sizeof call);
+    print("as it leaves:", out, end);
     return 0;
 }

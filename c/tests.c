@@ -1,153 +1,58 @@
-/* Calls every function of include/yugerzat.h at its limits, and looks at every byte and figure that it was lent. */
-#include <stdio.h>
-#include <stdlib.h>
-#include <string.h>
+/*
+ * Calls every function of include/yugerzat_list.h at its limits, and looks at every byte and figure that it was lent.
+ * What stands over them, include/yugerzat.h, is held to them by structs.c.
+ */
+#include "testing.h"
 
-#include "yugerzat.h"
+/* ---- figures */
 
-/* ---- checks */
-
-static unsigned long passed, failed;
-
-static void check(int good, const char *what, const char *of, int line)
-{
-    if (good) {
-        passed++;
-        return;
-    }
-    failed++;
-    printf("tests.c:%d: %s%s%s\n", line, what, *of ? ", of " : "", of);
-}
-
-/* What the checks are about, where one line serves many cases. */
-static const char *of = "";
-
-#define CHECK(condition) check((condition), #condition, of, __LINE__)
-
-/* ---- memory: filled with EE, so that what was touched can be told */
-
-#define BUFFER 4096
-#define FIGURES 24
-#define UNTOUCHED 0xEEEEEEEEEEEEEEEEu
-
-static uint8_t out[BUFFER];
-static uint64_t info[FIGURES];
-static uint8_t long_message[YUGERZAT_LIMIT + 1];
-static uint8_t long_out[YUGERZAT_LIMIT + 8];
-
-static void fresh(void)
-{
-    memset(out, 0xEE, sizeof out);
-    memset(info, 0xEE, sizeof info);
-}
-
-/* Whether the bytes of out from a place on are as they were. */
-static int out_untouched_from(size_t place)
-{
-    size_t i;
-    for (i = place; i < BUFFER; i++)
-        if (out[i] != 0xEE)
-            return 0;
-    return 1;
-}
-
-static int out_untouched_before(size_t place)
-{
-    size_t i;
-    for (i = 0; i < place; i++)
-        if (out[i] != 0xEE)
-            return 0;
-    return 1;
-}
-
-static int info_untouched_from(size_t place)
+static bool info_untouched_from(size_t place)
 {
     size_t i;
     for (i = place; i < FIGURES; i++)
         if (info[i] != UNTOUCHED)
-            return 0;
-    return 1;
+            return false;
+    return true;
 }
 
 /* Whether the figures are these, and no other was touched. */
-static int figures(size_t count, const uint64_t *due)
+static bool figures(size_t count, const uint64_t *due)
 {
     return memcmp(info, due, count * sizeof *due) == 0 && info_untouched_from(count);
 }
 
 /* Whether the first of so many figures is a place, the others are zeros, and no other was touched. */
-static int refused_at(size_t count, uint64_t place)
+static bool refused_at(size_t count, uint64_t place)
 {
     uint64_t due[FIGURES] = {0};
-    due[0] = place;
+    due[YUGERZAT_FIGURE_PLACE] = place;
     return figures(count, due);
 }
 
-/* The same, of a message that ends inside an item: the second figure is how many bytes are wanting. */
-static int ended_at(size_t count, uint64_t place, uint64_t wanting)
+/* Whether the one figure of a writer is this, and no other was touched. */
+static bool told(uint64_t figure)
+{
+    return figures(1, &figure);
+}
+
+/* The same as refused_at, of a message that ends inside an item: the second figure is how many bytes are wanting. */
+static bool ended_at(size_t count, uint64_t place, uint64_t wanting)
 {
     uint64_t due[FIGURES] = {0};
-    due[YUGERZAT_NEXT] = place;
-    due[YUGERZAT_WANTING] = wanting;
+    due[YUGERZAT_FIGURE_PLACE] = place;
+    due[YUGERZAT_FIGURE_WANTING] = wanting;
     return figures(count, due);
 }
 
-static int all_untouched(void)
+static bool all_untouched(void)
 {
     return out_untouched_from(0) && info_untouched_from(0);
 }
 
-/* ---- bytes from hex */
-
-struct bytes {
-    uint8_t at[512];
-    size_t count;
-};
-
-static int digit(char c)
-{
-    if (c >= '0' && c <= '9')
-        return c - '0';
-    return c - 'A' + 10;
-}
-
-static struct bytes hex(const char *text)
-{
-    struct bytes b;
-    int high = -1;
-    b.count = 0;
-    for (; *text; text++) {
-        if (*text == ' ')
-            continue;
-        if (high < 0) {
-            high = digit(*text);
-        } else {
-            b.at[b.count++] = (uint8_t)(high * 16 + digit(*text));
-            high = -1;
-        }
-    }
-    return b;
-}
-
-static int out_is(size_t place, struct bytes due)
-{
-    return memcmp(out + place, due.at, due.count) == 0;
-}
-
-/* ---- messages */
-
-/* A message of every kind, in published form: those of kinds.txt, which c/test writes down in the kinds' order. */
-static const struct {
-    const char *name;
-    const char *message;
-} samples[] = {
-#include "samples.h"
-};
-
 /* ---- what is wanting */
 
-/* Reads what begins at place `first` of a message of `count` bytes: up to the message's end, or as a credential's body. */
-typedef uint32_t reading(const uint8_t *message, size_t count, size_t first);
+/* Reads what begins at place `first` of a message of `count` bytes, up to its end, or as a credential's body. */
+typedef enum yugerzat_answer reading(const uint8_t *message, size_t count, size_t first);
 
 static uint64_t word_at(const struct bytes *b, size_t place)
 {
@@ -157,38 +62,35 @@ static uint64_t word_at(const struct bytes *b, size_t place)
 
 /*
  * Whether a reading went on, once all had come that the item at a place wanted. The item is whole, and ends where the
- * bytes end: the reading is done there, or the next item begins there, or the item's number is not declared. Or only the
- * length word was cut: it is whole now, and says what is to follow.
+ * bytes end: the reading is done there, or the next item begins there, or the item's number is not declared. Or only
+ * the length word was cut: it is whole now, and says what is to follow.
  */
-static int went_on(uint32_t answer, const struct bytes *b, uint64_t place)
+static bool went_on(enum yugerzat_answer answer, const struct bytes *b, uint64_t place)
 {
     uint64_t length;
     switch (answer) {
-    case YUGERZAT_DONE:
-        return info[YUGERZAT_NEXT] == b->count;
-    case YUGERZAT_UNDECLARED:
-        return info[YUGERZAT_NEXT] == place && info[YUGERZAT_WANTING] == 0;
+    case YUGERZAT_DONE: return info[YUGERZAT_FIGURE_NEXT] == b->count;
+    case YUGERZAT_UNDECLARED: return info[YUGERZAT_FIGURE_PLACE] == place && info[YUGERZAT_FIGURE_WANTING] == 0;
     case YUGERZAT_HAND_OVER:
-    case YUGERZAT_REPLY:
-        return 1;
+    case YUGERZAT_REPLY: return true;
     case YUGERZAT_ENDS:
-        if (info[YUGERZAT_NEXT] == b->count)
-            return info[YUGERZAT_WANTING] == 4 || info[YUGERZAT_WANTING] == 8;
-        if (info[YUGERZAT_NEXT] != place || b->count != place + 4)
-            return 0;
+        if (info[YUGERZAT_FIGURE_PLACE] == b->count)
+            return info[YUGERZAT_FIGURE_WANTING] == 4 || info[YUGERZAT_FIGURE_WANTING] == 8;
+        if (info[YUGERZAT_FIGURE_PLACE] != place || b->count != place + 4)
+            return false;
         length = word_at(b, (size_t)place);
-        return length != 0 && (info[YUGERZAT_WANTING] == (length + 3) / 4 * 4 || info[YUGERZAT_WANTING] == length * 4);
-    default:
-        return 0;
+        return length != 0 &&
+               (info[YUGERZAT_FIGURE_WANTING] == (length + 3) / 4 * 4 || info[YUGERZAT_FIGURE_WANTING] == length * 4);
+    default: return false;
     }
 }
 
 /*
- * Cuts a message, which `read` takes with the answer `taken`, at every place, and holds each refusal to its promise: as
- * long as fewer bytes have come than are wanting, the others are; once all have come, the reading goes on. What they hold
- * does not matter: they are those of the message, then all 00, then all FF.
+ * Cuts a message, which `read` takes with the answer `taken`, at every place, and holds each refusal to its promise:
+ * as long as fewer bytes have come than are wanting, the others are; once all have come, the reading goes on. What
+ * they hold does not matter: they are those of the message, then all 00, then all FF.
  */
-static void cut(reading *read, uint32_t taken, size_t list, const char *message, size_t first)
+static void cut(reading *read, enum yugerzat_answer taken, size_t list, const char *message, size_t first)
 {
     struct bytes b = hex(message), whole, part;
     uint64_t place, wanting;
@@ -202,8 +104,8 @@ static void cut(reading *read, uint32_t taken, size_t list, const char *message,
     for (n = first; n < whole.count; n++) {
         fresh();
         CHECK(read(whole.at, n, first) == YUGERZAT_ENDS);
-        place = info[YUGERZAT_NEXT];
-        wanting = info[YUGERZAT_WANTING];
+        place = info[YUGERZAT_FIGURE_PLACE];
+        wanting = info[YUGERZAT_FIGURE_WANTING];
         CHECK(place >= first && place <= n && (place - first) % 4 == 0);
         CHECK(ended_at(list, place, wanting) && out_untouched_from(0));
         /* no byte too many: the message has them all */
@@ -226,62 +128,90 @@ static void cut(reading *read, uint32_t taken, size_t list, const char *message,
     }
 }
 
-/* ---- yugerzat_read */
+/* ---- yugerzat_rewrite and yugerzat_judge */
 
-static uint32_t read_kind(uint32_t kind, struct bytes b, size_t at, size_t room)
+/* Rewrites, and holds what judging says to that: it differs where there is no room, and then says what is needed. */
+static enum yugerzat_answer rewrite(
+    enum yugerzat_kind kind, const uint8_t *src, size_t count, size_t at, uint8_t *to, size_t room)
+{
+    uint64_t judged[FIGURES];
+    enum yugerzat_answer answer, judgement;
+    memset(judged, 0xEE, sizeof judged);
+    judgement = yugerzat_judge(kind, src, count, at, judged, YUGERZAT_FIGURES_JUDGE);
+    answer = yugerzat_rewrite(kind, src, count, at, to, room, info, YUGERZAT_FIGURES_REWRITE);
+    if (answer == YUGERZAT_NO_ROOM) {
+        CHECK(judgement == YUGERZAT_DONE && judged[YUGERZAT_FIGURE_JUDGE_SIZE] > room);
+        CHECK(judged[YUGERZAT_FIGURE_JUDGE_SIZE] == info[YUGERZAT_FIGURE_REWRITE_SIZE]);
+        CHECK(judged[YUGERZAT_FIGURES_JUDGE] == UNTOUCHED);
+    } else {
+        CHECK(judgement == answer && memcmp(judged, info, sizeof judged) == 0);
+    }
+    return answer;
+}
+
+static enum yugerzat_answer read_kind(enum yugerzat_kind kind, const struct bytes *b, size_t at, size_t room)
 {
     fresh();
-    return yugerzat_read(kind, b.at, b.count, at, out, room, info, YUGERZAT_READ_FIGURES);
+    return rewrite(kind, b->at, b->count, at, out, room);
 }
 
 /* The kind stands here, so that the signature of `cut` serves. */
-static uint32_t kind_read;
+static enum yugerzat_kind kind_read;
 
-static uint32_t read_by_kind(const uint8_t *message, size_t count, size_t first)
+static enum yugerzat_answer read_by_kind(const uint8_t *message, size_t count, size_t first)
 {
-    return yugerzat_read(kind_read, message, count, first, out, BUFFER, info, YUGERZAT_READ_FIGURES);
+    return rewrite(kind_read, message, count, first, out, BUFFER);
 }
 
-static void every_kind(uint32_t kind)
+/* Three figures of a rewriting that has no room: the last one is what it needs. */
+static bool no_room(uint64_t needed)
 {
-    struct bytes b = hex(samples[kind].message), later;
-    uint64_t took[3];
+    uint64_t due[3] = {0, 0, 0};
+    due[YUGERZAT_FIGURE_REWRITE_SIZE] = needed;
+    return figures(3, due);
+}
+
+static void every_kind(enum yugerzat_kind kind)
+{
+    const char *message = samples[kind].message;
+    struct bytes b = hex(message), later = behind_five(&b);
+    uint64_t took[3], first;
+    size_t room;
     of = samples[kind].name;
     took[0] = b.count;
     took[1] = 1;
     took[2] = b.count;
 
-    CHECK(read_kind(kind, b, 0, BUFFER) == YUGERZAT_DONE);
-    CHECK(figures(3, took) && out_is(0, b) && out_untouched_from(b.count));
-    CHECK(read_kind(kind, b, 0, b.count) == YUGERZAT_DONE);
-    CHECK(figures(3, took) && out_is(0, b) && out_untouched_from(b.count));
-    CHECK(read_kind(kind, b, 0, b.count - 1) == YUGERZAT_NO_ROOM);
-    CHECK(refused_at(3, 0) && out_untouched_from(0));
+    CHECK(read_kind(kind, &b, 0, BUFFER) == YUGERZAT_DONE);
+    CHECK(figures(3, took) && out_is(0, message) && out_untouched_from(b.count));
+    CHECK(read_kind(kind, &b, 0, b.count) == YUGERZAT_DONE);
+    CHECK(figures(3, took) && out_is(0, message) && out_untouched_from(b.count));
+    for (room = 0; room < b.count; room++) {
+        CHECK(read_kind(kind, &b, 0, room) == YUGERZAT_NO_ROOM);
+        CHECK(no_room(b.count) && out_untouched_from(0));
+    }
     fresh();
-    CHECK(yugerzat_read(kind, b.at, b.count, 0, NULL, 0, info, 3) == YUGERZAT_NO_ROOM && refused_at(3, 0));
+    CHECK(rewrite(kind, b.at, b.count, 0, NULL, 0) == YUGERZAT_NO_ROOM && no_room(b.count));
 
     /* from a later place */
-    memset(later.at, 0xFF, 5);
-    memcpy(later.at + 5, b.at, b.count);
-    later.count = b.count + 5;
     took[0] = later.count;
-    CHECK(read_kind(kind, later, 5, BUFFER) == YUGERZAT_DONE);
-    CHECK(figures(3, took) && out_is(0, b) && out_untouched_from(b.count));
+    CHECK(read_kind(kind, &later, 5, BUFFER) == YUGERZAT_DONE);
+    CHECK(figures(3, took) && out_is(0, message) && out_untouched_from(b.count));
 
     /* cut at every place */
     kind_read = kind;
-    cut(read_by_kind, YUGERZAT_DONE, 3, samples[kind].message, 0);
-    cut(read_by_kind, YUGERZAT_DONE, 3, samples[kind].message, 5);
+    cut(read_by_kind, YUGERZAT_DONE, 3, message, 0);
+    cut(read_by_kind, YUGERZAT_DONE, 3, message, 5);
     fresh();
-    CHECK(yugerzat_read(kind, NULL, 0, 0, out, BUFFER, info, 3) == YUGERZAT_ENDS);
+    CHECK(rewrite(kind, NULL, 0, 0, out, BUFFER) == YUGERZAT_ENDS);
     /* a kind begins with a word or with eight bytes; cut() has seen which */
-    uint64_t first = info[YUGERZAT_WANTING];
+    first = info[YUGERZAT_FIGURE_WANTING];
     CHECK((first == 4 || first == 8) && ended_at(3, 0, first) && out_untouched_from(0));
-    CHECK(read_kind(kind, b, b.count, BUFFER) == YUGERZAT_ENDS);
+    CHECK(read_kind(kind, &b, b.count, BUFFER) == YUGERZAT_ENDS);
     CHECK(ended_at(3, b.count, first) && out_untouched_from(0));
-    CHECK(read_kind(kind, b, b.count + 1, BUFFER) == YUGERZAT_PAST_END);
+    CHECK(read_kind(kind, &b, b.count + 1, BUFFER) == YUGERZAT_PAST_END);
     CHECK(refused_at(3, 0) && out_untouched_from(0));
-    CHECK(read_kind(kind, b, SIZE_MAX, BUFFER) == YUGERZAT_PAST_END);
+    CHECK(read_kind(kind, &b, SIZE_MAX, BUFFER) == YUGERZAT_PAST_END);
     CHECK(refused_at(3, 0) && out_untouched_from(0));
 
     /* a message as long as may be, and one byte longer */
@@ -289,153 +219,170 @@ static void every_kind(uint32_t kind)
     memcpy(long_message, b.at, b.count);
     took[0] = b.count;
     fresh();
-    CHECK(yugerzat_read(kind, long_message, YUGERZAT_LIMIT, 0, out, BUFFER, info, 3) == YUGERZAT_DONE);
-    CHECK(figures(3, took) && out_is(0, b) && out_untouched_from(b.count));
+    CHECK(rewrite(kind, long_message, YUGERZAT_LIMIT_BYTES, 0, out, BUFFER) == YUGERZAT_DONE);
+    CHECK(figures(3, took) && out_is(0, message) && out_untouched_from(b.count));
     fresh();
-    CHECK(yugerzat_read(kind, long_message, YUGERZAT_LIMIT + 1, 0, out, BUFFER, info, 3) == YUGERZAT_TOO_LONG);
+    CHECK(rewrite(kind, long_message, YUGERZAT_LIMIT_BYTES + 1, 0, out, BUFFER) == YUGERZAT_TOO_LONG);
     CHECK(refused_at(3, 0) && out_untouched_from(0));
 
-    /* lists that are too short */
+    /* lists that are too short, and one that is longer than it must be */
     fresh();
-    CHECK(yugerzat_read(kind, b.at, b.count, 0, out, BUFFER, info, 2) == YUGERZAT_SHORT_LIST && all_untouched());
-    CHECK(yugerzat_read(kind, b.at, b.count, 0, out, BUFFER, NULL, 0) == YUGERZAT_SHORT_LIST && all_untouched());
+    CHECK(yugerzat_rewrite(kind, b.at, b.count, 0, out, BUFFER, info, 2) == YUGERZAT_SHORT_LIST && all_untouched());
+    CHECK(yugerzat_rewrite(kind, b.at, b.count, 0, out, BUFFER, NULL, 0) == YUGERZAT_SHORT_LIST && all_untouched());
+    CHECK(yugerzat_judge(kind, b.at, b.count, 0, info, 2) == YUGERZAT_SHORT_LIST && all_untouched());
+    CHECK(yugerzat_judge(kind, b.at, b.count, 0, NULL, 0) == YUGERZAT_SHORT_LIST && all_untouched());
+    CHECK(yugerzat_judge(kind, b.at, b.count, 0, info, FIGURES) == YUGERZAT_DONE && figures(3, took) &&
+          out_untouched_from(0));
+    CHECK(yugerzat_rewrite(kind, b.at, b.count, 0, out, BUFFER, info, FIGURES) == YUGERZAT_DONE && figures(3, took));
     of = "";
 }
 
-static void loose(uint32_t kind, const char *message, uint64_t next, const char *rewriting)
+static void loose(enum yugerzat_kind kind, const char *message, uint64_t next, const char *rewriting)
 {
     uint64_t due[3];
-    struct bytes written = hex(rewriting);
+    struct bytes b = hex(message), written = hex(rewriting);
     of = message;
     due[0] = next;
     due[1] = 0;
     due[2] = written.count;
-    CHECK(read_kind(kind, hex(message), 0, BUFFER) == YUGERZAT_DONE);
-    CHECK(figures(3, due) && out_is(0, written) && out_untouched_from(written.count));
+    CHECK(read_kind(kind, &b, 0, BUFFER) == YUGERZAT_DONE);
+    CHECK(figures(3, due) && out_is(0, rewriting) && out_untouched_from(written.count));
+    CHECK(read_kind(kind, &b, 0, written.count) == YUGERZAT_DONE);
+    CHECK(figures(3, due) && out_is(0, rewriting) && out_untouched_from(written.count));
+    CHECK(read_kind(kind, &b, 0, written.count - 1) == YUGERZAT_NO_ROOM);
+    CHECK(no_room(written.count) && out_untouched_from(0));
     /* What is rewritten is plain, and is its own rewriting. */
     due[0] = written.count;
     due[1] = 1;
-    CHECK(read_kind(kind, written, 0, BUFFER) == YUGERZAT_DONE);
-    CHECK(figures(3, due) && out_is(0, written));
+    CHECK(read_kind(kind, &written, 0, BUFFER) == YUGERZAT_DONE);
+    CHECK(figures(3, due) && out_is(0, rewriting));
     of = "";
 }
 
-static void undeclared(uint32_t kind, const char *message, uint64_t place)
+static void undeclared(enum yugerzat_kind kind, const char *message, uint64_t place)
 {
+    struct bytes b = hex(message);
     of = message;
-    CHECK(read_kind(kind, hex(message), 0, BUFFER) == YUGERZAT_UNDECLARED);
+    CHECK(read_kind(kind, &b, 0, BUFFER) == YUGERZAT_UNDECLARED);
     CHECK(refused_at(3, place) && out_untouched_from(0));
     of = "";
 }
 
-static void ends(uint32_t kind, const char *message, uint64_t place, uint64_t wanting)
+static void ends(enum yugerzat_kind kind, const char *message, uint64_t place, uint64_t wanting)
 {
+    struct bytes b = hex(message);
     of = message;
-    CHECK(read_kind(kind, hex(message), 0, BUFFER) == YUGERZAT_ENDS);
+    CHECK(read_kind(kind, &b, 0, BUFFER) == YUGERZAT_ENDS);
     CHECK(ended_at(3, place, wanting) && out_untouched_from(0));
     of = "";
 }
 
-static void test_read(void)
+static void test_kinds(void)
 {
-    uint32_t kind;
     static const uint32_t unknown[] = {YUGERZAT_KINDS, 100, 0x7FFFFFFF, 0xFFFFFFFF};
     struct bytes b = hex("00000001");
     size_t i;
-    CHECK(sizeof samples / sizeof *samples == YUGERZAT_KINDS);
-    for (kind = 0; kind < sizeof samples / sizeof *samples; kind++)
-        every_kind(kind);
+    CHECK(SAMPLES == YUGERZAT_KINDS);
+    for (i = 0; i < SAMPLES; i++)
+        every_kind((enum yugerzat_kind)i);
     for (i = 0; i < sizeof unknown / sizeof *unknown; i++) {
-        CHECK(read_kind(unknown[i], b, 0, BUFFER) == YUGERZAT_UNKNOWN_KIND);
+        enum yugerzat_kind kind = (enum yugerzat_kind)unknown[i];
+        CHECK(read_kind(kind, &b, 0, BUFFER) == YUGERZAT_UNKNOWN_KIND);
         CHECK(refused_at(3, 0) && out_untouched_from(0));
         fresh();
-        CHECK(yugerzat_read(unknown[i], NULL, 0, 0, NULL, 0, NULL, 0) == YUGERZAT_SHORT_LIST);
+        CHECK(yugerzat_rewrite(kind, NULL, 0, 0, NULL, 0, NULL, 0) == YUGERZAT_SHORT_LIST);
+        CHECK(yugerzat_judge(kind, NULL, 0, 0, NULL, 0) == YUGERZAT_SHORT_LIST);
     }
 
-    loose(YUGERZAT_BOOL, "00000100", 4, "00000001");
-    loose(YUGERZAT_BOOL, "FFFFFFFF", 4, "00000001");
-    loose(YUGERZAT_OPAQUE, "00000005 68656C6C 6F000001", 12, "00000005 68656C6C 6F000000");
-    loose(YUGERZAT_SATTR3, "00000000 00000000 00000000 FFFFFFFF 0000000000000000 00000000 00000000", 32,
-          "00000000 00000000 00000000 00000001 0000000000000000 00000000 00000000");
-    loose(YUGERZAT_RPC_MSG, "0000002A 00000002", 8,
-          "0000002A 00000000 00000000 00000000 00000000 00000000 00000000 00000000 00000000 00000000");
-    loose(YUGERZAT_RPC_MSG, "0000002A 00000001 00000000 00000000 00000000 00000005", 24,
-          "0000002A 00000001 00000000 00000000 00000000 00000004");
-    loose(YUGERZAT_REPLY_BODY, "00000002", 4, "00000000 00000000 00000000 00000000");
-    loose(YUGERZAT_REJECTED_REPLY, "00000007", 4, "00000000 00000000 00000000");
+    loose(YUGERZAT_KIND_BOOL, "00000100", 4, "00000001");
+    loose(YUGERZAT_KIND_BOOL, "FFFFFFFF", 4, "00000001");
+    loose(YUGERZAT_KIND_OPAQUE, "00000005 68656C6C 6F000001", 12, "00000005 68656C6C 6F000000");
+    loose(YUGERZAT_KIND_SATTR3, "00000000 00000000 00000000 FFFFFFFF 0000000000000000 00000000 00000000", 32,
+        "00000000 00000000 00000000 00000001 0000000000000000 00000000 00000000");
+    loose(YUGERZAT_KIND_RPC_MSG, "0000002A 00000002", 8,
+        "0000002A 00000000 00000000 00000000 00000000 00000000 00000000 00000000 00000000 00000000");
+    loose(YUGERZAT_KIND_RPC_MSG, "0000002A 00000001 00000000 00000000 00000000 00000005", 24,
+        "0000002A 00000001 00000000 00000000 00000000 00000004");
+    loose(YUGERZAT_KIND_REPLY_BODY, "00000002", 4, "00000000 00000000 00000000 00000000");
+    loose(YUGERZAT_KIND_REJECTED_REPLY, "00000007", 4, "00000000 00000000 00000000");
 
-    undeclared(YUGERZAT_MSG_TYPE, "00000002", 0);
-    undeclared(YUGERZAT_REPLY_STAT, "00000002", 0);
-    undeclared(YUGERZAT_ACCEPT_STAT, "00000005", 0);
-    undeclared(YUGERZAT_REJECT_STAT, "00000002", 0);
-    undeclared(YUGERZAT_AUTH_STAT, "00000000", 0);
-    undeclared(YUGERZAT_AUTH_STAT, "00000006", 0);
-    undeclared(YUGERZAT_AUTH_FLAVOR, "00000004", 0);
-    undeclared(YUGERZAT_TIME_HOW, "00000003", 0);
-    undeclared(YUGERZAT_NFSSTAT3, "00000003", 0);
-    undeclared(YUGERZAT_NFSSTAT3, "00002719", 0);
-    undeclared(YUGERZAT_FTYPE3, "00000000", 0);
-    undeclared(YUGERZAT_FTYPE3, "00000008", 0);
-    undeclared(YUGERZAT_SET_ATIME, "00000003", 0);
-    undeclared(YUGERZAT_SATTR3, "00000000 00000000 00000000 00000000 00000000 00000003", 20);
-    undeclared(YUGERZAT_REJECTED_REPLY, "00000001 00000006", 4);
+    undeclared(YUGERZAT_KIND_MSG_TYPE, "00000002", 0);
+    undeclared(YUGERZAT_KIND_REPLY_STAT, "00000002", 0);
+    undeclared(YUGERZAT_KIND_ACCEPT_STAT, "00000005", 0);
+    undeclared(YUGERZAT_KIND_REJECT_STAT, "00000002", 0);
+    undeclared(YUGERZAT_KIND_AUTH_STAT, "00000000", 0);
+    undeclared(YUGERZAT_KIND_AUTH_STAT, "00000006", 0);
+    undeclared(YUGERZAT_KIND_AUTH_FLAVOR, "00000004", 0);
+    undeclared(YUGERZAT_KIND_TIME_HOW, "00000003", 0);
+    undeclared(YUGERZAT_KIND_NFSSTAT3, "00000003", 0);
+    undeclared(YUGERZAT_KIND_NFSSTAT3, "00002719", 0);
+    undeclared(YUGERZAT_KIND_FTYPE3, "00000000", 0);
+    undeclared(YUGERZAT_KIND_FTYPE3, "00000008", 0);
+    undeclared(YUGERZAT_KIND_SET_ATIME, "00000003", 0);
+    undeclared(YUGERZAT_KIND_SATTR3, "00000000 00000000 00000000 00000000 00000000 00000003", 20);
+    undeclared(YUGERZAT_KIND_REJECTED_REPLY, "00000001 00000006", 4);
 
     /* A message that ends inside an item, and what is wanting: of a word or eight bytes, .. */
-    ends(YUGERZAT_U32, "", 0, 4);
-    ends(YUGERZAT_U32, "000000", 0, 1);
-    ends(YUGERZAT_BOOL, "00", 0, 3);
-    ends(YUGERZAT_U64, "", 0, 8);
-    ends(YUGERZAT_U64, "00000000", 0, 4);
-    ends(YUGERZAT_EIGHT, "01020304 050607", 0, 1);
-    ends(YUGERZAT_FTYPE3, "0000", 0, 2);
+    ends(YUGERZAT_KIND_U32, "", 0, 4);
+    ends(YUGERZAT_KIND_U32, "000000", 0, 1);
+    ends(YUGERZAT_KIND_BOOL, "00", 0, 3);
+    ends(YUGERZAT_KIND_U64, "", 0, 8);
+    ends(YUGERZAT_KIND_U64, "00000000", 0, 4);
+    ends(YUGERZAT_KIND_EIGHT, "01020304 050607", 0, 1);
+    ends(YUGERZAT_KIND_FTYPE3, "0000", 0, 2);
     /* .. of a length word, and then of content and pad, or of the words, .. */
-    ends(YUGERZAT_OPAQUE, "", 0, 4);
-    ends(YUGERZAT_OPAQUE, "0000", 0, 2);
-    ends(YUGERZAT_OPAQUE, "00000001", 0, 4);
-    ends(YUGERZAT_OPAQUE, "00000001 AA0000", 0, 1);
-    ends(YUGERZAT_OPAQUE, "00000005 68656C6C", 0, 4);
-    ends(YUGERZAT_NFSSTRING, "00000004 616263", 0, 1);
-    ends(YUGERZAT_WORDS, "000000", 0, 1);
-    ends(YUGERZAT_WORDS, "00000003", 0, 12);
-    ends(YUGERZAT_WORDS, "00000003 00000001 0000", 0, 6);
+    ends(YUGERZAT_KIND_OPAQUE, "", 0, 4);
+    ends(YUGERZAT_KIND_OPAQUE, "0000", 0, 2);
+    ends(YUGERZAT_KIND_OPAQUE, "00000001", 0, 4);
+    ends(YUGERZAT_KIND_OPAQUE, "00000001 AA0000", 0, 1);
+    ends(YUGERZAT_KIND_OPAQUE, "00000005 68656C6C", 0, 4);
+    ends(YUGERZAT_KIND_NFSSTRING, "00000004 616263", 0, 1);
+    ends(YUGERZAT_KIND_WORDS, "000000", 0, 1);
+    ends(YUGERZAT_KIND_WORDS, "00000003", 0, 12);
+    ends(YUGERZAT_KIND_WORDS, "00000003 00000001 0000", 0, 6);
     /* .. and of an item inside a larger message. */
-    ends(YUGERZAT_NFSTIME3, "00000007 0000", 4, 2);
-    ends(YUGERZAT_SET_SIZE3, "00000001 00000000 0000", 4, 2);
-    ends(YUGERZAT_DIROPARGS3, "00000004 0A0B0C0D 00000005 68656C", 8, 5);
-    ends(YUGERZAT_AUTH_UNIX, "00000001 00000003 616263", 4, 1);
-    ends(YUGERZAT_AUTH_UNIX, "00000001 00000000 00000002 00000003 00000002 00000004 00", 16, 3);
-    ends(YUGERZAT_RPC_MSG, "0000002A 00000000 00000002 000186A3 00000003 00000001 00000001 00000190 01", 28, 399);
+    ends(YUGERZAT_KIND_NFSTIME3, "00000007 0000", 4, 2);
+    ends(YUGERZAT_KIND_SET_SIZE3, "00000001 00000000 0000", 4, 2);
+    ends(YUGERZAT_KIND_DIROPARGS3, "00000004 0A0B0C0D 00000005 68656C", 8, 5);
+    ends(YUGERZAT_KIND_AUTH_UNIX, "00000001 00000003 616263", 4, 1);
+    ends(YUGERZAT_KIND_AUTH_UNIX, "00000001 00000000 00000002 00000003 00000002 00000004 00", 16, 3);
+    ends(YUGERZAT_KIND_RPC_MSG, "0000002A 00000000 00000002 000186A3 00000003 00000001 00000001 00000190 01", 28, 399);
 
     /* Lengths that would pass the end of every number. */
-    ends(YUGERZAT_OPAQUE, "FFFFFFFF", 0, 4294967296);
-    ends(YUGERZAT_OPAQUE, "FFFFFFFC", 0, 4294967292);
-    ends(YUGERZAT_OPAQUE, "FFFFFFFF 00000000", 0, 4294967292);
-    ends(YUGERZAT_WORDS, "FFFFFFFF", 0, 17179869180);
-    ends(YUGERZAT_WORDS, "FFFFFFFF 00000000", 0, 17179869176);
-    ends(YUGERZAT_WORDS, "40000001 00000000", 0, 4294967296);
-    ends(YUGERZAT_WORDS, "3FFFFFFF 0000", 0, 4294967290);
+    ends(YUGERZAT_KIND_OPAQUE, "FFFFFFFF", 0, 4294967296);
+    ends(YUGERZAT_KIND_OPAQUE, "FFFFFFFC", 0, 4294967292);
+    ends(YUGERZAT_KIND_OPAQUE, "FFFFFFFF 00000000", 0, 4294967292);
+    ends(YUGERZAT_KIND_WORDS, "FFFFFFFF", 0, 17179869180);
+    ends(YUGERZAT_KIND_WORDS, "FFFFFFFF 00000000", 0, 17179869176);
+    ends(YUGERZAT_KIND_WORDS, "40000001 00000000", 0, 4294967296);
+    ends(YUGERZAT_KIND_WORDS, "3FFFFFFF 0000", 0, 4294967290);
 
     /* An opaque that fills a message of the largest size: what is written is as long as what is read. */
     memset(long_message, 0x5A, sizeof long_message);
-    memcpy(long_message, hex("000FFFFC").at, 4);
+    memcpy(long_message, bytes_of("000FFFFC"), 4);
     memset(long_out, 0xEE, sizeof long_out);
     fresh();
-    CHECK(yugerzat_read(YUGERZAT_OPAQUE, long_message, YUGERZAT_LIMIT, 0, long_out, YUGERZAT_LIMIT, info, 3) == YUGERZAT_DONE);
-    CHECK(info[0] == YUGERZAT_LIMIT && info[1] == 1 && info[2] == YUGERZAT_LIMIT);
-    CHECK(memcmp(long_out, long_message, YUGERZAT_LIMIT) == 0 && long_out[YUGERZAT_LIMIT] == 0xEE);
+    CHECK(rewrite(YUGERZAT_KIND_OPAQUE, long_message, YUGERZAT_LIMIT_BYTES, 0, long_out, YUGERZAT_LIMIT_BYTES) ==
+          YUGERZAT_DONE);
+    CHECK(info[0] == YUGERZAT_LIMIT_BYTES && info[1] == 1 && info[2] == YUGERZAT_LIMIT_BYTES);
+    CHECK(memcmp(long_out, long_message, YUGERZAT_LIMIT_BYTES) == 0 && long_out[YUGERZAT_LIMIT_BYTES] == 0xEE);
     memset(long_out, 0xEE, sizeof long_out);
-    CHECK(yugerzat_read(YUGERZAT_OPAQUE, long_message, YUGERZAT_LIMIT, 0, long_out, YUGERZAT_LIMIT - 1, info, 3) == YUGERZAT_NO_ROOM);
-    CHECK(long_out[0] == 0xEE && memcmp(long_out, long_out + 1, sizeof long_out - 1) == 0);
+    CHECK(rewrite(YUGERZAT_KIND_OPAQUE, long_message, YUGERZAT_LIMIT_BYTES, 0, long_out, YUGERZAT_LIMIT_BYTES - 1) ==
+          YUGERZAT_NO_ROOM);
+    CHECK(no_room(YUGERZAT_LIMIT_BYTES) && long_out_untouched());
     /* Its last byte is wanting; and one byte more of content, with its pad, would make the message too long. */
     fresh();
-    CHECK(yugerzat_read(YUGERZAT_OPAQUE, long_message, YUGERZAT_LIMIT - 1, 0, long_out, YUGERZAT_LIMIT, info, 3) == YUGERZAT_ENDS);
+    CHECK(rewrite(YUGERZAT_KIND_OPAQUE, long_message, YUGERZAT_LIMIT_BYTES - 1, 0, long_out, YUGERZAT_LIMIT_BYTES) ==
+          YUGERZAT_ENDS);
     CHECK(ended_at(3, 0, 1));
-    memcpy(long_message, hex("000FFFFD").at, 4);
+    memcpy(long_message, bytes_of("000FFFFD"), 4);
     fresh();
-    CHECK(yugerzat_read(YUGERZAT_OPAQUE, long_message, YUGERZAT_LIMIT, 0, long_out, YUGERZAT_LIMIT, info, 3) == YUGERZAT_ENDS);
+    CHECK(rewrite(YUGERZAT_KIND_OPAQUE, long_message, YUGERZAT_LIMIT_BYTES, 0, long_out, YUGERZAT_LIMIT_BYTES) ==
+          YUGERZAT_ENDS);
     CHECK(ended_at(3, 0, 4) && long_out[0] == 0xEE);
     fresh();
-    CHECK(yugerzat_read(YUGERZAT_OPAQUE, long_message, YUGERZAT_LIMIT + 1, 0, long_out, YUGERZAT_LIMIT, info, 3) == YUGERZAT_TOO_LONG);
+    CHECK(rewrite(YUGERZAT_KIND_OPAQUE, long_message, YUGERZAT_LIMIT_BYTES + 1, 0, long_out, YUGERZAT_LIMIT_BYTES) ==
+          YUGERZAT_TOO_LONG);
     CHECK(refused_at(3, 0));
 }
 
@@ -447,22 +394,22 @@ static void test_fragment(void)
     fresh();
     CHECK(yugerzat_fragment(message, 3, out, BUFFER, 5, info, 1) == YUGERZAT_DONE);
     CHECK(info[0] == 12 && info_untouched_from(1));
-    CHECK(out_untouched_before(5) && out_is(5, hex("80000003 010203")) && out_untouched_from(12));
+    CHECK(out_untouched_before(5) && out_is(5, "80000003 010203") && out_untouched_from(12));
     fresh();
     CHECK(yugerzat_fragment(message, 3, out, 7, 0, info, 1) == YUGERZAT_DONE && info[0] == 7 && out_untouched_from(7));
     fresh();
-    CHECK(yugerzat_fragment(message, 3, out, 6, 0, info, 1) == YUGERZAT_NO_ROOM && refused_at(1, 0) && out_untouched_from(0));
+    CHECK(yugerzat_fragment(message, 3, out, 6, 0, info, 1) == YUGERZAT_NO_ROOM && told(7) && out_untouched_from(0));
     fresh();
     CHECK(yugerzat_fragment(NULL, 0, out, 4, 0, info, 1) == YUGERZAT_DONE && info[0] == 4);
-    CHECK(out_is(0, hex("80000000")) && out_untouched_from(4));
+    CHECK(out_is(0, "80000000") && out_untouched_from(4));
     fresh();
-    CHECK(yugerzat_fragment(NULL, 0, NULL, 0, 0, info, 1) == YUGERZAT_NO_ROOM && refused_at(1, 0));
+    CHECK(yugerzat_fragment(NULL, 0, NULL, 0, 0, info, 1) == YUGERZAT_NO_ROOM && told(4));
     fresh();
-    CHECK(yugerzat_fragment(message, 3, out, 10, 10, info, 1) == YUGERZAT_NO_ROOM && refused_at(1, 0) && out_untouched_from(0));
+    CHECK(yugerzat_fragment(message, 3, out, 10, 10, info, 1) == YUGERZAT_NO_ROOM && told(7) && out_untouched_from(0));
     fresh();
-    CHECK(yugerzat_fragment(message, 3, out, 10, 11, info, 1) == YUGERZAT_PAST_END && refused_at(1, 0) && out_untouched_from(0));
+    CHECK(yugerzat_fragment(message, 3, out, 10, 11, info, 1) == YUGERZAT_PAST_END && told(0) && out_untouched_from(0));
     fresh();
-    CHECK(yugerzat_fragment(message, 3, out, 10, SIZE_MAX, info, 1) == YUGERZAT_PAST_END && refused_at(1, 0));
+    CHECK(yugerzat_fragment(message, 3, out, 10, SIZE_MAX, info, 1) == YUGERZAT_PAST_END && told(0));
     fresh();
     CHECK(yugerzat_fragment(message, 3, out, BUFFER, 0, NULL, 0) == YUGERZAT_SHORT_LIST && all_untouched());
 
@@ -470,16 +417,20 @@ static void test_fragment(void)
     memset(long_message, 0x5A, sizeof long_message);
     memset(long_out, 0xEE, sizeof long_out);
     fresh();
-    CHECK(yugerzat_fragment(long_message, YUGERZAT_LIMIT, long_out, YUGERZAT_LIMIT + 4, 0, info, 1) == YUGERZAT_DONE);
-    CHECK(info[0] == YUGERZAT_LIMIT + 4 && memcmp(long_out, hex("80100000").at, 4) == 0);
-    CHECK(memcmp(long_out + 4, long_message, YUGERZAT_LIMIT) == 0 && long_out[YUGERZAT_LIMIT + 4] == 0xEE);
+    CHECK(yugerzat_fragment(long_message, YUGERZAT_LIMIT_BYTES, long_out, YUGERZAT_LIMIT_BYTES + 4, 0, info, 1) ==
+          YUGERZAT_DONE);
+    CHECK(info[0] == YUGERZAT_LIMIT_BYTES + 4 && memcmp(long_out, bytes_of("80100000"), 4) == 0);
+    CHECK(memcmp(long_out + 4, long_message, YUGERZAT_LIMIT_BYTES) == 0 && long_out[YUGERZAT_LIMIT_BYTES + 4] == 0xEE);
     fresh();
-    CHECK(yugerzat_fragment(long_message, YUGERZAT_LIMIT + 1, long_out, sizeof long_out, 0, info, 1) == YUGERZAT_TOO_LONG);
-    CHECK(refused_at(1, 0) && long_out[YUGERZAT_LIMIT + 4] == 0xEE);
+    CHECK(yugerzat_fragment(long_message, YUGERZAT_LIMIT_BYTES + 1, long_out, sizeof long_out, 0, info, 1) ==
+          YUGERZAT_TOO_LONG);
+    CHECK(told(0) && long_out[YUGERZAT_LIMIT_BYTES + 4] == 0xEE);
     fresh();
-    CHECK(yugerzat_fragment(long_message, YUGERZAT_LIMIT + 1, out, 0, 0, info, 1) == YUGERZAT_TOO_LONG && refused_at(1, 0));
+    CHECK(
+        yugerzat_fragment(long_message, YUGERZAT_LIMIT_BYTES + 1, out, 0, 0, info, 1) == YUGERZAT_TOO_LONG && told(0));
     fresh();
-    CHECK(yugerzat_fragment(long_message, YUGERZAT_LIMIT + 1, out, 0, 1, info, 1) == YUGERZAT_PAST_END && refused_at(1, 0));
+    CHECK(
+        yugerzat_fragment(long_message, YUGERZAT_LIMIT_BYTES + 1, out, 0, 1, info, 1) == YUGERZAT_PAST_END && told(0));
 }
 
 /* ---- yugerzat_feed */
@@ -489,33 +440,34 @@ static uint64_t state[8];
 static void begin(uint64_t capacity)
 {
     memset(state, 0, sizeof state);
-    state[YUGERZAT_STATE_CAPACITY] = capacity;
+    state[YUGERZAT_FIGURE_STATE_CAPACITY] = capacity;
     state[7] = UNTOUCHED;
     fresh();
 }
 
-static uint32_t feed(const char *run, size_t length)
+static enum yugerzat_answer feed(const char *run, size_t length)
 {
     struct bytes b = hex(run);
     memset(info, 0xEE, sizeof info);
     return yugerzat_feed(state, 7, b.at, b.count, out, length, info, 2);
 }
 
-static int state_is(uint64_t capacity, uint64_t placed, uint64_t count, uint64_t value, uint64_t left, uint64_t last,
-                    uint64_t stopped)
+static bool state_is(
+    uint64_t capacity, uint64_t placed, uint64_t count, uint64_t value, uint64_t left, uint64_t last, uint64_t stopped)
 {
     return state[0] == capacity && state[1] == placed && state[2] == count && state[3] == value && state[4] == left &&
            state[5] == last && state[6] == stopped && state[7] == UNTOUCHED;
 }
 
-static int fed(uint64_t used, uint64_t length)
+static bool fed(uint64_t used, uint64_t length)
 {
-    return info[YUGERZAT_FEED_USED] == used && info[YUGERZAT_FEED_LENGTH] == length && info_untouched_from(2);
+    return info[YUGERZAT_FIGURE_FEED_USED] == used && info[YUGERZAT_FIGURE_FEED_LENGTH] == length &&
+           info_untouched_from(2);
 }
 
 /* A state that does not fit: it stays, and so does the buffer. */
 static void unfit(const char *why, uint64_t capacity, uint64_t placed, uint64_t count, uint64_t value, uint64_t left,
-                  uint64_t last, uint64_t stopped, size_t length)
+    uint64_t last, uint64_t stopped, size_t length)
 {
     of = why;
     begin(capacity);
@@ -536,20 +488,20 @@ static void test_feed(void)
     size_t i;
     begin(10);
     CHECK(feed("00000000 80000002 ABCD 77", 10) == YUGERZAT_COMPLETE);
-    CHECK(fed(10, 2) && state_is(10, 0, 0, 0, 0, 0, 0) && out_is(0, hex("ABCD")) && out_untouched_from(2));
+    CHECK(fed(10, 2) && state_is(10, 0, 0, 0, 0, 0, 0) && out_is(0, "ABCD") && out_untouched_from(2));
 
     /* the same, byte by byte */
     begin(3);
     for (i = 0; i < 10; i++)
         CHECK(feed(bytes[i], 3) == YUGERZAT_MORE && fed(1, 0));
     CHECK(state_is(3, 2, 0, 0, 1, 1, 0));
-    CHECK(feed(bytes[10], 3) == YUGERZAT_COMPLETE && fed(1, 3) && out_is(0, hex("ABCDEF")) && out_untouched_from(3));
+    CHECK(feed(bytes[10], 3) == YUGERZAT_COMPLETE && fed(1, 3) && out_is(0, "ABCDEF") && out_untouched_from(3));
     CHECK(state_is(3, 0, 0, 0, 0, 0, 0));
 
     /* an empty record, into no buffer at all */
     begin(0);
     memset(info, 0xEE, sizeof info);
-    CHECK(yugerzat_feed(state, 7, hex("80000000").at, 4, NULL, 0, info, 2) == YUGERZAT_COMPLETE && fed(4, 0));
+    CHECK(yugerzat_feed(state, 7, bytes_of("80000000"), 4, NULL, 0, info, 2) == YUGERZAT_COMPLETE && fed(4, 0));
     CHECK(state_is(0, 0, 0, 0, 0, 0, 0));
     memset(info, 0xEE, sizeof info);
     CHECK(yugerzat_feed(state, 7, NULL, 0, NULL, 0, info, 2) == YUGERZAT_MORE && fed(0, 0));
@@ -564,13 +516,14 @@ static void test_feed(void)
     CHECK(feed("80000004", 4) == YUGERZAT_MORE && fed(4, 0) && state_is(4, 0, 0, 0, 4, 1, 0));
     /* what was placed before stays in the buffer */
     begin(4);
-    CHECK(feed("00000002 ABCD 80000003 01", 4) == YUGERZAT_FRAGMENT_TOO_LONG && fed(10, 0) && state_is(4, 2, 0, 0, 0, 0, 1));
-    CHECK(out_is(0, hex("ABCD")) && out_untouched_from(2));
+    CHECK(feed("00000002 ABCD 80000003 01", 4) == YUGERZAT_FRAGMENT_TOO_LONG && fed(10, 0) &&
+          state_is(4, 2, 0, 0, 0, 0, 1));
+    CHECK(out_is(0, "ABCD") && out_untouched_from(2));
     begin(4);
     CHECK(feed("7FFFFFFF", 4) == YUGERZAT_FRAGMENT_TOO_LONG && fed(4, 0));
 
     unfit("a capacity that is not the buffer's length", 9, 0, 0, 0, 0, 0, 0, 10);
-    unfit("a capacity over the limit", YUGERZAT_LIMIT + 1, 0, 0, 0, 0, 0, 0, 10);
+    unfit("a capacity over the limit", YUGERZAT_LIMIT_BYTES + 1, 0, 0, 0, 0, 0, 0, 10);
     unfit("more placed than the capacity", 10, 11, 0, 0, 0, 0, 0, 10);
     unfit("more left than there is room for", 10, 5, 0, 0, 6, 0, 0, 10);
     unfit("four header bytes", 10, 0, 4, 0, 0, 0, 0, 10);
@@ -589,26 +542,27 @@ static void test_feed(void)
 
     /* lists that are too short */
     begin(10);
-    CHECK(yugerzat_feed(state, 6, hex("80000000").at, 4, out, 10, info, 2) == YUGERZAT_SHORT_LIST && all_untouched());
-    CHECK(yugerzat_feed(NULL, 0, hex("80000000").at, 4, out, 10, info, 2) == YUGERZAT_SHORT_LIST && all_untouched());
-    CHECK(yugerzat_feed(state, 7, hex("80000000").at, 4, out, 10, info, 1) == YUGERZAT_SHORT_LIST && all_untouched());
-    CHECK(yugerzat_feed(state, 7, hex("80000000").at, 4, out, 10, NULL, 0) == YUGERZAT_SHORT_LIST && all_untouched());
+    CHECK(yugerzat_feed(state, 6, bytes_of("80000000"), 4, out, 10, info, 2) == YUGERZAT_SHORT_LIST && all_untouched());
+    CHECK(yugerzat_feed(NULL, 0, bytes_of("80000000"), 4, out, 10, info, 2) == YUGERZAT_SHORT_LIST && all_untouched());
+    CHECK(yugerzat_feed(state, 7, bytes_of("80000000"), 4, out, 10, info, 1) == YUGERZAT_SHORT_LIST && all_untouched());
+    CHECK(yugerzat_feed(state, 7, bytes_of("80000000"), 4, out, 10, NULL, 0) == YUGERZAT_SHORT_LIST && all_untouched());
     CHECK(state_is(10, 0, 0, 0, 0, 0, 0));
 
     /* a record of the largest size */
     memset(long_message, 0x5A, sizeof long_message);
-    memcpy(long_message, hex("800FFFFD").at, 4);
+    memcpy(long_message, bytes_of("800FFFFD"), 4);
     memset(long_out, 0xEE, sizeof long_out);
-    begin(YUGERZAT_LIMIT);
-    CHECK(yugerzat_feed(state, 7, hex("80100000").at, 4, long_out, YUGERZAT_LIMIT, info, 2) == YUGERZAT_MORE);
-    CHECK(yugerzat_feed(state, 7, long_message, YUGERZAT_LIMIT + 1, long_out, YUGERZAT_LIMIT, info, 2) == YUGERZAT_COMPLETE);
-    CHECK(fed(YUGERZAT_LIMIT, YUGERZAT_LIMIT) && memcmp(long_out, long_message, YUGERZAT_LIMIT) == 0);
-    CHECK(long_out[YUGERZAT_LIMIT] == 0xEE);
+    begin(YUGERZAT_LIMIT_BYTES);
+    CHECK(yugerzat_feed(state, 7, bytes_of("80100000"), 4, long_out, YUGERZAT_LIMIT_BYTES, info, 2) == YUGERZAT_MORE);
+    CHECK(yugerzat_feed(state, 7, long_message, YUGERZAT_LIMIT_BYTES + 1, long_out, YUGERZAT_LIMIT_BYTES, info, 2) ==
+          YUGERZAT_COMPLETE);
+    CHECK(fed(YUGERZAT_LIMIT_BYTES, YUGERZAT_LIMIT_BYTES) && memcmp(long_out, long_message, YUGERZAT_LIMIT_BYTES) == 0);
+    CHECK(long_out[YUGERZAT_LIMIT_BYTES] == 0xEE);
 }
 
 /* ---- yugerzat_choose */
 
-static uint32_t choose(const char *message, uint32_t seen, size_t room)
+static enum yugerzat_answer choose(const char *message, uint32_t seen, size_t room)
 {
     struct bytes b = hex(message);
     fresh();
@@ -616,7 +570,7 @@ static uint32_t choose(const char *message, uint32_t seen, size_t room)
 }
 
 #define CALL_NFS "0000002A 00000000 00000002 000186A3 00000003 00000006 00000000 00000000 00000000 00000000"
-#define CALL_UNIX                                                                                                \
+#define CALL_UNIX                                                                                                 \
     "0000002A 00000000 00000002 000186A0 00000002 00000003 00000001 0000001D 00000001 00000003 61626300 00000002" \
     "00000003 00000001 00000004 EE 000000 00000000 00000000"
 #define ARGUMENTS "11223344"
@@ -624,13 +578,13 @@ static uint32_t choose(const char *message, uint32_t seen, size_t room)
 /* A call for NFS by AUTH_UNIX: everything before the credential's body, but for its length, which is the last byte. */
 #define CALL_BEFORE_BODY "0000002A 00000000 00000002 000186A3 00000003 00000006 00000001 000000"
 
-static uint32_t choose_by_message(const uint8_t *message, size_t count, size_t first)
+static enum yugerzat_answer choose_by_message(const uint8_t *message, size_t count, size_t first)
 {
     return yugerzat_choose(message + first, count - first, 0, out, BUFFER, info, 12);
 }
 
-/* The body of a credential, as long as it is, in a message that is whole: 32 bytes before, pad and a null verifier behind. */
-static uint32_t choose_by_body(const uint8_t *message, size_t count, size_t first)
+/* A credential's body, as long as it is, in a message that is whole: 32 bytes before it, pad and a verifier behind. */
+static enum yugerzat_answer choose_by_body(const uint8_t *message, size_t count, size_t first)
 {
     struct bytes call = hex(CALL_BEFORE_BODY);
     size_t length = count - first, pad = (4 - length % 4) % 4;
@@ -650,32 +604,37 @@ static void test_choose(void)
     CHECK(choose(CALL_NFS, 0, 0) == YUGERZAT_HAND_OVER && figures(12, nfs) && out_untouched_from(0));
     fresh();
     CHECK(yugerzat_choose(b.at, b.count, 0, NULL, 0, info, 12) == YUGERZAT_HAND_OVER && figures(12, nfs));
-    CHECK(choose(CALL_UNIX ARGUMENTS, 0, BUFFER) == YUGERZAT_HAND_OVER && figures(12, portmap) && out_untouched_from(0));
+    CHECK(
+        choose(CALL_UNIX ARGUMENTS, 0, BUFFER) == YUGERZAT_HAND_OVER && figures(12, portmap) && out_untouched_from(0));
     CHECK(choose(CALL_NFS, 1, 24) == YUGERZAT_SILENCE && refused_at(12, 0) && out_untouched_from(0));
     CHECK(choose(CALL_NFS, 0xFFFFFFFF, 24) == YUGERZAT_SILENCE && refused_at(12, 0) && out_untouched_from(0));
 
     /* the RPC version is not 2 */
     CHECK(choose("0000002A 00000002", 0, 24) == YUGERZAT_REPLY && refused_at(12, 24));
-    CHECK(out_is(0, hex("0000002A 00000001 00000001 00000000 00000000 00000000")) && out_untouched_from(24));
+    CHECK(out_is(0, "0000002A 00000001 00000001 00000000 00000000 00000000") && out_untouched_from(24));
     CHECK(choose("0000002A 00000002", 0, 23) == YUGERZAT_NO_ROOM && refused_at(12, 0) && out_untouched_from(0));
     /* a program that is not served */
-    CHECK(choose("0000002A 00000000 00000002 00000007 00000003 00000006 00000000 00000000 00000000 00000000", 0, BUFFER) ==
-          YUGERZAT_REPLY);
-    CHECK(refused_at(12, 24) && out_is(0, hex("0000002A 00000001 00000000 00000000 00000000 00000001")) && out_untouched_from(24));
+    CHECK(choose("0000002A 00000000 00000002 00000007 00000003 00000006 00000000 00000000 00000000 00000000", 0,
+              BUFFER) == YUGERZAT_REPLY);
+    CHECK(refused_at(12, 24) && out_is(0, "0000002A 00000001 00000000 00000000 00000000 00000001") &&
+          out_untouched_from(24));
 
     CHECK(choose("0000002A 00000001 00000000 00000000 00000000 00000000", 0, BUFFER) == YUGERZAT_REPLY_CAME);
     CHECK(refused_at(12, 0) && out_untouched_from(0));
-    CHECK(choose("0000002A 00000000 00000002", 0, BUFFER) == YUGERZAT_ENDS && ended_at(12, 12, 4) && out_untouched_from(0));
-    CHECK(choose("0000002A 00000000 00000002 00", 0, BUFFER) == YUGERZAT_ENDS && ended_at(12, 12, 3) && out_untouched_from(0));
+    CHECK(choose("0000002A 00000000 00000002", 0, BUFFER) == YUGERZAT_ENDS && ended_at(12, 12, 4) &&
+          out_untouched_from(0));
+    CHECK(choose("0000002A 00000000 00000002 00", 0, BUFFER) == YUGERZAT_ENDS && ended_at(12, 12, 3) &&
+          out_untouched_from(0));
     /* a credential's body that is cut itself: the place is that of its length word */
     CHECK(choose(CALL_BEFORE_BODY "14 00000001 00000000 00000002 00000003 000000", 0, BUFFER) == YUGERZAT_ENDS);
     CHECK(ended_at(12, 28, 1) && out_untouched_from(0));
-    /* a credential that ends inside its list of groups: the place is one of the whole message, the bytes are wanting in the body */
+    /* one that ends inside its list of groups: the place is one of the message, the bytes are wanting in the body */
     CHECK(choose(CALL_BEFORE_BODY "14 00000001 00000000 00000002 00000003 00000001 00000000 00000000", 0, BUFFER) ==
           YUGERZAT_ENDS);
     CHECK(ended_at(12, 48, 4) && out_untouched_from(0));
-    CHECK(choose(CALL_BEFORE_BODY "16 00000001 00000000 00000002 00000003 00000003 0000 0000 00000000 00000000" ARGUMENTS, 0,
-                 BUFFER) == YUGERZAT_ENDS);
+    CHECK(
+        choose(CALL_BEFORE_BODY "16 00000001 00000000 00000002 00000003 00000003 0000 0000 00000000 00000000" ARGUMENTS,
+            0, BUFFER) == YUGERZAT_ENDS);
     CHECK(ended_at(12, 48, 10) && out_untouched_from(0));
     CHECK(choose(CALL_BEFORE_BODY "03 000000 00 00000000 00000000", 0, BUFFER) == YUGERZAT_ENDS);
     CHECK(ended_at(12, 32, 1) && out_untouched_from(0));
@@ -686,10 +645,10 @@ static void test_choose(void)
     of = "a call by AUTH_UNIX that is cut";
     cut(choose_by_message, YUGERZAT_HAND_OVER, 12, CALL_UNIX, 0);
     of = "a credential that is cut";
-    cut(choose_by_body, YUGERZAT_HAND_OVER, 12, samples[YUGERZAT_AUTH_UNIX].message, 32);
+    cut(choose_by_body, YUGERZAT_HAND_OVER, 12, samples[YUGERZAT_KIND_AUTH_UNIX].message, 32);
     of = "";
-    CHECK(choose("0000002A 00000000 00000002 000186A3 00000003 00000006 00000004 00000000 00000000 00000000", 0, BUFFER) ==
-          YUGERZAT_UNDECLARED);
+    CHECK(choose("0000002A 00000000 00000002 000186A3 00000003 00000006 00000004 00000000 00000000 00000000", 0,
+              BUFFER) == YUGERZAT_UNDECLARED);
     CHECK(refused_at(12, 24) && out_untouched_from(0));
     fresh();
     CHECK(yugerzat_choose(NULL, 0, 0, NULL, 0, info, 12) == YUGERZAT_ENDS && ended_at(12, 0, 4));
@@ -700,17 +659,18 @@ static void test_choose(void)
     memset(long_message, 0, sizeof long_message);
     memcpy(long_message, b.at, b.count);
     fresh();
-    CHECK(yugerzat_choose(long_message, YUGERZAT_LIMIT, 0, out, BUFFER, info, 12) == YUGERZAT_HAND_OVER && figures(12, nfs));
+    CHECK(yugerzat_choose(long_message, YUGERZAT_LIMIT_BYTES, 0, out, BUFFER, info, 12) == YUGERZAT_HAND_OVER &&
+          figures(12, nfs));
     fresh();
-    CHECK(yugerzat_choose(long_message, YUGERZAT_LIMIT + 1, 0, out, BUFFER, info, 12) == YUGERZAT_TOO_LONG);
+    CHECK(yugerzat_choose(long_message, YUGERZAT_LIMIT_BYTES + 1, 0, out, BUFFER, info, 12) == YUGERZAT_TOO_LONG);
     CHECK(refused_at(12, 0) && out_untouched_from(0));
 }
 
 /* ---- readers of values: what is common to all of one signature */
 
-typedef uint32_t reader(const uint8_t *, size_t, size_t, uint64_t *, size_t);
+typedef enum yugerzat_answer reader(const uint8_t *, size_t, size_t, uint64_t *, size_t);
 
-static uint32_t read_at(reader *read, const char *message, size_t at, size_t count)
+static enum yugerzat_answer read_at(reader *read, const char *message, size_t at, size_t count)
 {
     struct bytes b = hex(message);
     fresh();
@@ -721,28 +681,25 @@ static uint32_t read_at(reader *read, const char *message, size_t at, size_t cou
 static reader *reader_cut;
 static size_t figures_cut;
 
-static uint32_t read_by_reader(const uint8_t *message, size_t count, size_t first)
+static enum yugerzat_answer read_by_reader(const uint8_t *message, size_t count, size_t first)
 {
     return reader_cut(message, count, first, info, figures_cut);
 }
 
 static void reader_limits(const char *name, reader *read, size_t count, const char *message)
 {
-    struct bytes b = hex(message), later;
+    struct bytes b = hex(message), later = behind_five(&b);
     uint64_t took[FIGURES];
     of = name;
     CHECK(read_at(read, message, 0, count) == YUGERZAT_DONE);
-    CHECK(info[YUGERZAT_NEXT] == b.count && info[YUGERZAT_PLAIN] == 1 && info_untouched_from(count));
+    CHECK(info[YUGERZAT_FIGURE_NEXT] == b.count && info[YUGERZAT_FIGURE_PLAIN] == 1 && info_untouched_from(count));
     memcpy(took, info, sizeof took);
     /* a longer list than is wanted */
     CHECK(read_at(read, message, 0, FIGURES) == YUGERZAT_DONE && memcmp(took, info, sizeof took) == 0);
     /* from a later place */
-    memset(later.at, 0xFF, 5);
-    memcpy(later.at + 5, b.at, b.count);
-    later.count = b.count + 5;
     fresh();
     CHECK(read(later.at, later.count, 5, info, count) == YUGERZAT_DONE);
-    CHECK(info[YUGERZAT_NEXT] == b.count + 5 && info[YUGERZAT_PLAIN] == 1 && info_untouched_from(count));
+    CHECK(info[YUGERZAT_FIGURE_NEXT] == b.count + 5 && info[YUGERZAT_FIGURE_PLAIN] == 1 && info_untouched_from(count));
     /* cut at every place */
     reader_cut = read;
     figures_cut = count;
@@ -759,20 +716,22 @@ static void reader_limits(const char *name, reader *read, size_t count, const ch
     memset(long_message, 0, sizeof long_message);
     memcpy(long_message, b.at, b.count);
     fresh();
-    CHECK(read(long_message, YUGERZAT_LIMIT, 0, info, count) == YUGERZAT_DONE && memcmp(took, info, sizeof took) == 0);
+    CHECK(read(long_message, YUGERZAT_LIMIT_BYTES, 0, info, count) == YUGERZAT_DONE &&
+          memcmp(took, info, sizeof took) == 0);
     fresh();
-    CHECK(read(long_message, YUGERZAT_LIMIT + 1, 0, info, count) == YUGERZAT_TOO_LONG && refused_at(count, 0));
+    CHECK(read(long_message, YUGERZAT_LIMIT_BYTES + 1, 0, info, count) == YUGERZAT_TOO_LONG && refused_at(count, 0));
     fresh();
-    CHECK(read(long_message, YUGERZAT_LIMIT + 1, SIZE_MAX, info, count) == YUGERZAT_TOO_LONG && refused_at(count, 0));
+    CHECK(read(long_message, YUGERZAT_LIMIT_BYTES + 1, SIZE_MAX, info, count) == YUGERZAT_TOO_LONG &&
+          refused_at(count, 0));
     /* lists that are too short */
     CHECK(read_at(read, message, 0, count - 1) == YUGERZAT_SHORT_LIST && all_untouched());
     CHECK(read(b.at, b.count, 0, NULL, 0) == YUGERZAT_SHORT_LIST);
     of = "";
 }
 
-/* ---- yugerzat_judge */
+/* ---- yugerzat_read_rpc_msg */
 
-static void judged(const char *message, uint64_t next, uint64_t plain, uint64_t xid, uint64_t tag, const uint64_t *ten)
+static void header(const char *message, uint64_t next, uint64_t plain, uint64_t xid, uint64_t tag, const uint64_t *ten)
 {
     uint64_t due[14];
     of = message;
@@ -781,11 +740,11 @@ static void judged(const char *message, uint64_t next, uint64_t plain, uint64_t 
     due[2] = xid;
     due[3] = tag;
     memcpy(due + 4, ten, 10 * sizeof *ten);
-    CHECK(read_at(yugerzat_judge, message, 0, 14) == YUGERZAT_DONE && figures(14, due));
+    CHECK(read_at(yugerzat_read_rpc_msg, message, 0, 14) == YUGERZAT_DONE && figures(14, due));
     of = "";
 }
 
-static void test_judge(void)
+static void test_rpc_msg(void)
 {
     static const uint64_t zeros[10] = {0};
     static const uint64_t call[10] = {2, 100003, 3, 1, 1, 32, 3, 0, 44, 0};
@@ -796,32 +755,34 @@ static void test_judge(void)
     static const uint64_t garbage[10] = {0, 20, 0, 4, 0, 0};
     static const uint64_t denied[10] = {2, 3};
     static const uint64_t weak[10] = {5};
-    reader_limits("yugerzat_judge", yugerzat_judge, 14, samples[YUGERZAT_RPC_MSG].message);
-    reader_limits("yugerzat_judge of a reply", yugerzat_judge, 14,
-                  "0000002A 00000001 00000000 00000000 00000000 00000002 00000003 00000004");
-    reader_limits("yugerzat_judge of a denial", yugerzat_judge, 14, "0000002A 00000001 00000001 00000001 00000005");
-    judged("0000002A 00000000 00000002 000186A3 00000003 00000001 00000001 00000003 01020300 00000000 00000000", 44, 1, 42, 0,
-           call);
-    judged("FFFFFFFF 00000000 00000002 000186A3 00000003 00000001 00000003 00000001 01020300 00000002 00000000", 44, 0,
-           0xFFFFFFFF, 0, loose_call);
-    judged("0000002A 00000002", 8, 0, 42, 0, zeros);
-    judged("0000002A 00000001 00000000 00000000 00000002 AABB0000 00000000", 28, 1, 42, 1, accepted);
-    judged("0000002A 00000001 00000000 00000000 00000000 00000003", 24, 1, 42, 1, unavailable);
-    judged("0000002A 00000001 00000000 00000000 00000000 00000002 00000003 00000004", 32, 1, 42, 1, mismatch);
-    judged("0000002A 00000001 00000000 00000000 00000000 00000005", 24, 0, 42, 1, garbage);
-    judged("0000002A 00000001 00000002", 12, 0, 42, 1, zeros);
-    judged("0000002A 00000001 00000001 00000000 00000002 00000003", 24, 1, 42, 2, denied);
-    judged("0000002A 00000001 00000001 00000007", 16, 0, 42, 2, zeros);
-    judged("0000002A 00000001 00000001 00000001 00000005", 20, 1, 42, 3, weak);
-    CHECK(read_at(yugerzat_judge, "0000002A 00000001 00000001 00000001 00000006", 0, 14) == YUGERZAT_UNDECLARED);
+    reader_limits("yugerzat_read_rpc_msg", yugerzat_read_rpc_msg, 14, samples[YUGERZAT_KIND_RPC_MSG].message);
+    reader_limits("yugerzat_read_rpc_msg of a reply", yugerzat_read_rpc_msg, 14,
+        "0000002A 00000001 00000000 00000000 00000000 00000002 00000003 00000004");
+    reader_limits(
+        "yugerzat_read_rpc_msg of a denial", yugerzat_read_rpc_msg, 14, "0000002A 00000001 00000001 00000001 00000005");
+    header("0000002A 00000000 00000002 000186A3 00000003 00000001 00000001 00000003 01020300 00000000 00000000", 44, 1,
+        42, 0, call);
+    header("FFFFFFFF 00000000 00000002 000186A3 00000003 00000001 00000003 00000001 01020300 00000002 00000000", 44, 0,
+        0xFFFFFFFF, 0, loose_call);
+    header("0000002A 00000002", 8, 0, 42, 0, zeros);
+    header("0000002A 00000001 00000000 00000000 00000002 AABB0000 00000000", 28, 1, 42, 1, accepted);
+    header("0000002A 00000001 00000000 00000000 00000000 00000003", 24, 1, 42, 1, unavailable);
+    header("0000002A 00000001 00000000 00000000 00000000 00000002 00000003 00000004", 32, 1, 42, 1, mismatch);
+    header("0000002A 00000001 00000000 00000000 00000000 00000005", 24, 0, 42, 1, garbage);
+    header("0000002A 00000001 00000002", 12, 0, 42, 1, zeros);
+    header("0000002A 00000001 00000001 00000000 00000002 00000003", 24, 1, 42, 2, denied);
+    header("0000002A 00000001 00000001 00000007", 16, 0, 42, 2, zeros);
+    header("0000002A 00000001 00000001 00000001 00000005", 20, 1, 42, 3, weak);
+    CHECK(read_at(yugerzat_read_rpc_msg, "0000002A 00000001 00000001 00000001 00000006", 0, 14) == YUGERZAT_UNDECLARED);
     CHECK(refused_at(14, 16));
-    CHECK(read_at(yugerzat_judge, "0000002A 00000001 00000000 00000004 00000000 00000000", 0, 14) == YUGERZAT_UNDECLARED);
+    CHECK(read_at(yugerzat_read_rpc_msg, "0000002A 00000001 00000000 00000004 00000000 00000000", 0, 14) ==
+          YUGERZAT_UNDECLARED);
     CHECK(refused_at(14, 12));
 }
 
 /* ---- yugerzat_read_auth_unix */
 
-static uint32_t credential(const char *message, size_t at, size_t count, size_t list)
+static enum yugerzat_answer credential(const char *message, size_t at, size_t count, size_t list)
 {
     struct bytes b = hex(message);
     fresh();
@@ -829,9 +790,9 @@ static uint32_t credential(const char *message, size_t at, size_t count, size_t 
 }
 
 /* The end of the body is the end of the reading: eight bytes of the message lie behind it. */
-static uint32_t read_by_body(const uint8_t *message, size_t count, size_t first)
+static enum yugerzat_answer read_by_body(const uint8_t *message, size_t count, size_t first)
 {
-    return yugerzat_read_auth_unix(message, count + 8, first, count - first, info, YUGERZAT_AUTH_UNIX_FIGURES);
+    return yugerzat_read_auth_unix(message, count + 8, first, count - first, info, YUGERZAT_FIGURES_AUTH_UNIX);
 }
 
 static void test_auth_unix(void)
@@ -851,8 +812,8 @@ static void test_auth_unix(void)
     CHECK(credential(message, 4, 10, 9) == YUGERZAT_ENDS && ended_at(9, 8, 2));
     CHECK(credential(message, 4, 0, 9) == YUGERZAT_ENDS && ended_at(9, 4, 4));
     of = "a credential that is cut";
-    cut(read_by_body, YUGERZAT_DONE, 9, samples[YUGERZAT_AUTH_UNIX].message, 0);
-    cut(read_by_body, YUGERZAT_DONE, 9, samples[YUGERZAT_AUTH_UNIX].message, 4);
+    cut(read_by_body, YUGERZAT_DONE, 9, samples[YUGERZAT_KIND_AUTH_UNIX].message, 0);
+    cut(read_by_body, YUGERZAT_DONE, 9, samples[YUGERZAT_KIND_AUTH_UNIX].message, 4);
     of = "";
     /* a body that is not inside the message: as an empty one at its start */
     CHECK(credential(message, 4, 37, 9) == YUGERZAT_ENDS && ended_at(9, 0, 4));
@@ -870,71 +831,283 @@ static void test_auth_unix(void)
     CHECK(yugerzat_read_auth_unix(b.at, b.count, 4, 32, NULL, 0) == YUGERZAT_SHORT_LIST);
     memset(long_message, 0, sizeof long_message);
     fresh();
-    CHECK(yugerzat_read_auth_unix(long_message, YUGERZAT_LIMIT, 0, YUGERZAT_LIMIT, info, 9) == YUGERZAT_DONE && info[0] == 20);
+    CHECK(yugerzat_read_auth_unix(long_message, YUGERZAT_LIMIT_BYTES, 0, YUGERZAT_LIMIT_BYTES, info, 9) ==
+              YUGERZAT_DONE &&
+          info[0] == 20);
     fresh();
-    CHECK(yugerzat_read_auth_unix(long_message, YUGERZAT_LIMIT + 1, 0, 20, info, 9) == YUGERZAT_TOO_LONG && refused_at(9, 0));
+    CHECK(yugerzat_read_auth_unix(long_message, YUGERZAT_LIMIT_BYTES + 1, 0, 20, info, 9) == YUGERZAT_TOO_LONG &&
+          refused_at(9, 0));
 }
 
-/* ---- writers: what is common to all. A source stands in the closures below, so that one signature serves. */
+/* ---- writers: what is common to all */
 
-typedef uint32_t writer(const uint64_t *, size_t, uint8_t *, size_t, size_t, uint64_t *, size_t);
+typedef enum yugerzat_answer writer(const uint64_t *, size_t, uint8_t *, size_t, size_t, uint64_t *, size_t);
 
-static struct bytes source;
-
-static uint32_t write_diropargs3(const uint64_t *fields, size_t count, uint8_t *to, size_t room, size_t start, uint64_t *list,
-                                 size_t lists)
-{
-    return yugerzat_write_diropargs3(source.at, source.count, fields, count, to, room, start, list, lists);
-}
-
-static uint32_t write_call(const uint64_t *fields, size_t count, uint8_t *to, size_t room, size_t start, uint64_t *list,
-                           size_t lists)
-{
-    return yugerzat_write_call(source.at, source.count, fields, count, to, room, start, list, lists);
-}
-
-static int wide(writer *write, const uint64_t *fields, size_t count)
+static bool wide(writer *write, const uint64_t *fields, size_t count)
 {
     fresh();
     return write(fields, count, out, BUFFER, 0, info, 1) == YUGERZAT_WIDE_NUMBER && all_untouched();
 }
 
-static int writes(writer *write, const uint64_t *fields, size_t count, const char *due)
+static bool writes(writer *write, const uint64_t *fields, size_t count, const char *due)
 {
     struct bytes b = hex(due);
     fresh();
-    return write(fields, count, out, BUFFER, 0, info, 1) == YUGERZAT_DONE && info[0] == b.count && out_is(0, b) &&
+    return write(fields, count, out, BUFFER, 0, info, 1) == YUGERZAT_DONE && told(b.count) && out_is(0, due) &&
            out_untouched_from(b.count);
+}
+
+/* Whether the one figure of a writer is how many bytes it needs, or else 0, and nothing was written. */
+static bool refused_writing(uint64_t needed)
+{
+    return told(needed) && out_untouched_from(0);
 }
 
 static void writer_limits(const char *name, writer *write, const uint64_t *fields, size_t count, const char *due)
 {
     struct bytes b = hex(due);
+    size_t room;
     of = name;
-    CHECK(writes(write, fields, count, due) && info_untouched_from(1));
-    /* at a later place, into room that is just enough */
+    CHECK(writes(write, fields, count, due));
+    /* at a later place, into room that is just enough, and into all that is less */
     fresh();
-    CHECK(write(fields, count, out, b.count + 7, 7, info, 1) == YUGERZAT_DONE && info[0] == b.count + 7);
-    CHECK(out_untouched_before(7) && out_is(7, b) && out_untouched_from(b.count + 7));
-    /* one byte too short */
+    CHECK(write(fields, count, out, b.count + 7, 7, info, 1) == YUGERZAT_DONE && told(b.count + 7));
+    CHECK(out_untouched_before(7) && out_is(7, due) && out_untouched_from(b.count + 7));
+    for (room = 7; room < b.count + 7; room++) {
+        fresh();
+        CHECK(write(fields, count, out, room, 7, info, 1) == YUGERZAT_NO_ROOM && refused_writing(b.count));
+    }
     fresh();
-    CHECK(write(fields, count, out, b.count + 6, 7, info, 1) == YUGERZAT_NO_ROOM && refused_at(1, 0) && out_untouched_from(0));
+    CHECK(write(fields, count, out, b.count - 1, 0, info, 1) == YUGERZAT_NO_ROOM && refused_writing(b.count));
     fresh();
-    CHECK(write(fields, count, out, b.count - 1, 0, info, 1) == YUGERZAT_NO_ROOM && refused_at(1, 0) && out_untouched_from(0));
+    CHECK(write(fields, count, NULL, 0, 0, info, 1) == YUGERZAT_NO_ROOM && refused_writing(b.count));
     fresh();
-    CHECK(write(fields, count, NULL, 0, 0, info, 1) == YUGERZAT_NO_ROOM && refused_at(1, 0));
+    CHECK(write(fields, count, out, 9, 10, info, 1) == YUGERZAT_PAST_END && refused_writing(0));
     fresh();
-    CHECK(write(fields, count, out, 9, 9, info, 1) == YUGERZAT_NO_ROOM && refused_at(1, 0) && out_untouched_from(0));
-    fresh();
-    CHECK(write(fields, count, out, 9, 10, info, 1) == YUGERZAT_PAST_END && refused_at(1, 0) && out_untouched_from(0));
-    fresh();
-    CHECK(write(fields, count, out, BUFFER, SIZE_MAX, info, 1) == YUGERZAT_PAST_END && refused_at(1, 0) && out_untouched_from(0));
-    /* lists that are too short */
+    CHECK(write(fields, count, out, BUFFER, SIZE_MAX, info, 1) == YUGERZAT_PAST_END && refused_writing(0));
+    /* lists that are too short, and ones that are longer than they must be */
     fresh();
     CHECK(write(fields, count - 1, out, BUFFER, 0, info, 1) == YUGERZAT_SHORT_LIST && all_untouched());
     CHECK(write(NULL, 0, out, BUFFER, 0, info, 1) == YUGERZAT_SHORT_LIST && all_untouched());
     CHECK(write(fields, count, out, BUFFER, 0, NULL, 0) == YUGERZAT_SHORT_LIST && all_untouched());
+    CHECK(write(fields, count, out, BUFFER, 0, info, FIGURES) == YUGERZAT_DONE && told(b.count));
     of = "";
+}
+
+/* A number that does not fit comes before a place that is past the end, and a list that is too short before both. */
+static void wide_comes_early(writer *write, const uint64_t *wrong, size_t count)
+{
+    fresh();
+    CHECK(write(wrong, count, out, 9, 10, info, 1) == YUGERZAT_WIDE_NUMBER && all_untouched());
+    CHECK(write(wrong, count, out, 9, 10, NULL, 0) == YUGERZAT_SHORT_LIST && all_untouched());
+    CHECK(write(wrong, count - 1, out, 9, 10, info, 1) == YUGERZAT_SHORT_LIST && all_untouched());
+}
+
+/* ---- writers of two pieces, each from a source of its own */
+
+typedef enum yugerzat_answer pair_writer(const uint8_t *, size_t, const uint8_t *, size_t, const uint64_t *, size_t,
+    uint8_t *, size_t, size_t, uint64_t *, size_t);
+
+/* A writer, how many fields it has, where among them its two pieces stand, and how many bytes their units have. */
+struct pair {
+    const char *name;
+    pair_writer *write;
+    size_t count;
+    size_t at[2];
+    size_t unit[2];
+    size_t empty; /* how many bytes it writes for two empty pieces and zeros */
+};
+
+static const struct pair call_pair = {"yugerzat_write_call", yugerzat_write_call, 11, {6, 9}, {1, 1}, 40};
+static const struct pair unix_pair = {"yugerzat_write_auth_unix", yugerzat_write_auth_unix, 7, {1, 5}, {1, 4}, 20};
+static const struct pair name_pair = {"yugerzat_write_diropargs3", yugerzat_write_diropargs3, 4, {0, 2}, {1, 1}, 8};
+
+/* The sources stand here, so that the signature of a writer serves. */
+static struct bytes sources[2];
+
+static enum yugerzat_answer write_pair(const struct pair *pair, const uint64_t *fields, size_t count, uint8_t *to,
+    size_t room, size_t start, uint64_t *list, size_t lists)
+{
+    return pair->write(
+        sources[0].at, sources[0].count, sources[1].at, sources[1].count, fields, count, to, room, start, list, lists);
+}
+
+static enum yugerzat_answer write_call(
+    const uint64_t *fields, size_t count, uint8_t *to, size_t room, size_t start, uint64_t *list, size_t lists)
+{
+    return write_pair(&call_pair, fields, count, to, room, start, list, lists);
+}
+
+static enum yugerzat_answer write_auth_unix(
+    const uint64_t *fields, size_t count, uint8_t *to, size_t room, size_t start, uint64_t *list, size_t lists)
+{
+    return write_pair(&unix_pair, fields, count, to, room, start, list, lists);
+}
+
+static enum yugerzat_answer write_diropargs3(
+    const uint64_t *fields, size_t count, uint8_t *to, size_t room, size_t start, uint64_t *list, size_t lists)
+{
+    return write_pair(&name_pair, fields, count, to, room, start, list, lists);
+}
+
+/* Each piece is taken from its own source and judged by it. */
+static void pair_limits(const struct pair *pair)
+{
+    struct bytes one = hex("99AABBCC 0A0B0C0D 68656C6C 6F000000"), first = hex("FFAABBCC0A"),
+                 second = hex("00000C0D68656C6C6FEE");
+    struct bytes written;
+    uint64_t fields[11] = {0}, moved[11];
+    uint64_t *const place[2] = {fields + pair->at[0], fields + pair->at[1]};
+    size_t half, k, after;
+    of = pair->name;
+
+    /* from two buffers, as from one */
+    place[0][0] = 1;
+    place[0][1] = 4;
+    place[1][0] = 6;
+    place[1][1] = pair->unit[1] == 1 ? 7 : 1;
+    sources[0] = sources[1] = one;
+    fresh();
+    CHECK(write_pair(pair, fields, pair->count, out, BUFFER, 0, info, 1) == YUGERZAT_DONE && info[0] > pair->empty);
+    after = (size_t)info[0];
+    memcpy(written.at, out, after);
+    CHECK(out_untouched_from(after));
+    memcpy(moved, fields, sizeof moved);
+    moved[pair->at[1]] = 2;
+    sources[0] = first;
+    sources[1] = second;
+    fresh();
+    CHECK(write_pair(pair, moved, pair->count, out, BUFFER, 0, info, 1) == YUGERZAT_DONE && told(after));
+    CHECK(memcmp(out, written.at, after) == 0 && out_untouched_from(after));
+    /* each would lie outside the other's source */
+    sources[0] = second;
+    sources[1] = hex("FF");
+    fresh();
+    CHECK(write_pair(pair, moved, pair->count, out, BUFFER, 0, info, 1) == YUGERZAT_OUTSIDE && refused_writing(0));
+    sources[0] = hex("FF");
+    sources[1] = second;
+    fresh();
+    CHECK(write_pair(pair, moved, pair->count, out, BUFFER, 0, info, 1) == YUGERZAT_OUTSIDE && refused_writing(0));
+
+    /* pieces at the end, one byte past it, and past every number */
+    sources[0] = sources[1] = hex("00112233 44556677 8899AABB CCDDEEFF 01020304");
+    for (half = 0; half < 2; half++) {
+        size_t unit = pair->unit[half], most = 20 / unit;
+        const uint64_t outside[][2] = {{21, 0}, {20, 1}, {0, most + 1}, {1, most}, {UINT64_MAX, 1}, {1, UINT64_MAX},
+            {UINT64_MAX, UINT64_MAX}, {0x100000000, 0}, {0, 0x100000000}, {0, 0x4000000000000000}, {UINT64_MAX, 0}};
+        memset(fields, 0, sizeof fields);
+        place[half][0] = 20;
+        fresh();
+        CHECK(write_pair(pair, fields, pair->count, out, BUFFER, 0, info, 1) == YUGERZAT_DONE && told(pair->empty));
+        place[half][0] = 0;
+        place[half][1] = most;
+        fresh();
+        CHECK(
+            write_pair(pair, fields, pair->count, out, BUFFER, 0, info, 1) == YUGERZAT_DONE && told(pair->empty + 20));
+        for (k = 0; k < sizeof outside / sizeof *outside; k++) {
+            place[half][0] = outside[k][0];
+            place[half][1] = outside[k][1];
+            fresh();
+            CHECK(write_pair(pair, fields, pair->count, out, BUFFER, 0, info, 1) == YUGERZAT_OUTSIDE &&
+                  refused_writing(0));
+        }
+    }
+
+    /* no sources at all */
+    memset(fields, 0, sizeof fields);
+    fresh();
+    CHECK(pair->write(NULL, 0, NULL, 0, fields, pair->count, out, BUFFER, 0, info, 1) == YUGERZAT_DONE &&
+          info[0] == pair->empty);
+    CHECK(out_untouched_from(pair->empty));
+
+    /* an encoding as long as may be, one byte longer, and sources that are too long; the order of the refusals */
+    memset(long_message, 0x5A, sizeof long_message);
+    for (half = 0; half < 2; half++) {
+        size_t unit = pair->unit[half], most = YUGERZAT_LIMIT_BYTES - pair->empty;
+        const uint8_t *a = half ? NULL : long_message, *b = half ? long_message : NULL;
+        size_t full_a = half ? 0 : YUGERZAT_LIMIT_BYTES, full_b = half ? YUGERZAT_LIMIT_BYTES : 0;
+        size_t over_a = half ? 0 : YUGERZAT_LIMIT_BYTES + 1, over_b = half ? YUGERZAT_LIMIT_BYTES + 1 : 0;
+        memset(fields, 0, sizeof fields);
+        place[half][1] = most / unit;
+        memset(long_out, 0xEE, sizeof long_out);
+        fresh();
+        CHECK(pair->write(a, full_a, b, full_b, fields, pair->count, long_out, sizeof long_out, 0, info, 1) ==
+              YUGERZAT_DONE);
+        CHECK(told(YUGERZAT_LIMIT_BYTES) && long_out[YUGERZAT_LIMIT_BYTES] == 0xEE);
+        fresh();
+        CHECK(pair->write(a, full_a, b, full_b, fields, pair->count, out, BUFFER, 0, info, 1) == YUGERZAT_NO_ROOM);
+        CHECK(refused_writing(YUGERZAT_LIMIT_BYTES));
+        place[half][1]++;
+        memset(long_out, 0xEE, sizeof long_out);
+        fresh();
+        CHECK(pair->write(a, full_a, b, full_b, fields, pair->count, long_out, sizeof long_out, 0, info, 1) ==
+              YUGERZAT_TOO_LONG);
+        CHECK(told(0) && long_out_untouched());
+        fresh();
+        CHECK(pair->write(a, full_a, b, full_b, fields, pair->count, out, 0, 0, info, 1) == YUGERZAT_TOO_LONG);
+        CHECK(pair->write(a, full_a, b, full_b, fields, pair->count, out, 0, 1, info, 1) == YUGERZAT_PAST_END &&
+              refused_writing(0));
+        /* a source that is too long, though nothing of it is written, comes before a piece that lies outside */
+        memset(fields, 0, sizeof fields);
+        fresh();
+        CHECK(pair->write(a, over_a, b, over_b, fields, pair->count, out, BUFFER, 0, info, 1) == YUGERZAT_TOO_LONG &&
+              refused_writing(0));
+        for (k = 0; k < 2; k++) {
+            place[k][0] = UINT64_MAX;
+            fresh();
+            CHECK(pair->write(a, over_a, b, over_b, fields, pair->count, out, 0, 0, info, 1) == YUGERZAT_TOO_LONG &&
+                  refused_writing(0));
+            fresh();
+            CHECK(pair->write(a, over_a, b, over_b, fields, pair->count, out, 0, 1, info, 1) == YUGERZAT_PAST_END &&
+                  refused_writing(0));
+            /* a piece that lies outside comes before an encoding that is too long, and before room */
+            place[1 - k][1] = most;
+            fresh();
+            CHECK(pair->write(a, full_a, b, full_b, fields, pair->count, out, 0, 0, info, 1) == YUGERZAT_OUTSIDE &&
+                  refused_writing(0));
+            memset(fields, 0, sizeof fields);
+        }
+    }
+    of = "";
+}
+
+/* ---- auth_unix, written */
+
+static void test_write_auth_unix(void)
+{
+    static const uint64_t empty[7] = {0};
+    static const size_t words[] = {0, 3, 4};
+    const char *message = samples[YUGERZAT_KIND_AUTH_UNIX].message;
+    uint64_t fields[7];
+    size_t i;
+    /* what is read is written as it was */
+    sources[0] = sources[1] = hex(message);
+    fresh();
+    CHECK(yugerzat_read_auth_unix(sources[0].at, sources[0].count, 0, sources[0].count, info, 9) == YUGERZAT_DONE &&
+          info[1] == 1);
+    memcpy(fields, info + YUGERZAT_FIGURE_FIELDS, sizeof fields);
+    writer_limits("yugerzat_write_auth_unix", write_auth_unix, fields, YUGERZAT_FIGURES_WRITE_AUTH_UNIX, message);
+    /* a name and gids that were never in one message */
+    sources[0] = hex("FF 616263");
+    sources[1] = hex("FFFF 00000004 00000005 FF");
+    fields[1] = 1;
+    fields[5] = 2;
+    writer_limits("yugerzat_write_auth_unix from two sources", write_auth_unix, fields, 7, message);
+    sources[0].count = sources[1].count = 0;
+    writer_limits("yugerzat_write_auth_unix of nothing", write_auth_unix, empty, 7,
+        "00000000 00000000 00000000 00000000 00000000");
+    for (i = 0; i < sizeof words / sizeof *words; i++) {
+        memcpy(fields, empty, sizeof fields);
+        fields[words[i]] = 0x100000000;
+        CHECK(wide(write_auth_unix, fields, 7));
+        fields[words[i]] = UINT64_MAX;
+        CHECK(wide(write_auth_unix, fields, 7));
+        wide_comes_early(write_auth_unix, fields, 7);
+        fields[words[i]] = 0xFFFFFFFF;
+        fresh();
+        CHECK(write_auth_unix(fields, 7, out, BUFFER, 0, info, 1) == YUGERZAT_DONE && told(20));
+    }
+    pair_limits(&unix_pair);
 }
 
 /* ---- fattr3 */
@@ -942,24 +1115,24 @@ static void writer_limits(const char *name, writer *write, const uint64_t *field
 static void test_fattr3(void)
 {
     static const uint64_t due[19] = {84, 1, 2, 0x1ED, 3, 4, 5, 6, 7, 8, 9, 10, 11, 12, 13, 14, 15, 16, 17};
-    static const uint64_t largest[17] = {7,          0xFFFFFFFF, 0xFFFFFFFF, 0xFFFFFFFF, 0xFFFFFFFF, UINT64_MAX, UINT64_MAX,
-                                         0xFFFFFFFF, 0xFFFFFFFF, UINT64_MAX, UINT64_MAX, 0xFFFFFFFF, 0xFFFFFFFF, 0xFFFFFFFF,
-                                         0xFFFFFFFF, 0xFFFFFFFF, 0xFFFFFFFF};
-    const char *message = samples[YUGERZAT_FATTR3].message;
+    static const uint64_t largest[17] = {7, 0xFFFFFFFF, 0xFFFFFFFF, 0xFFFFFFFF, 0xFFFFFFFF, UINT64_MAX, UINT64_MAX,
+        0xFFFFFFFF, 0xFFFFFFFF, UINT64_MAX, UINT64_MAX, 0xFFFFFFFF, 0xFFFFFFFF, 0xFFFFFFFF, 0xFFFFFFFF, 0xFFFFFFFF,
+        0xFFFFFFFF};
+    const char *message = samples[YUGERZAT_KIND_FATTR3].message;
     uint64_t fields[17], back[17];
     size_t i;
-    reader_limits("yugerzat_read_fattr3", yugerzat_read_fattr3, YUGERZAT_FATTR3_FIGURES, message);
+    reader_limits("yugerzat_read_fattr3", yugerzat_read_fattr3, YUGERZAT_FIGURES_FATTR3, message);
     CHECK(read_at(yugerzat_read_fattr3, message, 0, 19) == YUGERZAT_DONE && figures(19, due));
     CHECK(read_at(yugerzat_read_fattr3, "00000000 00000000", 0, 19) == YUGERZAT_UNDECLARED && refused_at(19, 0));
     CHECK(read_at(yugerzat_read_fattr3, "00000000 00000008", 4, 19) == YUGERZAT_UNDECLARED && refused_at(19, 4));
 
-    memcpy(fields, due + YUGERZAT_FIELDS, sizeof fields);
-    writer_limits("yugerzat_write_fattr3", yugerzat_write_fattr3, fields, YUGERZAT_FATTR3_FIELDS, message);
+    memcpy(fields, due + YUGERZAT_FIGURE_FIELDS, sizeof fields);
+    writer_limits("yugerzat_write_fattr3", yugerzat_write_fattr3, fields, YUGERZAT_FIGURES_WRITE_FATTR3, message);
     /* each field at its largest number, and past it */
     fresh();
-    CHECK(yugerzat_write_fattr3(largest, 17, out, YUGERZAT_FATTR3_SIZE_OF, 0, info, 1) == YUGERZAT_DONE && info[0] == 84);
+    CHECK(yugerzat_write_fattr3(largest, 17, out, YUGERZAT_FATTR3_BYTES, 0, info, 1) == YUGERZAT_DONE && info[0] == 84);
     CHECK(yugerzat_read_fattr3(out, 84, 0, info, 19) == YUGERZAT_DONE);
-    memcpy(back, info + YUGERZAT_FIELDS, sizeof back);
+    memcpy(back, info + YUGERZAT_FIGURE_FIELDS, sizeof back);
     CHECK(memcmp(back, largest, sizeof back) == 0);
     for (i = 0; i < 17; i++) {
         memcpy(fields, largest, sizeof fields);
@@ -986,34 +1159,36 @@ static void test_sattr3(void)
     static const uint64_t server[16] = {24, 1, 0, 0, 0, 0, 0, 0, 0, 0, 1, 0, 0, 1, 0, 0};
     static const uint64_t truncation[16] = {32, 0, 0, 0, 0, 0, 0, 0, 1, 0};
     static const size_t words[] = {1, 3, 5, 9, 10, 12, 13};
-    const char *message = samples[YUGERZAT_SATTR3].message;
+    const char *message = samples[YUGERZAT_KIND_SATTR3].message;
     const char *nothing = "00000000 00000000 00000000 00000000 00000000 00000000";
     uint64_t fields[14];
     size_t i;
-    reader_limits("yugerzat_read_sattr3", yugerzat_read_sattr3, YUGERZAT_SATTR3_FIGURES, message);
-    reader_limits("yugerzat_read_sattr3 of nothing", yugerzat_read_sattr3, YUGERZAT_SATTR3_FIGURES, nothing);
+    reader_limits("yugerzat_read_sattr3", yugerzat_read_sattr3, YUGERZAT_FIGURES_SATTR3, message);
+    reader_limits("yugerzat_read_sattr3 of nothing", yugerzat_read_sattr3, YUGERZAT_FIGURES_SATTR3, nothing);
     CHECK(read_at(yugerzat_read_sattr3, message, 0, 16) == YUGERZAT_DONE && figures(16, full));
     CHECK(read_at(yugerzat_read_sattr3, nothing, 0, 16) == YUGERZAT_DONE && figures(16, empty));
-    CHECK(read_at(yugerzat_read_sattr3, "00000000 00000000 00000000 00000000 00000001 00000001", 0, 16) == YUGERZAT_DONE);
+    CHECK(
+        read_at(yugerzat_read_sattr3, "00000000 00000000 00000000 00000000 00000001 00000001", 0, 16) == YUGERZAT_DONE);
     CHECK(figures(16, server));
     /* the flag that is not 1: the truncation is not lost */
-    CHECK(read_at(yugerzat_read_sattr3, "00000000 00000000 00000000 FFFFFFFF 0000000000000000 00000000 00000000", 0, 16) ==
-          YUGERZAT_DONE);
+    CHECK(read_at(yugerzat_read_sattr3, "00000000 00000000 00000000 FFFFFFFF 0000000000000000 00000000 00000000", 0,
+              16) == YUGERZAT_DONE);
     CHECK(figures(16, truncation));
-    CHECK(read_at(yugerzat_read_sattr3, "00000000 00000000 00000000 00000000 00000003 00000000", 0, 16) == YUGERZAT_UNDECLARED);
+    CHECK(read_at(yugerzat_read_sattr3, "00000000 00000000 00000000 00000000 00000003 00000000", 0, 16) ==
+          YUGERZAT_UNDECLARED);
     CHECK(refused_at(16, 16));
 
-    memcpy(fields, full + YUGERZAT_FIELDS, sizeof fields);
-    writer_limits("yugerzat_write_sattr3", yugerzat_write_sattr3, fields, YUGERZAT_SATTR3_FIELDS, message);
+    memcpy(fields, full + YUGERZAT_FIGURE_FIELDS, sizeof fields);
+    writer_limits("yugerzat_write_sattr3", yugerzat_write_sattr3, fields, YUGERZAT_FIGURES_WRITE_SATTR3, message);
     for (i = 0; i < sizeof words / sizeof *words; i++) {
-        memcpy(fields, full + YUGERZAT_FIELDS, sizeof fields);
+        memcpy(fields, full + YUGERZAT_FIGURE_FIELDS, sizeof fields);
         fields[words[i]] = 0x100000000;
         CHECK(wide(yugerzat_write_sattr3, fields, 14));
         fields[words[i]] = UINT64_MAX;
         CHECK(wide(yugerzat_write_sattr3, fields, 14));
     }
     for (i = 8; i <= 11; i += 3) {
-        memcpy(fields, full + YUGERZAT_FIELDS, sizeof fields);
+        memcpy(fields, full + YUGERZAT_FIGURE_FIELDS, sizeof fields);
         fields[i] = 3;
         CHECK(wide(yugerzat_write_sattr3, fields, 14));
         fields[i] = 0x100000002;
@@ -1023,8 +1198,8 @@ static void test_sattr3(void)
     memset(fields, 0, sizeof fields);
     fields[6] = UINT64_MAX;
     fields[7] = UINT64_MAX;
-    CHECK(writes(yugerzat_write_sattr3, fields, 14,
-                 "00000000 00000000 00000000 00000001 FFFFFFFFFFFFFFFF 00000000 00000000"));
+    CHECK(writes(
+        yugerzat_write_sattr3, fields, 14, "00000000 00000000 00000000 00000001 FFFFFFFFFFFFFFFF 00000000 00000000"));
     /* what is not set is not looked at */
     memset(fields, 0, sizeof fields);
     fields[1] = fields[3] = fields[5] = fields[7] = fields[9] = fields[10] = fields[12] = fields[13] = UINT64_MAX;
@@ -1039,67 +1214,27 @@ static void test_diropargs3(void)
 {
     static const uint64_t due[6] = {20, 1, 4, 4, 12, 5};
     static const uint64_t dirty[6] = {20, 0, 4, 4, 12, 5};
-    static const uint64_t empty[4] = {0};
-    const char *message = samples[YUGERZAT_DIROPARGS3].message;
+    const char *message = samples[YUGERZAT_KIND_DIROPARGS3].message;
     uint64_t fields[4] = {4, 4, 12, 5};
-    size_t i;
-    reader_limits("yugerzat_read_diropargs3", yugerzat_read_diropargs3, YUGERZAT_DIROPARGS3_FIGURES, message);
+    reader_limits("yugerzat_read_diropargs3", yugerzat_read_diropargs3, YUGERZAT_FIGURES_DIROPARGS3, message);
     CHECK(read_at(yugerzat_read_diropargs3, message, 0, 6) == YUGERZAT_DONE && figures(6, due));
     CHECK(read_at(yugerzat_read_diropargs3, "00000004 0A0B0C0D 00000005 68656C6C 6F0000FF", 0, 6) == YUGERZAT_DONE);
     CHECK(figures(6, dirty));
     CHECK(read_at(yugerzat_read_diropargs3, "00000000 FFFFFFFF 00000000", 0, 6) == YUGERZAT_ENDS);
     CHECK(ended_at(6, 4, 4294967292));
 
-    source = hex(message);
-    writer_limits("yugerzat_write_diropargs3", write_diropargs3, fields, YUGERZAT_DIROPARGS3_FIELDS, message);
-    /* pieces: at the end, one byte past it, and past every number */
+    sources[0] = sources[1] = hex(message);
+    writer_limits("yugerzat_write_diropargs3", write_diropargs3, fields, YUGERZAT_FIGURES_WRITE_DIROPARGS3, message);
     fields[0] = 20;
     fields[1] = 0;
     CHECK(writes(write_diropargs3, fields, 4, "00000000 00000005 68656C6C 6F000000"));
-    for (i = 0; i < 4; i += 2) {
-        static const uint64_t outside[][2] = {{21, 0}, {20, 1}, {0, 21}, {1, 20}, {UINT64_MAX, 1}, {1, UINT64_MAX},
-                                              {UINT64_MAX, UINT64_MAX}, {0x100000000, 0}, {0, 0x100000000}};
-        size_t k;
-        for (k = 0; k < sizeof outside / sizeof *outside; k++) {
-            memset(fields, 0, sizeof fields);
-            fields[i] = outside[k][0];
-            fields[i + 1] = outside[k][1];
-            fresh();
-            CHECK(write_diropargs3(fields, 4, out, BUFFER, 0, info, 1) == YUGERZAT_OUTSIDE);
-            CHECK(refused_at(1, 0) && out_untouched_from(0));
-        }
-    }
-    fresh();
-    CHECK(yugerzat_write_diropargs3(NULL, 0, empty, 4, out, BUFFER, 0, info, 1) == YUGERZAT_DONE && info[0] == 8);
-    CHECK(out_is(0, hex("00000000 00000000")) && out_untouched_from(8));
-
-    /* an encoding as long as may be, one byte longer, and a source that is too long; the order of the refusals */
-    memset(long_message, 0x5A, sizeof long_message);
-    memset(long_out, 0xEE, sizeof long_out);
+    /* a handle and a name that were never in one message */
+    sources[0] = hex("0A0B0C0D");
+    sources[1] = hex("68656C6C 6F");
     fields[0] = fields[2] = 0;
-    fields[1] = YUGERZAT_LIMIT - 8;
-    fields[3] = 0;
-    fresh();
-    CHECK(yugerzat_write_diropargs3(long_message, YUGERZAT_LIMIT, fields, 4, long_out, sizeof long_out, 0, info, 1) == YUGERZAT_DONE);
-    CHECK(info[0] == YUGERZAT_LIMIT && long_out[YUGERZAT_LIMIT] == 0xEE);
-    fields[1] = YUGERZAT_LIMIT - 7;
-    memset(long_out, 0xEE, sizeof long_out);
-    fresh();
-    CHECK(yugerzat_write_diropargs3(long_message, YUGERZAT_LIMIT, fields, 4, long_out, sizeof long_out, 0, info, 1) == YUGERZAT_TOO_LONG);
-    CHECK(refused_at(1, 0) && long_out[0] == 0xEE && memcmp(long_out, long_out + 1, sizeof long_out - 1) == 0);
-    fresh();
-    CHECK(yugerzat_write_diropargs3(long_message, YUGERZAT_LIMIT + 1, empty, 4, out, BUFFER, 0, info, 1) == YUGERZAT_TOO_LONG);
-    CHECK(refused_at(1, 0) && out_untouched_from(0));
-    fields[0] = UINT64_MAX;
-    fresh();
-    CHECK(yugerzat_write_diropargs3(long_message, YUGERZAT_LIMIT + 1, fields, 4, out, 0, 1, info, 1) == YUGERZAT_PAST_END);
-    CHECK(yugerzat_write_diropargs3(long_message, YUGERZAT_LIMIT + 1, fields, 4, out, 0, 0, info, 1) == YUGERZAT_TOO_LONG);
-    CHECK(yugerzat_write_diropargs3(long_message, YUGERZAT_LIMIT, fields, 4, out, 0, 0, info, 1) == YUGERZAT_OUTSIDE);
-    fields[0] = 0;
-    CHECK(yugerzat_write_diropargs3(long_message, YUGERZAT_LIMIT, fields, 4, out, 0, 0, info, 1) == YUGERZAT_TOO_LONG);
-    fields[1] = YUGERZAT_LIMIT - 8;
-    CHECK(yugerzat_write_diropargs3(long_message, YUGERZAT_LIMIT, fields, 4, out, 0, 0, info, 1) == YUGERZAT_NO_ROOM);
-    CHECK(refused_at(1, 0) && out_untouched_from(0));
+    fields[1] = 4;
+    writer_limits("yugerzat_write_diropargs3 from two sources", write_diropargs3, fields, 4, message);
+    pair_limits(&name_pair);
 }
 
 /* ---- call */
@@ -1107,22 +1242,30 @@ static void test_diropargs3(void)
 static void test_call(void)
 {
     static const uint64_t call[11] = {42, 2, 100003, 3, 1, 1, 1, 3, 0, 0, 0};
+    static const uint64_t signed_call[11] = {42, 2, 100003, 3, 1, 1, 1, 3, 2, 2, 5};
     static const uint64_t nothing[11] = {0};
     static const char *const due =
         "0000002A 00000000 00000002 000186A3 00000003 00000001 00000001 00000003 AABBCC00 00000000 00000000";
     uint64_t fields[11];
     size_t i;
-    source = hex("99AABBCC");
-    writer_limits("yugerzat_write_call", write_call, call, YUGERZAT_WRITE_CALL_FIELDS, due);
+    sources[0] = hex("99AABBCC");
+    sources[1] = hex("99AABBCC");
+    writer_limits("yugerzat_write_call", write_call, call, YUGERZAT_FIGURES_WRITE_CALL, due);
+    sources[1] = hex("0000 1122334455 66");
+    writer_limits("yugerzat_write_call from two sources", write_call, signed_call, 11,
+        "0000002A 00000000 00000002 000186A3 00000003 00000001 00000001 00000003 AABBCC00"
+        "00000002 00000005 11223344 55000000");
     fresh();
-    CHECK(yugerzat_write_call(NULL, 0, nothing, 11, out, BUFFER, 0, info, 1) == YUGERZAT_DONE && info[0] == 40);
-    CHECK(out_untouched_from(40) && yugerzat_judge(out, 40, 0, info, 14) == YUGERZAT_DONE && info[1] == 1);
+    CHECK(
+        yugerzat_write_call(NULL, 0, NULL, 0, nothing, 11, out, BUFFER, 0, info, 1) == YUGERZAT_DONE && info[0] == 40);
+    CHECK(out_untouched_from(40) && yugerzat_read_rpc_msg(out, 40, 0, info, 14) == YUGERZAT_DONE && info[1] == 1);
     for (i = 0; i < 5; i++) {
         memcpy(fields, call, sizeof fields);
         fields[i] = 0x100000000;
         CHECK(wide(write_call, fields, 11));
         fields[i] = UINT64_MAX;
         CHECK(wide(write_call, fields, 11));
+        wide_comes_early(write_call, fields, 11);
         fields[i] = 0xFFFFFFFF;
         fresh();
         CHECK(write_call(fields, 11, out, BUFFER, 0, info, 1) == YUGERZAT_DONE);
@@ -1133,43 +1276,164 @@ static void test_call(void)
         CHECK(wide(write_call, fields, 11));
         fields[i] = 0x100000000;
         CHECK(wide(write_call, fields, 11));
+        wide_comes_early(write_call, fields, 11);
         fields[i] = 3;
         fresh();
         CHECK(write_call(fields, 11, out, BUFFER, 0, info, 1) == YUGERZAT_DONE);
-        memcpy(fields, call, sizeof fields);
-        fields[i + 1] = 2;
-        fields[i + 2] = 3;
+    }
+    pair_limits(&call_pair);
+}
+
+/* ---- reply */
+
+static struct bytes reply_source;
+
+static enum yugerzat_answer write_reply(
+    const uint64_t *fields, size_t count, uint8_t *to, size_t room, size_t start, uint64_t *list, size_t lists)
+{
+    return yugerzat_write_reply(reply_source.at, reply_source.count, fields, count, to, room, start, list, lists);
+}
+
+/* What is read of a plain reply is written as it was; so is what has rubbish where the tag has no use for it. */
+static void reply_back(const char *message, uint64_t tag, size_t used)
+{
+    uint64_t fields[8];
+    size_t i;
+    of = message;
+    reply_source = hex(message);
+    CHECK(read_at(yugerzat_read_rpc_msg, message, 0, 14) == YUGERZAT_DONE && info[1] == 1 && info[3] == tag);
+    memcpy(fields, info + YUGERZAT_FIGURE_FIELDS, sizeof fields);
+    writer_limits(message, write_reply, fields, YUGERZAT_FIGURES_WRITE_REPLY, message);
+    for (i = used; i < 8; i++)
+        fields[i] = UINT64_MAX;
+    CHECK(writes(write_reply, fields, 8, message));
+    of = "";
+}
+
+/* A field of a reply that may not be over a number, nor under another. */
+static void reply_range(const uint64_t *reply, size_t at, uint64_t least, uint64_t most)
+{
+    uint64_t fields[8];
+    memcpy(fields, reply, sizeof fields);
+    fields[at] = most;
+    fresh();
+    CHECK(write_reply(fields, 8, out, BUFFER, 0, info, 1) == YUGERZAT_DONE);
+    fields[at] = least;
+    fresh();
+    CHECK(write_reply(fields, 8, out, BUFFER, 0, info, 1) == YUGERZAT_DONE);
+    if (least) {
+        fields[at] = least - 1;
+        CHECK(wide(write_reply, fields, 8));
+    }
+    fields[at] = most + 1;
+    CHECK(wide(write_reply, fields, 8));
+    fields[at] = 0x100000000 + least;
+    CHECK(wide(write_reply, fields, 8));
+    fields[at] = UINT64_MAX;
+    CHECK(wide(write_reply, fields, 8));
+    wide_comes_early(write_reply, fields, 8);
+}
+
+static void test_reply(void)
+{
+    static const uint64_t success[8] = {42, YUGERZAT_TAG_ACCEPTED, YUGERZAT_AUTH_SHORT, 1, 3, YUGERZAT_SUCCESS, 0, 0};
+    static const uint64_t mismatch[8] = {42, YUGERZAT_TAG_ACCEPTED, 0, 0, 0, YUGERZAT_PROG_MISMATCH, 2, 3};
+    static const uint64_t version[8] = {42, YUGERZAT_TAG_DENIED_VERSION, 2, 3};
+    static const uint64_t weak[8] = {42, YUGERZAT_TAG_DENIED_AUTH, YUGERZAT_AUTH_TOOWEAK};
+    static const uint64_t tags[] = {YUGERZAT_TAG_CALL, 4, 5, 0x100000001, UINT64_MAX};
+    static const uint64_t outside[][2] = {
+        {5, 0}, {4, 1}, {0, 5}, {1, 4}, {UINT64_MAX, 1}, {1, UINT64_MAX}, {0, 0x100000000}};
+    uint64_t fields[8];
+    size_t i;
+    /* every arm and every status */
+    reply_back("0000002A 00000001 00000000 00000000 00000000 00000000", 1, 6);
+    reply_back("FFFFFFFF 00000001 00000000 00000003 00000005 11223344 55000000 00000000", 1, 6);
+    reply_back("0000002A 00000001 00000000 00000001 00000004 11223344 00000001", 1, 6);
+    reply_back("0000002A 00000001 00000000 00000000 00000000 00000002 00000003 FFFFFFFF", 1, 8);
+    reply_back("0000002A 00000001 00000000 00000002 00000001 99000000 00000002 00000000 00000001", 1, 8);
+    reply_back("0000002A 00000001 00000000 00000000 00000000 00000003", 1, 6);
+    reply_back("0000002A 00000001 00000000 00000000 00000000 00000004", 1, 6);
+    reply_back("0000002A 00000001 00000001 00000000 00000002 FFFFFFFF", 2, 4);
+    reply_back("00000000 00000001 00000001 00000001 00000001", 3, 3);
+    reply_back("0000002A 00000001 00000001 00000001 00000002", 3, 3);
+    reply_back("0000002A 00000001 00000001 00000001 00000003", 3, 3);
+    reply_back("0000002A 00000001 00000001 00000001 00000004", 3, 3);
+    reply_back("0000002A 00000001 00000001 00000001 00000005", 3, 3);
+
+    /* numbers that do not fit, in the arms that use them */
+    reply_source = hex("99AABBCC");
+    CHECK(writes(write_reply, success, 8, "0000002A 00000001 00000000 00000002 00000003 AABBCC00 00000000"));
+    reply_range(success, 0, 0, 0xFFFFFFFF);
+    reply_range(success, 2, YUGERZAT_AUTH_NULL, YUGERZAT_AUTH_DES);
+    reply_range(success, 5, YUGERZAT_SUCCESS, YUGERZAT_GARBAGE_ARGS);
+    reply_range(mismatch, 6, 0, 0xFFFFFFFF);
+    reply_range(mismatch, 7, 0, 0xFFFFFFFF);
+    reply_range(version, 0, 0, 0xFFFFFFFF);
+    reply_range(version, 2, 0, 0xFFFFFFFF);
+    reply_range(version, 3, 0, 0xFFFFFFFF);
+    reply_range(weak, 0, 0, 0xFFFFFFFF);
+    reply_range(weak, 2, YUGERZAT_AUTH_BADCRED, YUGERZAT_AUTH_TOOWEAK);
+    for (i = 0; i < sizeof tags / sizeof *tags; i++) {
+        memcpy(fields, success, sizeof fields);
+        fields[1] = tags[i];
+        CHECK(wide(write_reply, fields, 8));
+        wide_comes_early(write_reply, fields, 8);
+    }
+
+    /* the verifier outside its source, an encoding and a source that are too long, and the order of the refusals */
+    for (i = 0; i < sizeof outside / sizeof *outside; i++) {
+        memcpy(fields, success, sizeof fields);
+        fields[3] = outside[i][0];
+        fields[4] = outside[i][1];
         fresh();
-        CHECK(write_call(fields, 11, out, BUFFER, 0, info, 1) == YUGERZAT_OUTSIDE && refused_at(1, 0) && out_untouched_from(0));
-        fields[i + 1] = UINT64_MAX;
+        CHECK(write_reply(fields, 8, out, BUFFER, 0, info, 1) == YUGERZAT_OUTSIDE && refused_writing(0));
         fresh();
-        CHECK(write_call(fields, 11, out, BUFFER, 0, info, 1) == YUGERZAT_OUTSIDE && refused_at(1, 0) && out_untouched_from(0));
+        CHECK(write_reply(fields, 8, out, 0, 0, info, 1) == YUGERZAT_OUTSIDE && refused_writing(0));
+        fresh();
+        CHECK(write_reply(fields, 8, out, 0, 1, info, 1) == YUGERZAT_PAST_END && refused_writing(0));
+        fresh();
+        CHECK(yugerzat_write_reply(long_message, YUGERZAT_LIMIT_BYTES + 1, fields, 8, out, 0, 0, info, 1) ==
+              YUGERZAT_TOO_LONG);
+        CHECK(refused_writing(0));
     }
     memset(long_message, 0x5A, sizeof long_message);
-    memcpy(fields, nothing, sizeof fields);
-    fields[7] = YUGERZAT_LIMIT - 40;
+    memset(long_out, 0xEE, sizeof long_out);
+    memcpy(fields, success, sizeof fields);
+    fields[3] = 0;
+    fields[4] = YUGERZAT_LIMIT_BYTES - 24;
+    fresh();
+    CHECK(yugerzat_write_reply(long_message, YUGERZAT_LIMIT_BYTES, fields, 8, long_out, sizeof long_out, 0, info, 1) ==
+          YUGERZAT_DONE);
+    CHECK(told(YUGERZAT_LIMIT_BYTES) && long_out[YUGERZAT_LIMIT_BYTES] == 0xEE);
+    fresh();
+    CHECK(yugerzat_write_reply(long_message, YUGERZAT_LIMIT_BYTES, fields, 8, out, BUFFER, 0, info, 1) ==
+          YUGERZAT_NO_ROOM);
+    CHECK(refused_writing(YUGERZAT_LIMIT_BYTES));
+    fields[4]++;
     memset(long_out, 0xEE, sizeof long_out);
     fresh();
-    CHECK(yugerzat_write_call(long_message, YUGERZAT_LIMIT, fields, 11, long_out, sizeof long_out, 0, info, 1) == YUGERZAT_DONE);
-    CHECK(info[0] == YUGERZAT_LIMIT && long_out[YUGERZAT_LIMIT] == 0xEE);
-    fields[7]++;
+    CHECK(yugerzat_write_reply(long_message, YUGERZAT_LIMIT_BYTES, fields, 8, long_out, sizeof long_out, 0, info, 1) ==
+          YUGERZAT_TOO_LONG);
+    CHECK(told(0) && long_out_untouched());
+    /* a denial has no verifier, but a source that is too long is refused all the same */
     fresh();
-    CHECK(yugerzat_write_call(long_message, YUGERZAT_LIMIT, fields, 11, out, BUFFER, 0, info, 1) == YUGERZAT_TOO_LONG);
-    CHECK(refused_at(1, 0) && out_untouched_from(0));
+    CHECK(yugerzat_write_reply(long_message, YUGERZAT_LIMIT_BYTES + 1, weak, 8, out, BUFFER, 0, info, 1) ==
+          YUGERZAT_TOO_LONG);
+    CHECK(refused_writing(0));
     fresh();
-    CHECK(yugerzat_write_call(long_message, YUGERZAT_LIMIT + 1, nothing, 11, out, BUFFER, 0, info, 1) == YUGERZAT_TOO_LONG);
-    CHECK(refused_at(1, 0) && out_untouched_from(0));
+    CHECK(yugerzat_write_reply(NULL, 0, weak, 8, out, BUFFER, 0, info, 1) == YUGERZAT_DONE && told(20));
 }
 
 /* ---- yugerzat_part */
 
-static int part(size_t length, size_t at, size_t count, uint32_t answer, uint64_t first, uint64_t second)
+static bool part(size_t length, size_t at, size_t count, enum yugerzat_answer answer, uint64_t first, uint64_t second)
 {
     uint64_t due[2];
     due[0] = first;
     due[1] = second;
     fresh();
-    return yugerzat_part(length ? out : NULL, length, at, count, info, 2) == answer && figures(2, due) && out_untouched_from(0);
+    return yugerzat_part(length ? out : NULL, length, at, count, info, 2) == answer && figures(2, due) &&
+           out_untouched_from(0);
 }
 
 static void test_part(void)
@@ -1191,17 +1455,18 @@ static void test_part(void)
 
 int main(void)
 {
-    test_read();
+    test_kinds();
     test_fragment();
     test_feed();
     test_choose();
-    test_judge();
+    test_rpc_msg();
     test_auth_unix();
+    test_write_auth_unix();
     test_fattr3();
     test_sattr3();
     test_diropargs3();
     test_call();
+    test_reply();
     test_part();
-    printf("%lu passed, %lu failed\n", passed, failed);
-    return failed ? EXIT_FAILURE : EXIT_SUCCESS;
+    return total();
 }

@@ -8,7 +8,7 @@ fn main() {
         return;
     }
     let here = PathBuf::from(env::var("CARGO_MANIFEST_DIR").expect("cargo names this folder"));
-    let library = env::var("DOOR_LIB").map_or_else(|_| here.join("../target/native/libyugerzat.a"), PathBuf::from);
+    let library = env::var("DOOR_LIB").map_or_else(|_| here.join("../build/libyugerzat.a"), PathBuf::from);
     let library = library.canonicalize().unwrap_or_else(|e| panic!("no library at {}: {e}", library.display()));
     println!("cargo:rerun-if-changed={}", library.display());
     println!("cargo:rustc-link-arg-bins={}", library.display());

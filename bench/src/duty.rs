@@ -44,7 +44,7 @@ macro_rules! rewritten {
                 for room in [0, 23, 24, 40, 83, 84, ROOM] {
                     let (p, n) = (src.as_ptr(), src.len());
                     // SAFETY: every address comes with the length of what lies there.
-                    let ours = left(|info, out| unsafe { yugerzat_read($kind, p, n, at, out, room, info, 3) });
+                    let ours = left(|info, out| unsafe { yugerzat_rewrite($kind, p, n, at, out, room, info, 3) });
                     // SAFETY: as above.
                     let floor = left(|info, out| unsafe { $floor(p, n, at, out, room, info, 3) });
                     same(stringify!($floor), &src, ours, floor);
@@ -106,14 +106,24 @@ macro_rules! written {
     };
 }
 
-/// A writer as a closure over what all writers take; `source` is the message that pieces are of, for those that have any.
+/// A writer as a closure over what all writers take; the sources are the messages that pieces are of, for those that have
+/// any.
 macro_rules! writer {
-    ($function:ident $(, $source:expr)?) => {
+    ($function:ident $(, $source:expr)*) => {
         // SAFETY: as above.
         |fields, count, out, room, start, info| unsafe {
-            $function($($source.as_ptr(), $source.len(),)? fields, count, out, room, start, info, 1)
+            $function($($source.as_ptr(), $source.len(),)* fields, count, out, room, start, info, 1)
         }
     };
+}
+
+/// Judging, as a reader of one kind.
+///
+/// # Safety
+/// Every address comes with the length of what lies there.
+unsafe fn judge_rpc_msg(src: *const u8, len: usize, at: usize, info: *mut u64, infos: usize) -> u32 {
+    // SAFETY: as above.
+    unsafe { yugerzat_judge(20, src, len, at, info, infos) }
 }
 
 /// Compares, and says how many answers were compared.
@@ -129,16 +139,19 @@ pub fn same_duty() -> u64 {
     rewritten!(count, 44, floor_copy_sattr3, messages::sattr3_empty());
     rewritten!(count, 45, floor_copy_diropargs3, messages::diropargs3());
     rewritten!(count, 6, floor_copy_opaque, messages::opaque(b"hello"));
-    read!(count, yugerzat_judge, floor_judge, 14, messages::call());
-    read!(count, yugerzat_judge, floor_judge, 14, messages::reply(&[0, 0, 0, 2, 3, 4]));
-    read!(count, yugerzat_judge, floor_judge, 14, messages::reply(&[1, 0, 3, 4]));
-    read!(count, yugerzat_judge, floor_judge, 14, messages::reply(&[1, 1, 3]));
+    read!(count, yugerzat_read_rpc_msg, floor_read_rpc_msg, 14, messages::call());
+    read!(count, yugerzat_read_rpc_msg, floor_read_rpc_msg, 14, messages::reply(&[0, 0, 0, 2, 3, 4]));
+    read!(count, yugerzat_read_rpc_msg, floor_read_rpc_msg, 14, messages::reply(&[1, 0, 3, 4]));
+    read!(count, yugerzat_read_rpc_msg, floor_read_rpc_msg, 14, messages::reply(&[1, 1, 3]));
+    read!(count, judge_rpc_msg, floor_judge_rpc_msg, 3, messages::call());
+    read!(count, judge_rpc_msg, floor_judge_rpc_msg, 3, messages::reply(&[0, 0, 0, 2, 3, 4]));
+    read!(count, judge_rpc_msg, floor_judge_rpc_msg, 3, messages::reply(&[1, 0, 3, 4]));
+    read!(count, judge_rpc_msg, floor_judge_rpc_msg, 3, messages::reply(&[1, 1, 3]));
     read!(count, yugerzat_read_fattr3, floor_read_fattr3, 19, messages::fattr3());
     read!(count, yugerzat_read_sattr3, floor_read_sattr3, 16, messages::sattr3_full());
     read!(count, yugerzat_read_sattr3, floor_read_sattr3, 16, messages::sattr3_empty());
     read!(count, yugerzat_read_diropargs3, floor_read_diropargs3, 6, messages::diropargs3());
     count += credentials();
-    let source = messages::call();
     written!(
         count,
         writer!(yugerzat_write_fattr3),
@@ -147,13 +160,21 @@ pub fn same_duty() -> u64 {
     );
     written!(count, writer!(yugerzat_write_sattr3), writer!(floor_write_sattr3), [1, 2, 1, 3, 1, 4, 1, 5, 2, 6, 7, 2, 8, 9]);
     written!(count, writer!(yugerzat_write_sattr3), writer!(floor_write_sattr3), [0, 2, 0, 3, 0, 4, 0, 5, 0, 6, 7, 1, 8, 9]);
-    written!(count, writer!(yugerzat_write_diropargs3, source), writer!(floor_write_diropargs3, source), [4, 6, 20, 8]);
-    written!(
-        count,
-        writer!(yugerzat_write_call, source),
-        writer!(floor_write_call, source),
-        [7, 2, 100_003, 3, 1, 1, 4, 9, 0, 0, 0]
-    );
+    let (call, place) = (messages::call(), messages::diropargs3());
+    for (first, second) in [(&call, &call), (&call, &place), (&place, &call)] {
+        written!(
+            count,
+            writer!(yugerzat_write_diropargs3, first, second),
+            writer!(floor_write_diropargs3, first, second),
+            [4, 6, 20, 8]
+        );
+        written!(
+            count,
+            writer!(yugerzat_write_call, first, second),
+            writer!(floor_write_call, first, second),
+            [7, 2, 100_003, 3, 1, 1, 4, 9, 0, 3, 5]
+        );
+    }
     count
 }
 

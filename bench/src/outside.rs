@@ -15,11 +15,11 @@ macro_rules! writers {
         ) -> u32;)*
     } };
 }
-macro_rules! writers_from {
+macro_rules! writers_from_two {
     ($($name:ident)*) => { extern "C" {
         $(pub fn $name(
-            src: *const u8, len: usize, fields: *const u64, count: usize, out: *mut u8, room: usize, start: usize,
-            info: *mut u64, infos: usize,
+            src: *const u8, len: usize, other: *const u8, others: usize, fields: *const u64, count: usize, out: *mut u8,
+            room: usize, start: usize, info: *mut u64, infos: usize,
         ) -> u32;)*
     } };
 }
@@ -41,7 +41,7 @@ macro_rules! peers {
 }
 
 extern "C" {
-    pub fn yugerzat_read(
+    pub fn yugerzat_rewrite(
         kind: u32,
         src: *const u8,
         len: usize,
@@ -51,6 +51,7 @@ extern "C" {
         info: *mut u64,
         infos: usize,
     ) -> u32;
+    pub fn yugerzat_judge(kind: u32, src: *const u8, len: usize, at: usize, info: *mut u64, infos: usize) -> u32;
     pub fn yugerzat_feed(
         state: *mut u64,
         states: usize,
@@ -74,10 +75,10 @@ extern "C" {
         -> u32;
     pub fn floor_read_auth_unix(src: *const u8, len: usize, at: usize, count: usize, info: *mut u64, infos: usize) -> u32;
 }
-readers! { yugerzat_judge yugerzat_read_fattr3 yugerzat_read_sattr3 yugerzat_read_diropargs3
-floor_judge floor_read_fattr3 floor_read_sattr3 floor_read_diropargs3 }
+readers! { yugerzat_read_rpc_msg yugerzat_read_fattr3 yugerzat_read_sattr3 yugerzat_read_diropargs3
+floor_read_rpc_msg floor_read_fattr3 floor_read_sattr3 floor_read_diropargs3 floor_judge_rpc_msg }
 writers! { yugerzat_write_fattr3 yugerzat_write_sattr3 floor_write_fattr3 floor_write_sattr3 }
-writers_from! { yugerzat_write_diropargs3 yugerzat_write_call floor_write_diropargs3 floor_write_call }
+writers_from_two! { yugerzat_write_diropargs3 yugerzat_write_call floor_write_diropargs3 floor_write_call }
 copiers! { floor_copy_rpc_msg floor_copy_auth_unix floor_copy_fattr3 floor_copy_sattr3 floor_copy_diropargs3 floor_copy_opaque }
 
 extern "C" {

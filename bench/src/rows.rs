@@ -119,7 +119,7 @@ macro_rules! writings {
 macro_rules! rewritings {
     ($rows:ident $m:ident $($name:literal $src:ident $kind:literal $floor:ident $value:ident $tirpc:ident $($libnfs:ident)?;)*) => { $(
         $rows.push(Row::new($name, vec![
-            calls!(Who::Ours, 0, yugerzat_read($kind, $src.as_ptr(), $src.len(), 0, $m.out, ROOM, $m.info, 3)),
+            calls!(Who::Ours, 0, yugerzat_rewrite($kind, $src.as_ptr(), $src.len(), 0, $m.out, ROOM, $m.info, 3)),
             calls!(Who::Floor, 0, $floor($src.as_ptr(), $src.len(), 0, $m.out, ROOM, $m.info, 3)),
             nfsserve_copies($src, $value::default()),
             calls!(Who::Libtirpc, $src.len(), $tirpc($src.as_ptr(), $src.len(), $m.out, ROOM)),
@@ -155,9 +155,17 @@ pub fn rows() -> Vec<Row> {
 
     let mut rows = Vec::new();
     readings! { rows m
-        "call read" call 14 yugerzat_judge floor_judge rpc_msg tirpc_read_rpc_msg libnfs_read_rpc_msg;
+        "call read" call 14 yugerzat_read_rpc_msg floor_read_rpc_msg rpc_msg tirpc_read_rpc_msg libnfs_read_rpc_msg;
     }
     rows.push(call_and_auth_unix(m, call));
+    // The peers cannot tell without writing.
+    rows.push(Row::new(
+        "call judged",
+        vec![
+            calls!(Who::Ours, 0, yugerzat_judge(20, call.as_ptr(), call.len(), 0, m.info, 3)),
+            calls!(Who::Floor, 0, floor_judge_rpc_msg(call.as_ptr(), call.len(), 0, m.info, 3)),
+        ],
+    ));
     readings! { rows m
         "fattr3 read" attributes 19 yugerzat_read_fattr3 floor_read_fattr3 fattr3 tirpc_read_fattr3 libnfs_read_fattr3;
         "sattr3 full read" full 16 yugerzat_read_sattr3 floor_read_sattr3 sattr3 tirpc_read_sattr3 libnfs_read_sattr3;
@@ -189,13 +197,13 @@ pub fn rows() -> Vec<Row> {
 
 fn call_and_auth_unix(m: Memory, call: &'static [u8]) -> Row {
     macro_rules! both {
-        ($who:expr, $judge:ident, $read:ident) => {
+        ($who:expr, $header:ident, $read:ident) => {
             contestant($who, move || {
                 // SAFETY: every address comes with the length of what lies there.
                 let answer = unsafe {
-                    let judged = $judge(call.as_ptr(), call.len(), 0, m.info, 14);
+                    let header = $header(call.as_ptr(), call.len(), 0, m.info, 14);
                     let (at, count) = (*m.info.add(9) as usize, *m.info.add(10) as usize);
-                    judged | $read(call.as_ptr(), call.len(), at, count, m.info.add(14), 9)
+                    header | $read(call.as_ptr(), call.len(), at, count, m.info.add(14), 9)
                 };
                 assert_eq!(answer, 0);
             })
@@ -213,8 +221,8 @@ fn call_and_auth_unix(m: Memory, call: &'static [u8]) -> Row {
     Row::new(
         "call with auth_unix read",
         vec![
-            both!(Who::Ours, yugerzat_judge, yugerzat_read_auth_unix),
-            both!(Who::Floor, floor_judge, floor_read_auth_unix),
+            both!(Who::Ours, yugerzat_read_rpc_msg, yugerzat_read_auth_unix),
+            both!(Who::Floor, floor_read_rpc_msg, floor_read_auth_unix),
             nfsserve,
             calls!(Who::Libtirpc, call.len(), tirpc_read_call_and_auth_unix(call.as_ptr(), call.len())),
         ],
@@ -224,9 +232,9 @@ fn call_and_auth_unix(m: Memory, call: &'static [u8]) -> Row {
 fn call_written(m: Memory, call: &'static [u8]) -> Row {
     let (src, len) = (call.as_ptr(), call.len());
     // SAFETY: every address comes with the length of what lies there.
-    let judged = figures(|info| unsafe { floor_judge(src, len, 0, info, FIGURES) }, 2);
+    let header = figures(|info| unsafe { floor_read_rpc_msg(src, len, 0, info, FIGURES) }, 2);
     // Without the tag.
-    let fields = Vec::leak([&judged[..1], &judged[2..12]].concat()).as_ptr();
+    let fields = Vec::leak([&header[..1], &header[2..12]].concat()).as_ptr();
     let ready = move || {
         // SAFETY: as above.
         unsafe { assert!(tirpc_read_rpc_msg(src, len) > 0 && libnfs_read_rpc_msg(src, len) > 0) }
@@ -235,8 +243,8 @@ fn call_written(m: Memory, call: &'static [u8]) -> Row {
     Row::new(
         "call written",
         vec![
-            calls!(Who::Ours, 0, yugerzat_write_call(src, len, fields, 11, m.out, ROOM, 0, m.info, 1)),
-            calls!(Who::Floor, 0, floor_write_call(src, len, fields, 11, m.out, ROOM, 0, m.info, 1)),
+            calls!(Who::Ours, 0, yugerzat_write_call(src, len, src, len, fields, 11, m.out, ROOM, 0, m.info, 1)),
+            calls!(Who::Floor, 0, floor_write_call(src, len, src, len, fields, 11, m.out, ROOM, 0, m.info, 1)),
             nfsserve_writes(call, rpc_msg::default()),
             calls!(Who::Libtirpc, len, tirpc_write_rpc_msg(m.out, ROOM)),
             calls!(Who::Libnfs, len, libnfs_write_rpc_msg(m.out, ROOM)),
@@ -259,8 +267,8 @@ fn diropargs3_written(m: Memory, place: &'static [u8]) -> Row {
     Row::new(
         "diropargs3 written",
         vec![
-            calls!(Who::Ours, 0, yugerzat_write_diropargs3(src, len, fields, 4, m.out, ROOM, 0, m.info, 1)),
-            calls!(Who::Floor, 0, floor_write_diropargs3(src, len, fields, 4, m.out, ROOM, 0, m.info, 1)),
+            calls!(Who::Ours, 0, yugerzat_write_diropargs3(src, len, src, len, fields, 4, m.out, ROOM, 0, m.info, 1)),
+            calls!(Who::Floor, 0, floor_write_diropargs3(src, len, src, len, fields, 4, m.out, ROOM, 0, m.info, 1)),
             nfsserve_writes(place, diropargs3::default()),
             calls!(Who::Libtirpc, len, tirpc_write_diropargs3(m.out, ROOM)),
             calls!(Who::Libnfs, len, libnfs_write_diropargs3(m.out, ROOM)),
@@ -296,14 +304,14 @@ fn copies(m: Memory) -> Vec<Row> {
             yugerzat_feed(m.state, 7, stream.as_ptr(), stream.len(), m.out, RECORD, m.info, 2)
         };
         // Complete; the state is then fresh.
-        assert_eq!(answer, 101);
+        assert_eq!(answer, 104);
     });
     let rows = [
         Row::new("record of 1 MiB assembled", vec![feed, copied(&stream[4..], 0)]),
         Row::new(
             "opaque of 64 KiB rewritten",
             vec![
-                calls!(Who::Ours, 0, yugerzat_read(6, opaque.as_ptr(), opaque.len(), 0, m.out, ROOM, m.info, 3)),
+                calls!(Who::Ours, 0, yugerzat_rewrite(6, opaque.as_ptr(), opaque.len(), 0, m.out, ROOM, m.info, 3)),
                 copied(&opaque[4..], 4),
                 nfsserve_copies(opaque, Vec::<u8>::new()),
                 calls!(Who::Libtirpc, opaque.len(), tirpc_copy_opaque(opaque.as_ptr(), opaque.len(), m.out, ROOM)),

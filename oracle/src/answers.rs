@@ -129,16 +129,34 @@ pub enum Fed {
     Refused { number: u32, used: usize },
 }
 
-/// A writer's answer: the next place, or the number of the refusal.
-pub type Wrote = Result<usize, u32>;
+/// Why nothing was written: the refusal's number, and how many bytes the writing needs where there is no room (5).
+#[derive(Clone, Copy, Debug, PartialEq, Eq)]
+pub struct Unwritten {
+    pub number: u32,
+    pub needed: usize,
+}
+
+impl Unwritten {
+    /// A refusal that says nothing more.
+    pub const fn plain(number: u32) -> Unwritten {
+        Unwritten { number, needed: 0 }
+    }
+
+    pub const fn no_room(needed: usize) -> Unwritten {
+        Unwritten { number: 5, needed }
+    }
+}
+
+/// A writer's answer: the next place, or why there is none.
+pub type Wrote = Result<usize, Unwritten>;
 
 /// Answers that are no refusal. A choice is handed over, replied to or met with silence; a feed wants more or is complete.
 pub const DONE: u32 = 0;
 pub const HAND_OVER: u32 = 100;
 pub const REPLIED: u32 = 101;
 pub const SILENCE: u32 = 102;
-pub const MORE: u32 = 100;
-pub const COMPLETE: u32 = 101;
+pub const MORE: u32 = 103;
+pub const COMPLETE: u32 = 104;
 
 /// Answers to a call that is itself at fault: a number that does not fit its field, a list that is too short, a kind that
 /// is not there.
@@ -146,7 +164,7 @@ pub const WIDE_NUMBER: u32 = 253;
 pub const SHORT_LIST: u32 = 254;
 pub const UNKNOWN_KIND: u32 = 255;
 
-/// How many figures each function has that is not one of `Value`.
+/// How many figures each function has that is no reader of a `Value`. (Rewriting and judging have the same.)
 pub const READ_FIGURES: usize = 3;
 pub const CHOOSE_FIGURES: usize = 12;
 pub const FEED_FIGURES: usize = 2;
@@ -180,11 +198,25 @@ impl Told {
         Told { answer: refusal.number, figures }
     }
 
-    pub fn read(answer: &Result<Took, Refusal>) -> Told {
+    /// What judging a message of any kind tells.
+    pub fn judged(answer: &Result<Took, Refusal>) -> Told {
         match answer {
             Ok(took) => Told::done(vec![took.next as u64, u64::from(took.plain), took.length as u64]),
             Err(refusal) => Told::refused(refusal, READ_FIGURES),
         }
+    }
+
+    /// What rewriting it into so much room tells: the same, or what the rewriting needs.
+    pub fn rewritten(answer: &Result<Took, Refusal>, room: usize) -> Told {
+        match answer {
+            Ok(took) if took.length > room => Told { answer: 5, figures: vec![0, 0, took.length as u64] },
+            _ => Told::judged(answer),
+        }
+    }
+
+    /// What both tell where there is no such kind.
+    pub fn unknown_kind() -> Told {
+        Told { answer: UNKNOWN_KIND, figures: vec![0; READ_FIGURES] }
     }
 
     pub fn chose(choice: &Choice) -> Told {
@@ -223,8 +255,8 @@ impl Told {
     pub fn wrote(wrote: &Wrote) -> Told {
         match wrote {
             Ok(next) => Told::done(vec![*next as u64]),
-            Err(WIDE_NUMBER) => Told::untouched(WIDE_NUMBER),
-            Err(number) => Told { answer: *number, figures: vec![0] },
+            Err(Unwritten { number: WIDE_NUMBER, .. }) => Told::untouched(WIDE_NUMBER),
+            Err(Unwritten { number, needed }) => Told { answer: *number, figures: vec![*needed as u64] },
         }
     }
 

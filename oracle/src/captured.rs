@@ -10,21 +10,53 @@ use crate::cases::{Question, Room};
 use crate::shapes::kind;
 use crate::truth::Truth;
 
-/// What stands behind the `rpc_msg`, by program, version and procedure: the kinds of a call's arguments, and those of its
-/// results.
-type Body = ([u32; 3], &'static [&'static str], &'static [&'static str]);
+/// Kinds that stand one after another.
+type Form = &'static [&'static str];
+
+/// What stands behind the `rpc_msg`, by program, version and procedure: the forms of a call's arguments, and those of its
+/// results, of which the last is the form of a failure.
+type Body = ([u32; 3], &'static [Form], &'static [Form]);
 
 const BODIES: &[Body] = &[
-    // portmap: GETADDR
-    ([100_000, 4, 3], &["u32", "u32", "nfsstring", "nfsstring", "nfsstring"], &["nfsstring"]),
-    // nfs: NULL, GETATTR, LOOKUP, and a WRITE that is refused
-    ([100_003, 3, 0], &[], &[]),
-    ([100_003, 3, 1], &["nfs_fh3"], &["nfsstat3", "fattr3"]),
-    ([100_003, 3, 3], &["diropargs3"], &["nfsstat3", "nfs_fh3", "post_op_attr", "post_op_attr"]),
-    ([100_003, 3, 7], &["nfs_fh3", "u64", "u32", "u32", "opaque"], &["nfsstat3", "wcc_data"]),
-    // mount: NULL, and a DUMP of nothing
-    ([100_005, 3, 0], &[], &[]),
-    ([100_005, 3, 2], &[], &["bool"]),
+    // portmap: NULL, GETPORT, GETADDR
+    ([100_000, 2, 0], &[&[]], &[&[]]),
+    ([100_000, 2, 3], &[&["u32", "u32", "u32", "u32"]], &[&["u32"]]),
+    ([100_000, 4, 3], &[&["u32", "u32", "nfsstring", "nfsstring", "nfsstring"]], &[&["nfsstring"]]),
+    // nfs: NULL, GETATTR, SETATTR, LOOKUP, ACCESS, READ, WRITE, CREATE, FSINFO, COMMIT
+    ([100_003, 3, 0], &[&[]], &[&[]]),
+    ([100_003, 3, 1], &[&["nfs_fh3"]], &[&["nfsstat3", "fattr3"], &["nfsstat3"]]),
+    (
+        [100_003, 3, 2],
+        &[&["nfs_fh3", "sattr3", "bool"], &["nfs_fh3", "sattr3", "bool", "nfstime3"]],
+        &[&["nfsstat3", "wcc_data"]],
+    ),
+    (
+        [100_003, 3, 3],
+        &[&["diropargs3"]],
+        &[&["nfsstat3", "nfs_fh3", "post_op_attr", "post_op_attr"], &["nfsstat3", "post_op_attr"]],
+    ),
+    ([100_003, 3, 4], &[&["nfs_fh3", "u32"]], &[&["nfsstat3", "post_op_attr", "u32"], &["nfsstat3", "post_op_attr"]]),
+    (
+        [100_003, 3, 6],
+        &[&["nfs_fh3", "u64", "u32"]],
+        &[&["nfsstat3", "post_op_attr", "u32", "bool", "opaque"], &["nfsstat3", "post_op_attr"]],
+    ),
+    (
+        [100_003, 3, 7],
+        &[&["nfs_fh3", "u64", "u32", "u32", "opaque"]],
+        &[&["nfsstat3", "wcc_data", "u32", "u32", "eight"], &["nfsstat3", "wcc_data"]],
+    ),
+    (
+        [100_003, 3, 8],
+        &[&["diropargs3", "u32", "sattr3"], &["diropargs3", "u32", "eight"]],
+        &[&["nfsstat3", "post_op_fh3", "post_op_attr", "wcc_data"], &["nfsstat3", "wcc_data"]],
+    ),
+    ([100_003, 3, 19], &[&["nfs_fh3"]], &[&["nfsstat3", "fsinfo3"], &["nfsstat3", "post_op_attr"]]),
+    ([100_003, 3, 21], &[&["nfs_fh3", "u64", "u32"]], &[&["nfsstat3", "wcc_data", "eight"], &["nfsstat3", "wcc_data"]]),
+    // mount: NULL, MNT, and a DUMP of nothing
+    ([100_005, 3, 0], &[&[]], &[&[]]),
+    ([100_005, 3, 1], &[&["nfsstring"]], &[&["u32", "nfs_fh3", "words"], &["u32"]]),
+    ([100_005, 3, 2], &[&[]], &[&["bool"]]),
 ];
 
 /// The lines of all captures below a folder.
@@ -105,13 +137,21 @@ fn judged(truth: &mut Truth, record: &[u8], list: &mut Vec<String>) -> usize {
     next
 }
 
-/// These kinds, one after another; they are the rest of the record.
-fn all_of(truth: &mut Truth, record: &[u8], place: usize, kinds: &[&str], list: &mut Vec<String>) {
+/// The first of these forms that is the rest of the record, kind by kind.
+fn all_of(truth: &mut Truth, record: &[u8], place: usize, forms: &[Form], list: &mut Vec<String>) {
+    let form = forms.iter().find(|form| end(truth, record, place, form) == Some(record.len()));
     let mut at = place;
-    for name in kinds {
+    for name in *form.expect("what a captured call or reply says has a form, and nothing stands behind it") {
         at = read(truth, record, at, name, list);
     }
-    assert_eq!(at, record.len(), "nothing stands behind what a captured call or reply says");
+}
+
+/// Where these kinds end, one after another, if all are taken.
+fn end(truth: &mut Truth, record: &[u8], place: usize, form: Form) -> Option<usize> {
+    form.iter().try_fold(place, |at, name| {
+        let took = truth.read(kind(name).expect("the kind is known"), record, at);
+        took.ok().map(|took| took.next)
+    })
 }
 
 /// One kind at a place; real peers send the published form. Gives the next place.

@@ -1,6 +1,6 @@
 //! One case asked of both sides.
 use crate::answers::{
-    Fed, Refusal, State, Told, CHOOSE_FIGURES, FEED_FIGURES, PART_FIGURES, READ_FIGURES, REPLY, STATE_FIGURES, UNKNOWN_KIND,
+    Fed, Refusal, State, Told, Took, CHOOSE_FIGURES, FEED_FIGURES, PART_FIGURES, READ_FIGURES, REPLY, STATE_FIGURES,
     WRITE_FIGURES,
 };
 use crate::cases::{call_with, Case, Cut, Lending, Question, Room, BODY};
@@ -11,7 +11,7 @@ use crate::proved::Proved;
 use crate::shapes::{kind, KINDS};
 use crate::tally::Tally;
 use crate::truth::Truth;
-use crate::values::Value;
+use crate::values::{Value, Writer};
 use crate::wanting::{broken, Said};
 
 pub struct Sides {
@@ -47,8 +47,8 @@ impl Sides {
             Question::Read { kind, at, message, room } => self.read(*kind, *at, message, *room, lending),
             Question::Value { value, at, message } => self.value(*value, *at, message, lending),
             Question::AuthUnix { at, count, message } => self.auth_unix(*at, *count, message, lending),
-            Question::Write { value, source, fields, room, start } => {
-                self.write(*value, source, fields, *room, *start, lending)
+            Question::Write { writer, sources, fields, room, start } => {
+                self.write(*writer, sources.both(), fields, *room, *start, lending)
             },
             Question::Part { message, at, count } => self.part(message, *at, *count, lending),
             Question::Choose { seen, room, message } => self.choose(*seen, *room, message, lending),
@@ -59,36 +59,47 @@ impl Sides {
         }
     }
 
+    /// Rewritten, and judged without writing.
     fn read(&mut self, kind: u32, at: usize, message: &[u8], room: Room, lending: &Lending) -> Option<Difference> {
         let known = (kind as usize) < KINDS.len();
-        let mut expected = if known { self.truth.read(kind as usize, message, at) } else { Err(Refusal::plain(0)) };
-        let length = expected.map_or(0, |took| took.length);
+        let expected = known.then(|| self.truth.read(kind as usize, message, at));
+        let length = expected.map_or(0, |answer| answer.map_or(0, |took| took.length));
         let room = match room {
             Room::Ample => message.len().max(40) + 9,
             Room::Over(more) => length + more,
             Room::Under(fewer) => length.saturating_sub(fewer),
         };
-        if room < length {
-            expected = Err(Refusal::plain(5));
-        }
         let mut due = Left::new(room, lending.info.length(READ_FIGURES));
         let mut got = due.clone();
         if due.info.get().len() >= READ_FIGURES {
-            let mut told = Told::read(&expected);
-            if !known {
-                told.answer = UNKNOWN_KIND;
-            }
-            due.tell(&told);
-            if let Ok(took) = expected {
+            due.tell(&expected.map_or_else(Told::unknown_kind, |answer| Told::rewritten(&answer, room)));
+            if let (Some(Ok(took)), 0) = (expected, due.answer) {
                 self.tally.took(took.plain);
                 due.out.slice()[..took.length].copy_from_slice(&self.truth.rewriting);
             }
         }
-        got.answer = self.proved.read(kind, message, at, got.out.slice(), got.info.slice());
-        self.same("read", &got, &due)
+        got.answer = self.proved.rewrite(kind, message, at, got.out.slice(), got.info.slice());
+        self.same("rewrite", &got, &due).or_else(|| self.judge(kind, at, message, expected, lending))
     }
 
-    /// The reader of the value; and, so that both readers of its kind are seen to agree, `yugerzat_read` of the same.
+    fn judge(
+        &mut self,
+        kind: u32,
+        at: usize,
+        message: &[u8],
+        expected: Option<Result<Took, Refusal>>,
+        lending: &Lending,
+    ) -> Option<Difference> {
+        let mut due = Left::new(0, lending.info.length(READ_FIGURES));
+        let mut got = due.clone();
+        if due.info.get().len() >= READ_FIGURES {
+            due.tell(&expected.map_or_else(Told::unknown_kind, |answer| Told::judged(&answer)));
+        }
+        got.answer = self.proved.judge(kind, message, at, got.info.slice());
+        self.same("judge", &got, &due)
+    }
+
+    /// The reader of the value; and, so that all readers of its kind are seen to agree, rewriting and judging of the same.
     fn value(&mut self, value: Value, at: usize, message: &[u8], lending: &Lending) -> Option<Difference> {
         let mut due = Left::new(0, lending.info.length(value.figures()));
         let mut got = due.clone();
@@ -118,23 +129,23 @@ impl Sides {
 
     fn write(
         &mut self,
-        value: Value,
-        source: &[u8],
+        writer: Writer,
+        sources: [&[u8]; 2],
         fields: &[u64],
         room: usize,
         start: usize,
         lending: &Lending,
     ) -> Option<Difference> {
-        let fields = list(fields, lending.given.length(value.fields()));
+        let fields = list(fields, lending.given.length(writer.fields()));
         let mut due = Left::new(room, lending.info.length(WRITE_FIGURES));
         let mut got = due.clone();
-        if fields.get().len() >= value.fields() && due.info.get().len() >= WRITE_FIGURES {
-            let wrote = self.truth.write(value, source, fields.get(), due.out.slice(), start);
+        if fields.get().len() >= writer.fields() && due.info.get().len() >= WRITE_FIGURES {
+            let wrote = self.truth.write(writer, sources, fields.get(), due.out.slice(), start);
             due.tell(&Told::wrote(&wrote));
         }
         let (out, info) = (got.out.slice(), got.info.slice());
-        got.answer = self.proved.write(value, source, fields.get(), out, start, info);
-        self.same(value.writer(), &got, &due)
+        got.answer = self.proved.write(writer, sources, fields.get(), out, start, info);
+        self.same(writer.name(), &got, &due)
     }
 
     fn part(&mut self, message: &[u8], at: usize, count: usize, lending: &Lending) -> Option<Difference> {
@@ -187,7 +198,7 @@ impl Sides {
                 due.state.slice()[..STATE_FIGURES].copy_from_slice(&model.numbers());
                 self.tally.due("feed", due.answer);
                 if got.answer != due.answer || got.info != due.info || got.state != due.state {
-                    return Some(differ(&got, &due));
+                    return Some(differ("feed", &got, &due));
                 }
                 match expected {
                     Fed::More { .. } => {
@@ -214,7 +225,7 @@ impl Sides {
                                 expected: format!("a fragment that is too long, after {at:?}"),
                             });
                         }
-                        return (got.out != due.out).then(|| differ(&got, &due));
+                        return (got.out != due.out).then(|| differ("feed", &got, &due));
                     },
                 }
             }
@@ -223,7 +234,7 @@ impl Sides {
             return Some(record_otherwise(None, Some(record)));
         }
         if got.out != due.out {
-            return Some(differ(&got, &due));
+            return Some(differ("feed", &got, &due));
         }
         // A fragment cut short stands in the crate's record at its full length.
         let placed = model.placed as usize;
@@ -298,7 +309,7 @@ impl Sides {
 
     /// All readers of a kind.
     fn kind(&mut self, kind: usize, at: usize, message: &[u8], lending: &Lending) -> Option<Difference> {
-        match Value::WRITTEN.into_iter().find(|value| value.kind() == KINDS[kind].0) {
+        match Value::PLACED.into_iter().find(|value| value.kind() == KINDS[kind].0) {
             Some(value) => self.value(value, at, message, lending),
             None => self.read(kind as u32, at, message, Room::Ample, lending),
         }
@@ -309,12 +320,12 @@ impl Sides {
         let figure = |index: usize| got.info.get().get(index).copied().unwrap_or_default();
         self.said = Said { answer: got.answer, place: figure(0), wanting: figure(1) };
         self.tally.due(function, due.answer);
-        (got != due).then(|| differ(got, due))
+        (got != due).then(|| differ(function, got, due))
     }
 }
 
-fn differ(got: &Left, due: &Left) -> Difference {
-    Difference { proved: got.to_string(), expected: due.to_string() }
+fn differ(function: &str, got: &Left, due: &Left) -> Difference {
+    Difference { proved: format!("{function} {got}"), expected: format!("{function} {due}") }
 }
 
 fn record_otherwise(got: Option<(&[u8], usize)>, due: Option<&(Vec<u8>, usize)>) -> Difference {

@@ -233,7 +233,7 @@ impl Asked {
             let mut out = vec![EMPTY; room];
             let answer = match self.truth.fragment(&ruled(length), &mut out, start) {
                 Ok(next) => format!("wrote {next}"),
-                Err(number) => format!("refused {number}"),
+                Err(unwritten) => format!("refused {}", unwritten.number),
             };
             self.say(format!("fragment {length} {room} {start}"), format!("{answer} {}", digest(&out)));
         }

@@ -1,12 +1,12 @@
 //! The lines of the program `answers`: cases and answers as text.
 use std::fmt::Write;
 
-use crate::answers::{Choice, Fed, Refusal, State, Took};
+use crate::answers::{Choice, Fed, Refusal, State, Took, Wrote};
 use crate::cases::{Cut, Question};
 use crate::shapes::KINDS;
 
-/// The longest line that is read.
-pub const LONGEST: usize = 65_536;
+/// The longest line that is read: a message of 1,048,576 bytes has room in it.
+pub const LONGEST: usize = 2_200_000;
 
 /// Bytes in hex, `-` for none.
 pub fn hex(bytes: &[u8]) -> String {
@@ -74,10 +74,10 @@ pub fn state_and_buffer(state: &State, record: &[u8]) -> String {
 }
 
 /// What a writing into a buffer answers.
-pub fn wrote(answer: Result<usize, u32>, out: &[u8]) -> String {
+pub fn wrote(answer: Wrote, out: &[u8]) -> String {
     match answer {
         Ok(next) => format!("wrote {next} {}", hex(out)),
-        Err(number) => format!("refused {number} {}", hex(out)),
+        Err(unwritten) => format!("refused {} {}", unwritten.number, hex(out)),
     }
 }
 
@@ -92,9 +92,9 @@ impl Question {
             },
             Question::Value { value, at, message } => format!("{} {} {at}", value.reader(), hex(message)),
             Question::AuthUnix { at, count, message } => format!("read_auth_unix {} {at} {count}", hex(message)),
-            Question::Write { value, source, fields, room, start } => {
-                let source = if value.pieces().is_empty() { String::new() } else { format!(" {}", hex(source)) };
-                format!("{}{source} {fields:?} {room} {start}", value.writer())
+            Question::Write { writer, sources, fields, room, start } => {
+                let lent: String = sources.both().iter().take(writer.sources()).map(|source| hex(source) + " ").collect();
+                format!("{} {lent}{fields:?} {room} {start}", writer.name())
             },
             Question::Part { message, at, count } => format!("part {} {at} {count}", hex(message)),
             Question::Choose { seen, room, message } => format!("choose {} {room} {}", u8::from(*seen), hex(message)),

@@ -79,7 +79,8 @@ const WORKED: &[&str] = &[
     "part 0011223344 3 3",
 ];
 
-/// Lines that have not the form of any.
+/// Lines that have not the form of any, for every reason but two: no line here is too long, and none can spell too many
+/// bytes.
 const ODD_LINES: &[&str] = &[
     "?",
     "read",
@@ -99,6 +100,33 @@ const ODD_LINES: &[&str] = &[
     "choose 2 24 0000002a00000002",
     "state 0 0 0 0 0 2 0 0 -",
     "part 00 0",
+    "",
+    " read bool 0 00000000",
+    "read\tbool 0 00000000",
+    "a_first_word_of_more_than_32_characters 0 -",
+    "read sattr 0 -",
+    "read a_kind_of_more_than_thirty-two_characters 0 -",
+    "read bool",
+    "read bool  00000000",
+    "read bool 0 ",
+    "read bool 0 0123456789abcdef0123456789abcdefg",
+    "read bool 0 000000000",
+    "write bool 0 00000000 4 0 0",
+    "write bool 0 00000001 1048577 0",
+    "fragment - 1048577 0",
+    "fragment - 1048577",
+    "feed",
+    "feed 8",
+    "feed 8 80000000 ",
+    "feed 8 80000000 -- 0",
+    "feed 1048577 0",
+    "state 0 0 0 0 0",
+    "state 0 0 0 0 0 0 0 1048577 -",
+    "choose",
+    "choose 1048577 0 -",
+    "choose 0 1048577 -",
+    "part 00 0 0 0",
+    "words 00 0 1048577x",
 ];
 
 fn made(random: &mut Random, kind: usize, style: Style) -> Vec<u8> {
@@ -165,7 +193,7 @@ fn writings(random: &mut Random, kind: usize, list: &mut Vec<String>) {
     line(5, 6);
 }
 
-/// Lengths and counts about the bounds of the RFCs, about 2^31 and 2^32, and one as long as a line allows.
+/// Lengths and counts about the bounds of the RFCs, about 2^31 and 2^32, and some long ones.
 fn lengths(list: &mut Vec<String>) {
     let bodies: [(&str, &[usize]); 3] = [
         ("opaque", &[3, 4, 5, 255, 256, 399, 400, 401, 32_000]),

@@ -4,7 +4,7 @@ use crate::cases::{case, Question};
 use crate::lines::{hex, LONGEST};
 use crate::random::Random;
 use crate::shapes::KINDS;
-use crate::values::Value;
+use crate::values::Writer;
 
 /// Most random lines are at most so long.
 const SHORT: usize = 600;
@@ -15,6 +15,7 @@ pub fn lines(count: u64, seed: u64) -> Vec<Vec<u8>> {
     lines.extend(words_alone());
     lines.extend(rooms());
     lines.extend(long());
+    lines.extend(whole());
     let questions = (0..).map(|number| case(seed, number).question).filter_map(|question| line(&question));
     let questions = questions.filter(|line| line.len() <= SHORT).take(count as usize);
     lines.extend(questions.enumerate().map(|(number, line)| {
@@ -158,10 +159,10 @@ fn rooms() -> Vec<Vec<u8>> {
     lines.into_iter().map(String::into_bytes).collect()
 }
 
-/// Lines about as long as is read, with and without a meaning; and longer ones.
+/// Long lines, with and without a meaning: of 65,536 characters, as long as is read, and one character longer than either.
 fn long() -> Vec<Vec<u8>> {
-    let mut lines = Vec::new();
-    for length in [LONGEST - 1, LONGEST, LONGEST + 1, LONGEST + 2, 2 * LONGEST, 3 * LONGEST + 5] {
+    let mut lines = vec![vec![b'x'; 2 * LONGEST + 5]];
+    for length in [65_536, 65_537, LONGEST, LONGEST + 1] {
         for (front, filling, end) in [
             ("read opaque 0 00007f00", "5a", ""),
             ("part 00 ", "0", "1 0"),
@@ -179,15 +180,35 @@ fn long() -> Vec<Vec<u8>> {
     lines
 }
 
+/// Messages as long as refusal 3 allows, and of one byte more.
+fn whole() -> Vec<Vec<u8>> {
+    let mut lines = Vec::new();
+    for length in [BOUND, BOUND + 1] {
+        let bytes = format!("{:08x}{}", length - 4, "5a".repeat(length - 4));
+        lines.push(format!("read opaque 0 {bytes}"));
+        lines.push(format!("read bool {} {bytes}", length - 4));
+        lines.push(format!("write nfs_fh3 0 {bytes} {BOUND} 0"));
+        lines.push(format!("fragment {bytes} {BOUND} 0"));
+        lines.push(format!("fragment {bytes} 3 4"));
+        lines.push(format!("part {bytes} {} 4", length - 4));
+        lines.push(format!("words {bytes} 1 {}", length / 4));
+        lines.push(format!("choose 0 24 0000002a00000000{}", &bytes[16..]));
+        lines.push(format!("feed {BOUND} 80{}", &bytes[2..]));
+        lines.push(format!("state {BOUND} 0 0 0 {BOUND} 1 0 {BOUND} {bytes}"));
+    }
+    lines.into_iter().map(String::into_bytes).collect()
+}
+
 /// The line of a question, if it has one.
 fn line(question: &Question) -> Option<String> {
     match question {
         Question::Read { kind, .. } if *kind as usize >= KINDS.len() => None,
         Question::Value { .. } | Question::AuthUnix { .. } | Question::Cuts { .. } => None,
         // `write` reads what it writes.
-        Question::Write { value, source, room, start, .. } => {
-            let at = source.len().min(if *value == Value::Fattr3 { 0 } else { start % 9 });
-            Some(format!("write {} {at} {} {room} {start}", value.kind(), hex(source)))
+        Question::Write { writer, sources, room, start, .. } => {
+            let [source, _] = sources.both();
+            let at = source.len().min(if *writer == Writer::Fattr3 { 0 } else { start % 9 });
+            Some(format!("write {} {at} {} {room} {start}", writer.value().kind(), hex(source)))
         },
         _ => Some(question.line()),
     }

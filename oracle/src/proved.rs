@@ -4,12 +4,12 @@ pub use side::Proved;
 
 #[cfg(not(feature = "model"))]
 mod side {
-    use crate::values::Value;
+    use crate::values::{Value, Writer};
 
     // A lent slice passes as its address and its length. include/yugerzat.h declares the same.
     extern "C" {
         #[rustfmt::skip]
-        fn yugerzat_read(
+        fn yugerzat_rewrite(
             kind: u32,
             source: *const u8,
             length: usize,
@@ -19,9 +19,24 @@ mod side {
             info: *mut u64,
             infos: usize,
         ) -> u32;
-        fn yugerzat_judge(message: *const u8, length: usize, at: usize, info: *mut u64, infos: usize) -> u32;
+        fn yugerzat_judge(kind: u32, source: *const u8, length: usize, at: usize, info: *mut u64, infos: usize) -> u32;
+        fn yugerzat_read_rpc_msg(message: *const u8, length: usize, at: usize, info: *mut u64, infos: usize) -> u32;
         #[rustfmt::skip]
         fn yugerzat_write_call(
+            credential_source: *const u8,
+            credential_length: usize,
+            verifier_source: *const u8,
+            verifier_length: usize,
+            fields: *const u64,
+            count: usize,
+            out: *mut u8,
+            room: usize,
+            start: usize,
+            info: *mut u64,
+            infos: usize,
+        ) -> u32;
+        #[rustfmt::skip]
+        fn yugerzat_write_reply(
             source: *const u8,
             length: usize,
             fields: *const u64,
@@ -38,6 +53,20 @@ mod side {
             length: usize,
             at: usize,
             count: usize,
+            info: *mut u64,
+            infos: usize,
+        ) -> u32;
+        #[rustfmt::skip]
+        fn yugerzat_write_auth_unix(
+            name_source: *const u8,
+            name_length: usize,
+            gids_source: *const u8,
+            gids_length: usize,
+            fields: *const u64,
+            count: usize,
+            out: *mut u8,
+            room: usize,
+            start: usize,
             info: *mut u64,
             infos: usize,
         ) -> u32;
@@ -66,8 +95,10 @@ mod side {
         fn yugerzat_read_diropargs3(source: *const u8, length: usize, at: usize, info: *mut u64, infos: usize) -> u32;
         #[rustfmt::skip]
         fn yugerzat_write_diropargs3(
-            source: *const u8,
-            length: usize,
+            directory_source: *const u8,
+            directory_length: usize,
+            name_source: *const u8,
+            name_length: usize,
             fields: *const u64,
             count: usize,
             out: *mut u8,
@@ -120,16 +151,21 @@ mod side {
             Proved
         }
 
-        pub fn read(&self, kind: u32, source: &[u8], at: usize, out: &mut [u8], info: &mut [u64]) -> u32 {
+        pub fn rewrite(&self, kind: u32, source: &[u8], at: usize, out: &mut [u8], info: &mut [u64]) -> u32 {
             let (length, room, infos) = (source.len(), out.len(), info.len());
             // SAFETY: as above.
-            unsafe { yugerzat_read(kind, source.as_ptr(), length, at, out.as_mut_ptr(), room, info.as_mut_ptr(), infos) }
+            unsafe { yugerzat_rewrite(kind, source.as_ptr(), length, at, out.as_mut_ptr(), room, info.as_mut_ptr(), infos) }
+        }
+
+        pub fn judge(&self, kind: u32, source: &[u8], at: usize, info: &mut [u64]) -> u32 {
+            // SAFETY: as above.
+            unsafe { yugerzat_judge(kind, source.as_ptr(), source.len(), at, info.as_mut_ptr(), info.len()) }
         }
 
         /// The reader of a value at a place of a message.
         pub fn value(&self, value: Value, message: &[u8], at: usize, info: &mut [u64]) -> u32 {
             let reader = match value {
-                Value::Message => yugerzat_judge,
+                Value::Message => yugerzat_read_rpc_msg,
                 Value::AuthUnix => unreachable!("an auth_unix is read in a body"),
                 Value::Fattr3 => yugerzat_read_fattr3,
                 Value::Sattr3 => yugerzat_read_sattr3,
@@ -144,30 +180,35 @@ mod side {
             unsafe { yugerzat_read_auth_unix(message.as_ptr(), message.len(), at, count, info.as_mut_ptr(), info.len()) }
         }
 
-        /// The writer of a value; those without pieces take no source.
+        /// A writer, with as many of the sources as it takes.
         pub fn write(
             &self,
-            value: Value,
-            source: &[u8],
+            writer: Writer,
+            sources: [&[u8]; 2],
             fields: &[u64],
             out: &mut [u8],
             start: usize,
             info: &mut [u64],
         ) -> u32 {
-            let (from, length) = (source.as_ptr(), source.len());
+            let [(first, length), (second, other)] = sources.map(|source| (source.as_ptr(), source.len()));
             let (list, count) = (fields.as_ptr(), fields.len());
             let (room, infos) = (out.len(), info.len());
             let (out, info) = (out.as_mut_ptr(), info.as_mut_ptr());
+            let of_two = match writer {
+                // SAFETY: as above.
+                Writer::Reply => unsafe {
+                    return yugerzat_write_reply(first, length, list, count, out, room, start, info, infos);
+                },
+                // SAFETY: as above.
+                Writer::Fattr3 => unsafe { return yugerzat_write_fattr3(list, count, out, room, start, info, infos) },
+                // SAFETY: as above.
+                Writer::Sattr3 => unsafe { return yugerzat_write_sattr3(list, count, out, room, start, info, infos) },
+                Writer::Call => yugerzat_write_call,
+                Writer::AuthUnix => yugerzat_write_auth_unix,
+                Writer::Diropargs3 => yugerzat_write_diropargs3,
+            };
             // SAFETY: as above.
-            unsafe {
-                match value {
-                    Value::Message => yugerzat_write_call(from, length, list, count, out, room, start, info, infos),
-                    Value::AuthUnix => unreachable!("there is no such writer"),
-                    Value::Fattr3 => yugerzat_write_fattr3(list, count, out, room, start, info, infos),
-                    Value::Sattr3 => yugerzat_write_sattr3(list, count, out, room, start, info, infos),
-                    Value::Diropargs3 => yugerzat_write_diropargs3(from, length, list, count, out, room, start, info, infos),
-                }
-            }
+            unsafe { of_two(first, length, second, other, list, count, out, room, start, info, infos) }
         }
 
         pub fn part(&self, message: &[u8], at: usize, count: usize, info: &mut [u64]) -> u32 {
@@ -199,7 +240,7 @@ mod side {
 #[cfg(feature = "model")]
 mod side {
     use crate::model::{Fault, Model};
-    use crate::values::Value;
+    use crate::values::{Value, Writer};
 
     pub struct Proved(Model);
 
@@ -213,8 +254,12 @@ mod side {
             Proved(Model::with(fault))
         }
 
-        pub fn read(&self, kind: u32, source: &[u8], at: usize, out: &mut [u8], info: &mut [u64]) -> u32 {
-            self.0.exported_read(kind, source, at, out, info)
+        pub fn rewrite(&self, kind: u32, source: &[u8], at: usize, out: &mut [u8], info: &mut [u64]) -> u32 {
+            self.0.exported_rewrite(kind, source, at, out, info)
+        }
+
+        pub fn judge(&self, kind: u32, source: &[u8], at: usize, info: &mut [u64]) -> u32 {
+            self.0.exported_judge(kind, source, at, info)
         }
 
         pub fn value(&self, value: Value, message: &[u8], at: usize, info: &mut [u64]) -> u32 {
@@ -227,14 +272,14 @@ mod side {
 
         pub fn write(
             &self,
-            value: Value,
-            source: &[u8],
+            writer: Writer,
+            sources: [&[u8]; 2],
             fields: &[u64],
             out: &mut [u8],
             start: usize,
             info: &mut [u64],
         ) -> u32 {
-            self.0.exported_write(value, source, fields, out, start, info)
+            self.0.exported_write(writer, sources, fields, out, start, info)
         }
 
         pub fn part(&self, message: &[u8], at: usize, count: usize, info: &mut [u64]) -> u32 {

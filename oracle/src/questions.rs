@@ -1,74 +1,167 @@
 //! Answers lines as the program `answers` must: from the crate, and where it cannot tell, from the model.
-use crate::answers::{Fed, State, BOUND};
+use std::vec::IntoIter;
+
+use crate::answers::{Fed, State, Unwritten, BOUND};
 use crate::lent::EMPTY;
 use crate::lines;
 use crate::model::Model;
 use crate::shapes::kind;
 use crate::truth::Truth;
 
-/// The answer to a line; `?` if the line has not the form of any. A line may have any bytes.
+/// The answer to a line; `?` and why, if the line has not the form of any. A line may have any bytes.
 pub fn answer(truth: &mut Truth, line: &[u8]) -> String {
-    let text = std::str::from_utf8(line).ok().filter(|line| line.len() <= lines::LONGEST);
-    let known = text.and_then(|line| try_answer(truth, &line.split(' ').collect::<Vec<&str>>()));
-    known.unwrap_or(String::from("?"))
+    try_answer(truth, line).unwrap_or_else(|why| format!("? {why}"))
 }
 
-fn try_answer(truth: &mut Truth, words: &[&str]) -> Option<String> {
-    match *words {
-        ["read", name, at, bytes] => {
-            let answer = truth.read(kind(name)?, &unhex(bytes)?, number(at)?);
-            Some(lines::reading(&answer, &truth.rewriting))
+/// The words of a line are read from left to right, and the first fault that is met is told. Whether there is so much room
+/// is looked at when all of them were read.
+fn try_answer(truth: &mut Truth, line: &[u8]) -> Result<String, String> {
+    if line.len() > lines::LONGEST {
+        return Err(format!("the line has more than {} characters", lines::LONGEST));
+    }
+    let mut words = Words(line.split(|byte| *byte == b' ').collect::<Vec<&[u8]>>().into_iter());
+    match words.next("an empty line")? {
+        b"read" => {
+            let (kind, at, bytes) = (words.kind()?, words.number()?, words.bytes()?);
+            words.end()?;
+            let answer = truth.read(kind, &bytes, at);
+            Ok(lines::reading(&answer, &truth.rewriting))
         },
-        ["write", name, at, bytes, room, start] => {
-            let (mut out, start) = (buffer(room)?, number(start)?);
-            match truth.read(kind(name)?, &unhex(bytes)?, number(at)?) {
-                Ok(_) => Some(write(&truth.rewriting, &mut out, start)),
-                Err(refusal) => Some(lines::refusal(&refusal)),
+        b"write" => {
+            let (kind, at, bytes) = (words.kind()?, words.number()?, words.bytes()?);
+            let (room, start) = (words.number()?, words.number()?);
+            words.end()?;
+            let mut out = buffer(room)?;
+            match truth.read(kind, &bytes, at) {
+                Ok(_) => Ok(write(&truth.rewriting, &mut out, start)),
+                Err(refusal) => Ok(lines::refusal(&refusal)),
             }
         },
-        ["fragment", bytes, room, start] => {
+        b"fragment" => {
+            let (bytes, room, start) = (words.bytes()?, words.number()?, words.number()?);
+            words.end()?;
             let mut out = buffer(room)?;
-            let wrote = truth.fragment(&unhex(bytes)?, &mut out, number(start)?);
-            Some(lines::wrote(wrote, &out))
+            let wrote = truth.fragment(&bytes, &mut out, start);
+            Ok(lines::wrote(wrote, &out))
         },
-        ["feed", capacity, ref runs @ ..] if !runs.is_empty() => {
-            let runs: Option<Vec<Vec<u8>>> = runs.iter().map(|run| unhex(run)).collect();
-            Some(feed(truth, number(capacity)?, &runs?))
+        b"feed" => {
+            let (capacity, runs) = (words.number()?, words.runs()?);
+            Ok(feed(truth, capacity, &runs))
         },
-        ["state", capacity, placed, count, value, left, last, stopped, length, run] => {
+        b"state" => {
             let mut state = State {
-                capacity: number(capacity)? as u64,
-                placed: number(placed)? as u64,
-                count: number(count)? as u64,
-                value: number(value)? as u64,
-                left: number(left)? as u64,
-                last: yes(last)?,
-                stopped: yes(stopped)?,
+                capacity: words.number()? as u64,
+                placed: words.number()? as u64,
+                count: words.number()? as u64,
+                value: words.number()? as u64,
+                left: words.number()? as u64,
+                last: words.mark()?,
+                stopped: words.mark()?,
             };
+            let (length, run) = (words.number()?, words.bytes()?);
+            words.end()?;
             let mut record = buffer(length)?;
-            let fed = Model::FAULTLESS.feed(&mut state, &unhex(run)?, &mut record);
-            Some(lines::fed(&fed, None) + &lines::state_and_buffer(&state, &record))
+            let fed = Model::FAULTLESS.feed(&mut state, &run, &mut record);
+            Ok(lines::fed(&fed, None) + &lines::state_and_buffer(&state, &record))
         },
-        ["choose", seen, room, bytes] => {
+        b"choose" => {
+            let (seen, room, bytes) = (words.mark()?, words.number()?, words.bytes()?);
+            words.end()?;
             let mut out = buffer(room)?;
-            let choice = truth.choose(&unhex(bytes)?, yes(seen)?, &mut out);
-            Some(lines::choice(&choice, &out))
+            let choice = truth.choose(&bytes, seen, &mut out);
+            Ok(lines::choice(&choice, &out))
         },
-        ["part", bytes, place, count] => Some(part(&unhex(bytes)?, number(place)?, number(count)?, 1)),
-        ["words", bytes, place, count] => Some(part(&unhex(bytes)?, number(place)?, number(count)?, 4)),
-        _ => None,
+        word @ (b"part" | b"words") => {
+            let (bytes, place, count) = (words.bytes()?, words.number()?, words.number()?);
+            words.end()?;
+            Ok(part(&bytes, place, count, if word == b"words" { 4 } else { 1 }))
+        },
+        word => Err(format!("no question named {}", shown(word))),
     }
 }
 
-/// Bytes of a message written from a place of a buffer on. (A source over the bound is refused when it is read, a
-/// piece that was just read lies inside, and no rewriting of so short a line is over the bound: 9 and 5 are left.)
+/// The words of a line that were not read yet. They are parted by one space each.
+struct Words<'a>(IntoIter<&'a [u8]>);
+
+impl<'a> Words<'a> {
+    /// The next word. An empty one is as good as none.
+    fn next(&mut self, missing: &str) -> Result<&'a [u8], String> {
+        self.0.next().filter(|word| !word.is_empty()).ok_or_else(|| missing.to_owned())
+    }
+
+    fn kind(&mut self) -> Result<usize, String> {
+        let word = self.next("a kind is missing")?;
+        std::str::from_utf8(word).ok().and_then(kind).ok_or_else(|| format!("no kind named {}", shown(word)))
+    }
+
+    fn number(&mut self) -> Result<usize, String> {
+        let word = self.next("a number is missing")?;
+        let text = std::str::from_utf8(word).ok().filter(|_| word.iter().all(u8::is_ascii_digit));
+        text.and_then(|text| text.parse().ok()).ok_or_else(|| format!("not a number: {}", shown(word)))
+    }
+
+    /// A yes or no.
+    fn mark(&mut self) -> Result<bool, String> {
+        match self.next("a mark is missing")? {
+            b"0" => Ok(false),
+            b"1" => Ok(true),
+            word => Err(format!("neither 0 nor 1: {}", shown(word))),
+        }
+    }
+
+    /// Bytes in hex. (The program has room for 1,100,000, and no word of a line that is read spells more.)
+    fn bytes(&mut self) -> Result<Vec<u8>, String> {
+        let word = self.next("bytes are missing")?;
+        if word == b"-" {
+            return Ok(Vec::new());
+        }
+        let digits: Option<Vec<u8>> = word.iter().map(|byte| Some(char::from(*byte).to_digit(16)? as u8)).collect();
+        let digits = digits.ok_or_else(|| format!("not hex: {}", shown(word)))?;
+        if digits.len() % 2 == 1 {
+            return Err(String::from("odd number of hex digits"));
+        }
+        Ok(digits.chunks(2).map(|pair| pair[0] << 4 | pair[1]).collect())
+    }
+
+    /// Bytes to the line's end, a word for each run. There is one at least.
+    fn runs(&mut self) -> Result<Vec<Vec<u8>>, String> {
+        let mut runs = vec![self.bytes()?];
+        while self.0.len() > 0 {
+            runs.push(self.bytes()?);
+        }
+        Ok(runs)
+    }
+
+    fn end(&mut self) -> Result<(), String> {
+        match self.0.next() {
+            Some(_) => Err(String::from("more words than the line takes")),
+            None => Ok(()),
+        }
+    }
+}
+
+/// A word as it is told: its beginning, with a point for what cannot be printed.
+fn shown(word: &[u8]) -> String {
+    word.iter().take(32).map(|byte| if byte.is_ascii_graphic() { char::from(*byte) } else { '.' }).collect()
+}
+
+/// A buffer of so many bytes; there is none of more than the bound.
+fn buffer(length: usize) -> Result<Vec<u8>, String> {
+    if length > BOUND {
+        return Err(format!("room for more than {BOUND} bytes"));
+    }
+    Ok(vec![EMPTY; length])
+}
+
+/// Bytes of a message written from a place of a buffer on. (A source over the bound is refused when it is read, a piece
+/// that was just read lies inside, and no rewriting is longer than both 40 bytes and its source: 9 and 5 are left.)
 fn write(rewriting: &[u8], out: &mut [u8], start: usize) -> String {
     if start > out.len() {
-        return lines::wrote(Err(9), out);
+        return lines::wrote(Err(Unwritten::plain(9)), out);
     }
     let next = start + rewriting.len();
     match out.get_mut(start..next) {
-        None => lines::wrote(Err(5), out),
+        None => lines::wrote(Err(Unwritten::no_room(rewriting.len())), out),
         Some(place) => {
             place.copy_from_slice(rewriting);
             lines::wrote(Ok(next), out)
@@ -123,38 +216,6 @@ fn part(source: &[u8], place: usize, count: usize, width: usize) -> String {
     format!("inside {}", lines::hex(&source[place..end as usize]))
 }
 
-/// A buffer of as many bytes as a word says; there is none of more than the bound.
-fn buffer(text: &str) -> Option<Vec<u8>> {
-    number(text).filter(|length| *length <= BOUND).map(|length| vec![EMPTY; length])
-}
-
-fn number(text: &str) -> Option<usize> {
-    let decimal = text.bytes().all(|byte| byte.is_ascii_digit());
-    if decimal {
-        text.parse().ok()
-    } else {
-        None
-    }
-}
-
-fn yes(text: &str) -> Option<bool> {
-    match text {
-        "0" => Some(false),
-        "1" => Some(true),
-        _ => None,
-    }
-}
-
-fn unhex(text: &str) -> Option<Vec<u8>> {
-    if text == "-" {
-        return Some(Vec::new());
-    }
-    let digit = |byte: u8| (byte as char).to_digit(16).map(|digit| digit as u8);
-    let pairs = text.as_bytes().chunks(2);
-    let bytes = pairs.map(|pair| if let [high, low] = pair { Some(digit(*high)? << 4 | digit(*low)?) } else { None });
-    bytes.collect::<Option<Vec<u8>>>().filter(|bytes| !bytes.is_empty())
-}
-
 #[cfg(test)]
 mod tests {
     use super::answer;
@@ -205,30 +266,67 @@ mod tests {
 
     /// What docs/SCOPE.md leaves to the program: docs/DECISIONS.md says how it was decided.
     const DECIDED: &[(&[u8], &str)] = &[
-        (b"", "?"),
-        (b" ", "?"),
-        (b"feed 1", "?"),
-        (b"feed 1 ", "?"),
         (b"feed 1 -", "more 0; state 1 0 0 0 0 0 0; buffer ee"),
         (b"feed 1 - 80 -", "more 0; more 1; more 0; state 1 0 1 128 0 0 0; buffer ee"),
         (b"feed 0 80000000 -", "complete 0 4 -; more 0; state 0 0 0 0 0 0 0; buffer -"),
         (b"feed 0 8000000000", "complete 0 4 -; more 1; state 0 0 1 0 0 0 0; buffer -"),
         (b"feed 0 80000001 -", "refused 7 4; state 0 0 0 0 0 0 1; buffer -"),
         (b"feed 1048577 -", "refused 3"),
-        (b"feed 1048577 0", "?"),
         (b"feed 18446744073709551615 00", "refused 3"),
-        (b"fragment - 1048577 0", "?"),
-        (b"fragment - 18446744073709551615 0", "?"),
         (b"fragment - 0 18446744073709551615", "refused 9 -"),
-        (b"write bool 0 00000001 1048577 0", "?"),
-        (b"write bool 0 - 1048577 0", "?"),
-        (b"choose 0 1048577 0000002a00000002", "?"),
-        (b"state 1048577 0 0 0 0 0 0 1048577 -", "?"),
         (b"state 18446744073709551615 0 0 0 0 0 0 0 -", "refused 6 0; state 18446744073709551615 0 0 0 0 0 0; buffer -"),
         (b"part 00 0000000000000000000000 1", "inside 00"),
-        (b"part 00 18446744073709551616 0", "?"),
-        (b"part 00 0 1\r", "?"),
-        (b"part 00 0 \xff", "?"),
+    ];
+
+    /// Lines that are not understood: the first fault from the left is told.
+    const FAULTY: &[(&[u8], &str)] = &[
+        (b"", "? an empty line"),
+        (b" ", "? an empty line"),
+        (b" read bool 0 00000000", "? an empty line"),
+        (b"?", "? no question named ?"),
+        (b"READ bool 0 00000000", "? no question named READ"),
+        (b"rea\xff\td\x7f", "? no question named rea..d."),
+        (b"0123456789abcdef0123456789abcdef+", "? no question named 0123456789abcdef0123456789abcdef"),
+        (b"read", "? a kind is missing"),
+        (b"read  0 00000000", "? a kind is missing"),
+        (b"read Bool x", "? no kind named Bool"),
+        (b"read \xc3\xa9", "? no kind named .."),
+        (b"read bool", "? a number is missing"),
+        (b"read bool  00000000", "? a number is missing"),
+        (b"read bool x 0000000", "? not a number: x"),
+        (b"read bool -1 00000000", "? not a number: -1"),
+        (b"part 00 18446744073709551616 0", "? not a number: 18446744073709551616"),
+        (b"part 00 0 1\r", "? not a number: 1."),
+        (b"part 00 0 \xff", "? not a number: ."),
+        (b"read bool 0", "? bytes are missing"),
+        (b"read bool 0 ", "? bytes are missing"),
+        (b"read bool 0 0", "? odd number of hex digits"),
+        (b"read bool 0 0000000 more", "? odd number of hex digits"),
+        (b"read bool 0 g", "? not hex: g"),
+        (b"read bool 0 --", "? not hex: --"),
+        (b"read bool 0 00000000\r", "? not hex: 00000000."),
+        (b"read bool 0 00000000 ", "? more words than the line takes"),
+        (b"read bool 9 00000000 -", "? more words than the line takes"),
+        (b"feed", "? a number is missing"),
+        (b"feed 1", "? bytes are missing"),
+        (b"feed 1 ", "? bytes are missing"),
+        (b"feed 1 - ", "? bytes are missing"),
+        (b"feed 1  -", "? bytes are missing"),
+        (b"feed 1048577 0", "? odd number of hex digits"),
+        (b"feed 0 80000001 zz", "? not hex: zz"),
+        (b"choose", "? a mark is missing"),
+        (b"choose 00 x z", "? neither 0 nor 1: 00"),
+        (b"state 0 0 0 0 0 1 2 0 -", "? neither 0 nor 1: 2"),
+        (b"state 0 0 0 0 0 1  0 -", "? a mark is missing"),
+        (b"fragment - 1048577 0", "? room for more than 1048576 bytes"),
+        (b"fragment - 1048577", "? a number is missing"),
+        (b"fragment - 1048577 0 0", "? more words than the line takes"),
+        (b"fragment - 18446744073709551615 0", "? room for more than 1048576 bytes"),
+        (b"write bool 0 00000001 1048577 0", "? room for more than 1048576 bytes"),
+        (b"write bool 5 - 1048577 1048578", "? room for more than 1048576 bytes"),
+        (b"choose 0 1048577 0000002a00000002", "? room for more than 1048576 bytes"),
+        (b"choose 0 1048577 0", "? odd number of hex digits"),
+        (b"state 1048577 0 0 0 0 0 0 1048577 -", "? room for more than 1048576 bytes"),
     ];
 
     #[test]
@@ -242,7 +340,7 @@ mod tests {
     #[test]
     fn decided_lines() {
         let mut truth = Truth::new();
-        for (line, expected) in DECIDED {
+        for (line, expected) in DECIDED.iter().chain(FAULTY) {
             assert_eq!(answer(&mut truth, line), *expected, "{}", line.escape_ascii());
         }
     }
@@ -253,6 +351,8 @@ mod tests {
         let line = |zeros: usize| ["part 00 ", &"0".repeat(zeros), " 1"].concat();
         let most = LONGEST - line(0).len();
         assert_eq!(answer(&mut truth, line(most).as_bytes()), "inside 00");
-        assert_eq!(answer(&mut truth, line(most + 1).as_bytes()), "?");
+        let too_long = "? the line has more than 2200000 characters";
+        assert_eq!(answer(&mut truth, line(most + 1).as_bytes()), too_long);
+        assert_eq!(answer(&mut truth, &[b'?'; LONGEST + 1]), too_long);
     }
 }

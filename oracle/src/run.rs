@@ -7,11 +7,11 @@ use std::time::{Duration, Instant};
 
 use crate::cases::case;
 use crate::compare::{Difference, Sides};
-use crate::lines::LONGEST;
 use crate::tally::Tally;
 
-/// How many differences are shown.
+/// How many differences are shown, and how many characters of each of their parts.
 const SHOWN: usize = 20;
+const LONGEST: usize = 65_536;
 /// How many cases a thread takes at once.
 const BATCH: u64 = 2_048;
 /// How often a long run tells how far it is.

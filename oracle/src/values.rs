@@ -1,8 +1,8 @@
-//! The values that are exported one by one: a reader each, and a writer for all but `auth_unix`.
+//! The values that are exported one by one, and the writers of what their readers give.
 
 #[derive(Clone, Copy, Debug, PartialEq, Eq)]
 pub enum Value {
-    /// An `rpc_msg`; only a call is written.
+    /// An `rpc_msg`.
     Message,
     /// Read inside a credential's body.
     AuthUnix,
@@ -12,8 +12,8 @@ pub enum Value {
 }
 
 impl Value {
-    /// Those that are read from a place of a message, and written.
-    pub const WRITTEN: [Value; 4] = [Value::Message, Value::Fattr3, Value::Sattr3, Value::Diropargs3];
+    /// Those that are read from a place of a message.
+    pub const PLACED: [Value; 4] = [Value::Message, Value::Fattr3, Value::Sattr3, Value::Diropargs3];
 
     /// The name of its kind.
     pub fn kind(self) -> &'static str {
@@ -29,21 +29,11 @@ impl Value {
     /// The reader's name in include/yugerzat.h, without what all begin with.
     pub fn reader(self) -> &'static str {
         match self {
-            Value::Message => "judge",
+            Value::Message => "read_rpc_msg",
             Value::AuthUnix => "read_auth_unix",
             Value::Fattr3 => "read_fattr3",
             Value::Sattr3 => "read_sattr3",
             Value::Diropargs3 => "read_diropargs3",
-        }
-    }
-
-    pub fn writer(self) -> &'static str {
-        match self {
-            Value::Message => "write_call",
-            Value::AuthUnix => unreachable!("there is no such writer"),
-            Value::Fattr3 => "write_fattr3",
-            Value::Sattr3 => "write_sattr3",
-            Value::Diropargs3 => "write_diropargs3",
         }
     }
 
@@ -57,31 +47,96 @@ impl Value {
             Value::Diropargs3 => 6,
         }
     }
+}
 
-    /// How many fields its writer has.
+/// What is written by its fields. An `rpc_msg` has two writers.
+#[derive(Clone, Copy, Debug, PartialEq, Eq)]
+pub enum Writer {
+    Call,
+    Reply,
+    AuthUnix,
+    Fattr3,
+    Sattr3,
+    Diropargs3,
+}
+
+/// A piece among a writer's fields.
+#[derive(Clone, Copy, Debug, PartialEq, Eq)]
+pub struct PieceField {
+    /// Its place stands in this field, and its count in the next.
+    pub at: usize,
+    /// Which source it is a piece of: 0 or 1.
+    pub source: usize,
+    /// The bytes of what is counted.
+    pub width: usize,
+}
+
+impl Writer {
+    pub const ALL: [Writer; 6] =
+        [Writer::Call, Writer::Reply, Writer::AuthUnix, Writer::Fattr3, Writer::Sattr3, Writer::Diropargs3];
+
+    /// The value whose reader gives its fields.
+    pub fn value(self) -> Value {
+        match self {
+            Writer::Call | Writer::Reply => Value::Message,
+            Writer::AuthUnix => Value::AuthUnix,
+            Writer::Fattr3 => Value::Fattr3,
+            Writer::Sattr3 => Value::Sattr3,
+            Writer::Diropargs3 => Value::Diropargs3,
+        }
+    }
+
+    /// Its name in include/yugerzat.h, without what all begin with.
+    pub fn name(self) -> &'static str {
+        match self {
+            Writer::Call => "write_call",
+            Writer::Reply => "write_reply",
+            Writer::AuthUnix => "write_auth_unix",
+            Writer::Fattr3 => "write_fattr3",
+            Writer::Sattr3 => "write_sattr3",
+            Writer::Diropargs3 => "write_diropargs3",
+        }
+    }
+
+    /// How many fields it has.
     pub fn fields(self) -> usize {
         match self {
-            Value::Message => 11,
-            Value::AuthUnix => unreachable!("there is no such writer"),
-            Value::Fattr3 | Value::Sattr3 | Value::Diropargs3 => self.figures() - 2,
+            Writer::Call => 11,
+            Writer::Reply => 8,
+            Writer::AuthUnix => 7,
+            Writer::Fattr3 => 17,
+            Writer::Sattr3 => 14,
+            Writer::Diropargs3 => 4,
         }
     }
 
-    /// Where the pieces are among the writer's fields: each is a place and a count.
-    pub fn pieces(self) -> &'static [usize] {
+    /// How many sources it takes.
+    pub fn sources(self) -> usize {
         match self {
-            Value::Message => &[6, 9],
-            Value::Diropargs3 => &[0, 2],
-            Value::AuthUnix | Value::Fattr3 | Value::Sattr3 => &[],
+            Writer::Call | Writer::AuthUnix | Writer::Diropargs3 => 2,
+            Writer::Reply => 1,
+            Writer::Fattr3 | Writer::Sattr3 => 0,
         }
     }
 
-    /// The writer's fields among the figures of its reader; none for a message that is no call.
+    /// The pieces among its fields; that of a reply is one only if the reply is accepted.
+    pub fn pieces(self) -> &'static [PieceField] {
+        match self {
+            Writer::Call => &[PieceField { at: 6, source: 0, width: 1 }, PieceField { at: 9, source: 1, width: 1 }],
+            Writer::Reply => &[PieceField { at: 3, source: 0, width: 1 }],
+            Writer::AuthUnix => &[PieceField { at: 1, source: 0, width: 1 }, PieceField { at: 5, source: 1, width: 4 }],
+            Writer::Diropargs3 => &[PieceField { at: 0, source: 0, width: 1 }, PieceField { at: 2, source: 1, width: 1 }],
+            Writer::Fattr3 | Writer::Sattr3 => &[],
+        }
+    }
+
+    /// Its fields among the figures of its reader; none for a message that the other writer is for.
     pub fn fields_of(self, figures: &[u64]) -> Option<Vec<u64>> {
+        let is_call = figures[3] == 0;
         match self {
-            Value::Message if figures[3] != 0 => None,
-            Value::Message => Some([&figures[2..3], &figures[4..]].concat()),
-            Value::AuthUnix | Value::Fattr3 | Value::Sattr3 | Value::Diropargs3 => Some(figures[2..].to_vec()),
+            Writer::Call => is_call.then(|| [&figures[2..3], &figures[4..]].concat()),
+            Writer::Reply => (!is_call).then(|| figures[2..10].to_vec()),
+            Writer::AuthUnix | Writer::Fattr3 | Writer::Sattr3 | Writer::Diropargs3 => Some(figures[2..].to_vec()),
         }
     }
 }

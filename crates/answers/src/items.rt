@@ -3,6 +3,7 @@ use crate::buffer::fill;
 use crate::kinds::KindAt;
 use crate::kinds::kind_at;
 use crate::print;
+use crate::why;
 use crate::words::NumberAt;
 use crate::words::bytes_at;
 use crate::words::is_end;
@@ -53,7 +54,7 @@ pub(crate) fn read(
 ) -> Out {
     let k = kind_at(line, start);
     let KindAt::Is { kind, next: s } = k else {
-        return print::unknown(out, at);
+        return why::kind(line, start, out, at);
     };
     let p = number_at(line, s);
     let NumberAt::Is {
@@ -61,21 +62,25 @@ pub(crate) fn read(
         next: s,
     } = p
     else {
-        return print::unknown(out, at);
+        return why::number(line, s, out, at);
     };
     let b = bytes_at(line, s, message);
     if !b.good {
-        return print::unknown(out, at);
+        return why::bytes(line, s, out, at);
     }
     if !is_end(line, b.next) {
-        return print::unknown(out, at);
+        return why::words(out, at);
     }
     let n = b.count;
     let c = door::copy_kind(kind, &message[0..n], place, room, 0);
     match c {
-        Copied::Unknown => print::unknown(out, at),
+        Copied::Unknown => why::no_kind(out, at),
         Copied::Unread(r) => refusal(out, at, r),
-        Copied::Unwritten(r) => refusal(out, at, r),
+        Copied::Unwritten {
+            refusal: r,
+            next: _,
+            plain: _,
+        } => refusal(out, at, r),
         Copied::Done { next, plain, end } => took(
             out,
             at,
@@ -111,9 +116,13 @@ fn write_into(
     fill(buf);
     let c = door::copy_kind(kind, message, place, buf, start);
     match c {
-        Copied::Unknown => print::unknown(out, at),
+        Copied::Unknown => why::no_kind(out, at),
         Copied::Unread(r) => refusal(out, at, r),
-        Copied::Unwritten(r) => refused(out, at, r, buf),
+        Copied::Unwritten {
+            refusal: r,
+            next: _,
+            plain: _,
+        } => refused(out, at, r, buf),
         Copied::Done {
             next: _,
             plain: _,
@@ -133,7 +142,7 @@ pub(crate) fn write(
 ) -> Out {
     let k = kind_at(line, start);
     let KindAt::Is { kind, next: s } = k else {
-        return print::unknown(out, at);
+        return why::kind(line, start, out, at);
     };
     let p = number_at(line, s);
     let NumberAt::Is {
@@ -141,11 +150,11 @@ pub(crate) fn write(
         next: s,
     } = p
     else {
-        return print::unknown(out, at);
+        return why::number(line, s, out, at);
     };
     let b = bytes_at(line, s, message);
     if !b.good {
-        return print::unknown(out, at);
+        return why::bytes(line, s, out, at);
     }
     let l = number_at(line, b.next);
     let NumberAt::Is {
@@ -153,7 +162,7 @@ pub(crate) fn write(
         next: s,
     } = l
     else {
-        return print::unknown(out, at);
+        return why::number(line, b.next, out, at);
     };
     let f = number_at(line, s);
     let NumberAt::Is {
@@ -161,13 +170,13 @@ pub(crate) fn write(
         next: s,
     } = f
     else {
-        return print::unknown(out, at);
+        return why::number(line, s, out, at);
     };
     if !is_end(line, s) {
-        return print::unknown(out, at);
+        return why::words(out, at);
     }
     if room.len() < length {
-        return print::unknown(out, at);
+        return why::room(out, at);
     }
     let n = b.count;
     write_into(
@@ -201,7 +210,7 @@ pub(crate) fn part(
 ) -> Out {
     let b = bytes_at(line, start, message);
     if !b.good {
-        return print::unknown(out, at);
+        return why::bytes(line, start, out, at);
     }
     let p = number_at(line, b.next);
     let NumberAt::Is {
@@ -209,7 +218,7 @@ pub(crate) fn part(
         next: s,
     } = p
     else {
-        return print::unknown(out, at);
+        return why::number(line, b.next, out, at);
     };
     let c = number_at(line, s);
     let NumberAt::Is {
@@ -217,10 +226,10 @@ pub(crate) fn part(
         next: s,
     } = c
     else {
-        return print::unknown(out, at);
+        return why::number(line, s, out, at);
     };
     if !is_end(line, s) {
-        return print::unknown(out, at);
+        return why::words(out, at);
     }
     let n = b.count;
     let src = &message[0..n];

@@ -8,6 +8,7 @@ mod print;
 mod programs;
 mod records;
 mod usage;
+mod why;
 mod words;
 
 use stdio::Got;
@@ -90,7 +91,7 @@ fn answer(line: &[u8], message: &mut [u8], room: &mut [u8], out: &mut [u8], at: 
     if verb < 8 {
         return of_stream(verb, line, end + 1, message, room, out, at);
     }
-    print::unknown(out, at)
+    why::question(line, out, at)
 }
 
 // One character more of a line. Where there is no room for it, the line is too long, and is one longer than the room from then on.
@@ -112,7 +113,7 @@ fn answer_held(
     at: Out,
 ) -> Out {
     if line.len() < held {
-        let n = print::unknown(out, at);
+        let n = why::long(out, at);
         return say(out, n, b"\n");
     }
     let n = answer(&line[0..held], message, room, out, at);
@@ -238,15 +239,34 @@ fn answer_all(
     flush(out, n);
 }
 
+// What stands behind the program's name: only `--help` is understood.
+fn option(out: &mut [u8]) {
+    let mut word = io::buffer();
+    let n = os::arg(1, &mut word);
+    if os::arg_count() == 2 {
+        if check::same(&word[0..n], b"--help") {
+            usage::print(out);
+            return;
+        }
+        if check::same(&word[0..n], b"-h") {
+            usage::print(out);
+            return;
+        }
+    }
+    stdio::complain(
+        b"only the option --help is understood; questions are lines of standard input\n",
+    );
+}
+
 fn main() {
     let mut out = io::large_buffer();
     if os::arg_count() > 1 {
-        usage::print(&mut out);
+        option(&mut out);
         return;
     }
-    let mut input = io::buffer();
-    let mut line = io::large_buffer();
-    let mut message = io::large_buffer();
+    let mut input = io::large_buffer();
+    let mut line = buffer::line();
+    let mut message = buffer::message();
     let mut room = buffer::largest();
     answer_all(&mut input, &mut line, &mut message, &mut room, &mut out);
 }

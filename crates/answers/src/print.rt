@@ -35,8 +35,3 @@ pub(crate) fn hex(out: &mut [u8], at: Out, bytes: &[u8]) -> Out {
 pub(crate) fn parting(out: &mut [u8], at: Out) -> Out {
     say(out, at, b"; ")
 }
-
-// The answer to a line that is not of the form.
-pub(crate) fn unknown(out: &mut [u8], at: Out) -> Out {
-    say(out, at, b"?")
-}

@@ -2,6 +2,7 @@
 use crate::buffer::fill;
 use crate::items::refusal;
 use crate::print;
+use crate::why;
 use crate::words::MarkAt;
 use crate::words::NumberAt;
 use crate::words::bytes_at;
@@ -91,7 +92,7 @@ pub(crate) fn choose(
         next: s,
     } = w
     else {
-        return print::unknown(out, at);
+        return why::mark(line, start, out, at);
     };
     let w = number_at(line, s);
     let NumberAt::Is {
@@ -99,17 +100,17 @@ pub(crate) fn choose(
         next: s,
     } = w
     else {
-        return print::unknown(out, at);
+        return why::number(line, s, out, at);
     };
     let b = bytes_at(line, s, message);
     if !b.good {
-        return print::unknown(out, at);
+        return why::bytes(line, s, out, at);
     }
     if !is_end(line, b.next) {
-        return print::unknown(out, at);
+        return why::words(out, at);
     }
     if room.len() < length {
-        return print::unknown(out, at);
+        return why::room(out, at);
     }
     let n = b.count;
     choose_into(seen, &message[0..n], &mut room[0..length], out, at)

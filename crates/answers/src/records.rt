@@ -5,6 +5,7 @@ use crate::items::refusal;
 use crate::items::refused;
 use crate::items::wrote;
 use crate::print;
+use crate::why;
 use crate::words::MarkAt;
 use crate::words::NumberAt;
 use crate::words::after;
@@ -40,7 +41,7 @@ pub(crate) fn fragment(
 ) -> Out {
     let b = bytes_at(line, start, message);
     if !b.good {
-        return print::unknown(out, at);
+        return why::bytes(line, start, out, at);
     }
     let l = number_at(line, b.next);
     let NumberAt::Is {
@@ -48,7 +49,7 @@ pub(crate) fn fragment(
         next: s,
     } = l
     else {
-        return print::unknown(out, at);
+        return why::number(line, b.next, out, at);
     };
     let f = number_at(line, s);
     let NumberAt::Is {
@@ -56,13 +57,13 @@ pub(crate) fn fragment(
         next: s,
     } = f
     else {
-        return print::unknown(out, at);
+        return why::number(line, s, out, at);
     };
     if !is_end(line, s) {
-        return print::unknown(out, at);
+        return why::words(out, at);
     }
     if room.len() < length {
-        return print::unknown(out, at);
+        return why::room(out, at);
     }
     let n = b.count;
     fragment_into(&message[0..n], &mut room[0..length], from, out, at)
@@ -158,7 +159,7 @@ pub(crate) fn state(
         next: s,
     } = w
     else {
-        return print::unknown(out, at);
+        return why::number(line, start, out, at);
     };
     let w = number_at(line, s);
     let NumberAt::Is {
@@ -166,7 +167,7 @@ pub(crate) fn state(
         next: s,
     } = w
     else {
-        return print::unknown(out, at);
+        return why::number(line, s, out, at);
     };
     let w = number_at(line, s);
     let NumberAt::Is {
@@ -174,7 +175,7 @@ pub(crate) fn state(
         next: s,
     } = w
     else {
-        return print::unknown(out, at);
+        return why::number(line, s, out, at);
     };
     let w = number_at(line, s);
     let NumberAt::Is {
@@ -182,7 +183,7 @@ pub(crate) fn state(
         next: s,
     } = w
     else {
-        return print::unknown(out, at);
+        return why::number(line, s, out, at);
     };
     let w = number_at(line, s);
     let NumberAt::Is {
@@ -190,7 +191,7 @@ pub(crate) fn state(
         next: s,
     } = w
     else {
-        return print::unknown(out, at);
+        return why::number(line, s, out, at);
     };
     let w = mark_at(line, s);
     let MarkAt::Is {
@@ -198,7 +199,7 @@ pub(crate) fn state(
         next: s,
     } = w
     else {
-        return print::unknown(out, at);
+        return why::mark(line, s, out, at);
     };
     let w = mark_at(line, s);
     let MarkAt::Is {
@@ -206,7 +207,7 @@ pub(crate) fn state(
         next: s,
     } = w
     else {
-        return print::unknown(out, at);
+        return why::mark(line, s, out, at);
     };
     let w = number_at(line, s);
     let NumberAt::Is {
@@ -214,17 +215,17 @@ pub(crate) fn state(
         next: s,
     } = w
     else {
-        return print::unknown(out, at);
+        return why::number(line, s, out, at);
     };
     let b = bytes_at(line, s, message);
     if !b.good {
-        return print::unknown(out, at);
+        return why::bytes(line, s, out, at);
     }
     if !is_end(line, b.next) {
-        return print::unknown(out, at);
+        return why::words(out, at);
     }
     if room.len() < length {
-        return print::unknown(out, at);
+        return why::room(out, at);
     }
     let n = b.count;
     let given = Assembler {
@@ -239,20 +240,28 @@ pub(crate) fn state(
     feed_once(given, &message[0..n], &mut room[0..length], out, at)
 }
 
-// Whether all words from a place on, of which there is one at least, spell bytes.
-fn are_runs(line: &[u8], start: usize, message: &mut [u8]) -> bool {
+// Whether all words from a place on, of which there is one at least, spell bytes; and where the first starts that does not.
+struct Runs {
+    good: bool,
+    at: usize,
+}
+
+fn runs_at(line: &[u8], start: usize, message: &mut [u8]) -> Runs {
     if line.len() < start {
-        return false;
+        return Runs {
+            good: false,
+            at: start,
+        };
     }
     let mut s = start;
     while s <= line.len() {
         let b = bytes_at(line, s, message);
         if !b.good {
-            return false;
+            return Runs { good: false, at: s };
         }
         s = b.next;
     }
-    true
+    Runs { good: true, at: s }
 }
 
 // Where a feeding stands: the state, the bytes of the run that were used, whether it goes on, and how much output waits.
@@ -410,17 +419,18 @@ pub(crate) fn feed(
         next: s,
     } = c
     else {
-        return print::unknown(out, at);
+        return why::number(line, start, out, at);
     };
-    if !are_runs(line, s, message) {
-        return print::unknown(out, at);
+    let runs = runs_at(line, s, message);
+    if !runs.good {
+        return why::bytes(line, runs.at, out, at);
     }
     let made = rpcwire::fresh_assembler(capacity);
     match made {
         AssemblerMade::Refused(r) => refusal(out, at, r),
         AssemblerMade::Ready(state) => {
             if room.len() < capacity {
-                return print::unknown(out, at);
+                return why::room(out, at);
             }
             feed_all(state, line, s, message, &mut room[0..capacity], out, at)
         }

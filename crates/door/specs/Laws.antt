@@ -5,3 +5,5 @@ pub mod Values
 pub mod Given
 pub mod One
 pub mod Again
+pub mod Replies
+pub mod Judged

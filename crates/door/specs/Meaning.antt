@@ -4,3 +4,4 @@ pub mod Exports
 pub mod Figures
 pub mod Values
 pub mod Given
+pub mod Replies

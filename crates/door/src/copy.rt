@@ -9,8 +9,12 @@ pub enum Copied {
     Unknown,
     // The reading was refused.
     Unread(Refusal),
-    // The reading was taken, and the writing refused.
-    Unwritten(Refusal),
+    // The reading was taken, and the writing refused: the refusal, and the reading's place after what was read and its mark.
+    Unwritten {
+        refusal: Refusal,
+        next: usize,
+        plain: bool,
+    },
     // The place after what was read, whether that was in published form, and the place after what was written.
     Done {
         next: usize,
@@ -24,7 +28,11 @@ pub(crate) fn copied_to(next: usize, plain: bool, w: Wrote) -> Copied
     ensures { λ r. ⌜ Is (saidOf next plain) (viewWrote w) (viewCopied r) ⌝ }
 {
     match w {
-        Wrote::Refused(r) => Copied::Unwritten(r),
+        Wrote::Refused(r) => Copied::Unwritten {
+            refusal: r,
+            next,
+            plain,
+        },
         Wrote::Done(end) => Copied::Done { next, plain, end },
     }
 }

@@ -6,7 +6,7 @@ ghost use Rattle.xdr.specs.Meaning.Views.{viewWrote};
 ghost use Rattle.door.specs.Meaning.Copy.{viewCopied};
 ghost use Rattle.rpcwire.specs.Meaning.Views.{viewChoice, viewCaller, viewFed};
 ghost use Rattle.door.specs.Meaning.Figures.{Shown, Shows, Says};
-ghost use Rattle.door.specs.Meaning.Exports.{codeOf, figures, ReadCalled, wroteCode, wroteFigures, FragmentCalled, chosenCode, chosenFigures, handedFigures, ChooseCalled, stateList, fedCode, fedFigures, fedState, FeedCalled};
+ghost use Rattle.door.specs.Meaning.Exports.{codeOf, figures, RewriteCalled, sizeCode, sizeFigures, judgedCode, judgedFigures, JudgeCalled, wroteCode, wroteFigures, FragmentCalled, chosenCode, chosenFigures, handedFigures, ChooseCalled, stateList, fedCode, fedFigures, fedState, FeedCalled};
 use crate::copy::Copied;
 use crate::figures::bit;
 use crate::figures::put_figures;
@@ -18,6 +18,7 @@ use rpcwire::Fed;
 use rpcwire::choose;
 use rpcwire::feed;
 use rpcwire::write_fragment;
+use xdr::Refusal;
 use xdr::Wrote;
 
 // The list for the figures is too short.
@@ -39,9 +40,13 @@ fn tell_copied(c: Copied, info: &mut [u64]) -> u32
             put_figures(&[r.place() as u64, r.wanting() as u64], 1, info);
             r.number()
         }
-        Copied::Unwritten(r) => {
-            put_figures(&[], 3, info);
-            r.number()
+        Copied::Unwritten {
+            refusal,
+            next: _,
+            plain: _,
+        } => {
+            put_figures(&[0, 0, refusal.needed() as u64], 0, info);
+            refusal.number()
         }
         Copied::Done { next, plain, end } => {
             put_figures(&[next as u64, bit(plain), end as u64], 0, info);
@@ -52,22 +57,76 @@ fn tell_copied(c: Copied, info: &mut [u64]) -> u32
 
 // Reads a message of a kind from place `at` of src, and writes it in published form from the start of out. 0: info holds the place after
 // what was read, 1 if that was in published form and else 0, and the count of bytes written. A refusal of the reading: info holds its
-// place, how many bytes it wants, and 0. A refusal of the writing: three zeros.
+// place, how many bytes it wants, and 0. A refusal of the writing: two zeros, and how many bytes refusal 5 needs.
 #[no_mangle]
-pub extern "C" fn yugerzat_read(
+pub extern "C" fn yugerzat_rewrite(
     kind: u32,
     src: &[u8],
     at: usize,
     out: &mut [u8],
     info: &mut [u64],
 ) -> u32
-    ensures { λ r. ⌜ ReadCalled kind (now (src .entry)) at (now (out .entry)) (now (info .entry)) r (now (out .exit)) (now (info .exit)) ⌝ }
+    ensures { λ r. ⌜ RewriteCalled kind (now (src .entry)) at (now (out .entry)) (now (info .entry)) r (now (out .exit)) (now (info .exit)) ⌝ }
 {
     if info.len() < 3 {
         return SHORT_LIST;
     }
     let c = copy_kind(kind, src, at, out, 0);
     tell_copied(c, info)
+}
+
+// A reading whose rewriting was refused: what has no room says how long it is.
+fn tell_size(r: Refusal, next: usize, plain: bool, info: &mut [u64]) -> u32
+    requires { ⌜ 3 ≤ length (now info) ⌝ }
+    ensures { λ q. ⌜ Says sizeCode (sizeFigures next plain) r (now (info .entry)) q (now (info .exit)) ⌝ }
+{
+    let number = r.number();
+    if number != 5 {
+        put_figures(&[], 3, info);
+        return number;
+    }
+    put_figures(&[next as u64, bit(plain), r.needed() as u64], 0, info);
+    0
+}
+
+// The number of what a copy into no room says of a reading, and its figures: what has no room is how long the rewriting is.
+fn tell_judged(c: Copied, info: &mut [u64]) -> u32
+    requires { ⌜ 3 ≤ length (now info) ⌝ }
+    ensures { λ r. ⌜ Says judgedCode judgedFigures (viewCopied c) (now (info .entry)) r (now (info .exit)) ⌝ }
+{
+    match c {
+        Copied::Unknown => {
+            put_figures(&[], 3, info);
+            UNKNOWN_KIND
+        }
+        Copied::Unread(r) => {
+            put_figures(&[r.place() as u64, r.wanting() as u64], 1, info);
+            r.number()
+        }
+        Copied::Unwritten {
+            refusal,
+            next,
+            plain,
+        } => tell_size(refusal, next, plain, info),
+        Copied::Done { next, plain, end } => {
+            put_figures(&[next as u64, bit(plain), end as u64], 0, info);
+            0
+        }
+    }
+}
+
+// Reads a message of a kind from place `at` of src, and writes nothing. 0: info holds the place after what was read, 1 if that was in
+// published form and else 0, and how many bytes its rewriting has. A refusal: its place, how many bytes it wants, and 0.
+#[no_mangle]
+pub extern "C" fn yugerzat_judge(kind: u32, src: &[u8], at: usize, info: &mut [u64]) -> u32
+    ensures { λ r. ⌜ JudgeCalled kind (now (src .entry)) at (now (info .entry)) r (now (info .exit)) ⌝ }
+{
+    if info.len() < 3 {
+        return SHORT_LIST;
+    }
+    let mut none: [u8; 1] = [0];
+    let c = copy_kind(kind, src, at, &mut none[0..0], 0);
+    tell_judged(c, info)
 }
 
 // The number of a writer's answer, and its figure.
@@ -81,13 +140,14 @@ pub(crate) fn tell_wrote(w: Wrote, info: &mut [u64]) -> u32
             0
         }
         Wrote::Refused(r) => {
-            put_figures(&[], 1, info);
+            put_figures(&[r.needed() as u64], 0, info);
             r.number()
         }
     }
 }
 
-// Writes a message as a record's only fragment, from place `start` of out. 0: info holds the place after it. A refusal: 0.
+// Writes a message as a record's only fragment, from place `start` of out. 0: info holds the place after it. A refusal: how many bytes
+// refusal 5 needs, and 0 of the others.
 #[no_mangle]
 pub extern "C" fn yugerzat_fragment(
     message: &[u8],
@@ -236,7 +296,7 @@ fn tell_fed(f: Fed, list: &mut [u64], info: &mut [u64]) -> u32
         Fed::More { state, used } => {
             put_state(state, list);
             put_figures(&[used as u64], 1, info);
-            100
+            103
         }
         Fed::Complete {
             length,
@@ -245,13 +305,13 @@ fn tell_fed(f: Fed, list: &mut [u64], info: &mut [u64]) -> u32
         } => {
             put_state(state, list);
             put_figures(&[used as u64, length as u64], 0, info);
-            101
+            104
         }
     }
 }
 
 // Feeds a run of bytes to an assembler, whose state is seven numbers: capacity, bytes placed, header bytes so far and their value, bytes
-// left, last and stopped (0 or not). 100: more. 101: complete. Or refusal 6 or 7. info holds the bytes used, and the length of a complete
+// left, last and stopped (0 or not). 103: more. 104: complete. Or refusal 6 or 7. info holds the bytes used, and the length of a complete
 // record; the state is the one to go on with.
 #[no_mangle]
 pub extern "C" fn yugerzat_feed(

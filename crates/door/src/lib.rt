@@ -8,6 +8,7 @@ mod items;
 mod kinds;
 mod messages;
 // end of copiers
+pub mod replies;
 pub mod values_read;
 pub mod values_write;
 

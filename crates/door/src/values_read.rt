@@ -12,7 +12,7 @@ ghost use Rattle.nfs.specs.Meaning.Set.{atimeFrom, mtimeFrom};
 ghost use Rattle.rpc.specs.declared.message.rpc_body.the-variants.{CALL, REPLY};
 ghost use Rattle.rpc.specs.declared.reply.reply_body.the-variants.{«MSG_ACCEPTED», «MSG_DENIED»};
 ghost use Rattle.door.specs.Meaning.Figures.{Shown, Shows};
-ghost use Rattle.door.specs.Meaning.Values.{pieceFigures, diropargs3Figures, Diropargs3Called, fattr3Figures, Fattr3Called, optionFigures, timeFigures, sattr3Figures, Sattr3Called, acceptFigures, bodyFigures, JudgeCalled, unixFigures, UnixCalled, PartCalled};
+ghost use Rattle.door.specs.Meaning.Values.{pieceFigures, diropargs3Figures, Diropargs3Called, fattr3Figures, Fattr3Called, optionFigures, timeFigures, sattr3Figures, Sattr3Called, acceptFigures, bodyFigures, RpcMsgCalled, unixFigures, UnixCalled, PartCalled};
 use crate::exports::SHORT_LIST;
 use crate::figures::bit;
 use crate::figures::put_figures;
@@ -323,8 +323,8 @@ fn put_message(m: rpc_msg, next: usize, plain: bool, info: &mut [u64])
 // count of the credential and of the verifier. 1, an accepted reply: the verifier's three, the number of its accept_stat and the two versions of
 // PROG_MISMATCH. 2, denied by the version: the two versions. 3, denied by authentication: the number of its auth_stat.
 #[no_mangle]
-pub extern "C" fn yugerzat_judge(message: &[u8], at: usize, info: &mut [u64]) -> u32
-    ensures { λ r. ⌜ JudgeCalled (now (message .entry)) at (now (info .entry)) r (now (info .exit)) ⌝ }
+pub extern "C" fn yugerzat_read_rpc_msg(message: &[u8], at: usize, info: &mut [u64]) -> u32
+    ensures { λ r. ⌜ RpcMsgCalled (now (message .entry)) at (now (info .entry)) r (now (info .exit)) ⌝ }
 {
     if info.len() < 14 {
         return SHORT_LIST;

@@ -1,5 +1,5 @@
 // The exported writers of single values. Each takes the figures that the reader of its kind gives, without the first two, and writes from
-// place `start` of out. 0: info holds the place after the value. A refusal: 0. Where a list is too short the answer is 254, and where a
+// place `start` of out. 0: info holds the place after the value. A refusal: how many bytes refusal 5 needs, and 0 of the others. Where a list is too short the answer is 254, and where a
 // number does not fit its field 253; then nothing is touched.
 ghost use mathlib.Core.Path.{_≡_};
 ghost use Prim.Native.Nat.{_≤_};
@@ -9,7 +9,7 @@ ghost use Rattle.nfs.specs.Meaning.Change.{setModeTo, setUidTo, setGidTo, setSi
 ghost use Rattle.nfs.specs.Meaning.Set.{atimeTo, mtimeTo};
 ghost use Rattle.rpc.specs.Meaning.Closed.{flavorNumber, flavors};
 ghost use Rattle.door.specs.Meaning.Copy.{Is};
-ghost use Rattle.door.specs.Meaning.Given.{low, areWords, fattr3Words, fattr3By, fattr3Given, viewGivenFattr3, WriteFattr3Called, WriteDiropargs3Called, optionFits, timeFits, sattr3Fits, optionOf, timeOf, sattr3By, WriteSattr3Called, foundFlavor, callWords, callBy, callGiven, viewGivenCall, WriteCallCalled};
+ghost use Rattle.door.specs.Meaning.Given.{low, areWords, fattr3Words, fattr3By, fattr3Given, viewGivenFattr3, WriteFattr3Called, WriteDiropargs3Called, optionFits, timeFits, sattr3Fits, optionOf, timeOf, sattr3By, WriteSattr3Called, foundFlavor, callWords, callBy, callGiven, viewGivenCall, WriteCallCalled, unixWords, unixBy, unixGiven, viewGivenUnix, WriteUnixCalled};
 use crate::exports::SHORT_LIST;
 use crate::exports::tell_wrote;
 use nfs::diropargs3;
@@ -25,23 +25,23 @@ use nfs::set_mtime;
 use nfs::set_size3;
 use nfs::set_uid3;
 use nfs::specdata3;
-use nfs::write_diropargs3;
+use nfs::write_diropargs3_from;
 use nfs::write_fattr3;
 use nfs::write_sattr3;
 use nfsattr::attr::FtypeFound;
 use rpc::auth_flavor;
+use rpc::auth_unix;
 use rpc::call_body;
 use rpc::opaque_auth;
-use rpc::rpc_body;
-use rpc::rpc_msg;
-use rpc::write_rpc_msg;
+use rpc::write_auth_unix_from;
+use rpc::write_call_from;
 use xdr::Piece;
 
 // A number of a list does not fit its field.
 pub const WIDE_NUMBER: u32 = 253;
 
 // How many numbers fit a word. A number that was tested is its own rest.
-const WORDS: u64 = 4294967296;
+pub(crate) const WORDS: u64 = 4294967296;
 
 // What a list's numbers are: a fattr3, or not.
 pub enum GivenFattr3 {
@@ -138,16 +138,17 @@ pub extern "C" fn yugerzat_write_fattr3(
     tell_wrote(w, info)
 }
 
-// The pieces are of source.
+// The handle is a piece of dirs, and the name of names.
 #[no_mangle]
 pub extern "C" fn yugerzat_write_diropargs3(
-    source: &[u8],
+    dirs: &[u8],
+    names: &[u8],
     fields: &[u64],
     out: &mut [u8],
     start: usize,
     info: &mut [u64],
 ) -> u32
-    ensures { λ r. ⌜ WriteDiropargs3Called (now (source .entry)) (now (fields .entry)) (now (out .entry)) start (now (info .entry)) r (now (out .exit)) (now (info .exit)) ⌝ }
+    ensures { λ r. ⌜ WriteDiropargs3Called (now (dirs .entry)) (now (names .entry)) (now (fields .entry)) (now (out .entry)) start (now (info .entry)) r (now (out .exit)) (now (info .exit)) ⌝ }
 {
     if fields.len() < 4 {
         return SHORT_LIST;
@@ -167,7 +168,7 @@ pub extern "C" fn yugerzat_write_diropargs3(
             count: fields[3] as usize,
         },
     };
-    let w = write_diropargs3(source, v, out, start);
+    let w = write_diropargs3_from(dirs, names, v, out, start);
     tell_wrote(w, info)
 }
 
@@ -310,7 +311,7 @@ pub enum FlavorFound {
     Is(auth_flavor),
 }
 
-fn flavor_of(v: u64) -> FlavorFound
+pub(crate) fn flavor_of(v: u64) -> FlavorFound
     ensures { λ r. ⌜ foundFlavor r ≡ among flavorNumber flavors v ⌝ }
 {
     match v {
@@ -336,35 +337,32 @@ fn call_words(fields: &[u64]) -> bool
 // What a list's numbers are: a call, or not.
 pub enum GivenCall {
     Wide,
-    Is(rpc_msg),
+    Is { xid: u32, call: call_body },
 }
 
-fn call_of(fields: &[u64], cred: auth_flavor, verf: auth_flavor) -> rpc_msg
+fn call_of(fields: &[u64], cred: auth_flavor, verf: auth_flavor) -> call_body
     requires { ⌜ 11 ≤ length (now fields) ⌝ }
     ensures { λ r. ⌜ r ≡ callBy low (now (fields .entry)) cred verf ⌝ }
 {
-    rpc_msg {
-        xid: (fields[0] % WORDS) as u32,
-        body: rpc_body::CALL(call_body {
-            rpcvers: (fields[1] % WORDS) as u32,
-            prog: (fields[2] % WORDS) as u32,
-            vers: (fields[3] % WORDS) as u32,
-            proc: (fields[4] % WORDS) as u32,
-            cred: opaque_auth {
-                flavor: cred,
-                body: Piece {
-                    at: fields[6] as usize,
-                    count: fields[7] as usize,
-                },
+    call_body {
+        rpcvers: (fields[1] % WORDS) as u32,
+        prog: (fields[2] % WORDS) as u32,
+        vers: (fields[3] % WORDS) as u32,
+        proc: (fields[4] % WORDS) as u32,
+        cred: opaque_auth {
+            flavor: cred,
+            body: Piece {
+                at: fields[6] as usize,
+                count: fields[7] as usize,
             },
-            verf: opaque_auth {
-                flavor: verf,
-                body: Piece {
-                    at: fields[9] as usize,
-                    count: fields[10] as usize,
-                },
+        },
+        verf: opaque_auth {
+            flavor: verf,
+            body: Piece {
+                at: fields[9] as usize,
+                count: fields[10] as usize,
             },
-        }),
+        },
     }
 }
 
@@ -383,19 +381,24 @@ fn given_call(fields: &[u64]) -> GivenCall
     let FlavorFound::Is(verf) = f2 else {
         return GivenCall::Wide;
     };
-    GivenCall::Is(call_of(fields, cred, verf))
+    GivenCall::Is {
+        xid: (fields[0] % WORDS) as u32,
+        call: call_of(fields, cred, verf),
+    }
 }
 
-// The figures of a call: xid, rpcvers, prog, vers, proc, then flavor, place and count of the credential and of the verifier, which are of source.
+// The figures of a call: xid, rpcvers, prog, vers, proc, then flavor, place and count of the credential, a piece of creds, and of the
+// verifier, a piece of verfs.
 #[no_mangle]
 pub extern "C" fn yugerzat_write_call(
-    source: &[u8],
+    creds: &[u8],
+    verfs: &[u8],
     fields: &[u64],
     out: &mut [u8],
     start: usize,
     info: &mut [u64],
 ) -> u32
-    ensures { λ r. ⌜ WriteCallCalled (now (source .entry)) (now (fields .entry)) (now (out .entry)) start (now (info .entry)) r (now (out .exit)) (now (info .exit)) ⌝ }
+    ensures { λ r. ⌜ WriteCallCalled (now (creds .entry)) (now (verfs .entry)) (now (fields .entry)) (now (out .entry)) start (now (info .entry)) r (now (out .exit)) (now (info .exit)) ⌝ }
 {
     if fields.len() < 11 {
         return SHORT_LIST;
@@ -404,9 +407,77 @@ pub extern "C" fn yugerzat_write_call(
         return SHORT_LIST;
     }
     let given = given_call(fields);
-    let GivenCall::Is(m) = given else {
+    let GivenCall::Is { xid, call } = given else {
         return WIDE_NUMBER;
     };
-    let w = write_rpc_msg(source, m, out, start);
+    let w = write_call_from(creds, verfs, xid, call, out, start);
+    tell_wrote(w, info)
+}
+
+fn unix_words(fields: &[u64]) -> bool
+    requires { ⌜ 7 ≤ length (now fields) ⌝ }
+    ensures { λ r. ⌜ Is (areWords unixWords) (now (fields .entry)) r ⌝ }
+{
+    (fields[0] < WORDS) & (fields[3] < WORDS) & (fields[4] < WORDS)
+}
+
+// What a list's numbers are: an auth_unix, or not.
+pub enum GivenUnix {
+    Wide,
+    Is(auth_unix),
+}
+
+fn unix_of(fields: &[u64]) -> auth_unix
+    requires { ⌜ 7 ≤ length (now fields) ⌝ }
+    ensures { λ r. ⌜ r ≡ unixBy low (now (fields .entry)) ⌝ }
+{
+    auth_unix {
+        stamp: (fields[0] % WORDS) as u32,
+        machinename: Piece {
+            at: fields[1] as usize,
+            count: fields[2] as usize,
+        },
+        uid: (fields[3] % WORDS) as u32,
+        gid: (fields[4] % WORDS) as u32,
+        gids: Piece {
+            at: fields[5] as usize,
+            count: fields[6] as usize,
+        },
+    }
+}
+
+fn given_unix(fields: &[u64]) -> GivenUnix
+    requires { ⌜ 7 ≤ length (now fields) ⌝ }
+    ensures { λ r. ⌜ Is unixGiven (now (fields .entry)) (viewGivenUnix r) ⌝ }
+{
+    if !unix_words(fields) {
+        return GivenUnix::Wide;
+    }
+    GivenUnix::Is(unix_of(fields))
+}
+
+// The figures of an auth_unix: stamp, place and count of the name, a piece of names, uid, gid, and place and count of the gids, words of groups.
+#[no_mangle]
+pub extern "C" fn yugerzat_write_auth_unix(
+    names: &[u8],
+    groups: &[u8],
+    fields: &[u64],
+    out: &mut [u8],
+    start: usize,
+    info: &mut [u64],
+) -> u32
+    ensures { λ r. ⌜ WriteUnixCalled (now (names .entry)) (now (groups .entry)) (now (fields .entry)) (now (out .entry)) start (now (info .entry)) r (now (out .exit)) (now (info .exit)) ⌝ }
+{
+    if fields.len() < 7 {
+        return SHORT_LIST;
+    }
+    if info.len() < 1 {
+        return SHORT_LIST;
+    }
+    let given = given_unix(fields);
+    let GivenUnix::Is(v) = given else {
+        return WIDE_NUMBER;
+    };
+    let w = write_auth_unix_from(names, groups, v, out, start);
     tell_wrote(w, info)
 }

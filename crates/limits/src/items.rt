@@ -49,7 +49,11 @@ fn copied(out: &mut [u8], at: Out, c: Copied) -> Out {
     match c {
         Copied::Unknown => say(out, at, b" ?"),
         Copied::Unread(r) => print::refusal(out, at, r),
-        Copied::Unwritten(r) => print::refusal(out, at, r),
+        Copied::Unwritten {
+            refusal: r,
+            next: _,
+            plain: _,
+        } => print::refusal(out, at, r),
         Copied::Done { next, plain, end } => took(out, at, next, plain, end),
     }
 }

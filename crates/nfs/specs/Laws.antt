@@ -7,6 +7,7 @@ pub mod Write
 pub mod Bytes
 pub mod Lengths
 pub mod One
+pub mod Sources
 -- made by tools/generate: laws
 pub mod Change
 pub mod Dir

@@ -3,6 +3,7 @@
 pub mod Constants
 pub mod Set
 pub mod Views
+pub mod Sources
 -- made by tools/generate: meanings
 pub mod Change
 pub mod Dir

@@ -9,6 +9,7 @@ pub mod put;
 mod read;
 pub mod root;
 pub mod set;
+mod sources;
 mod write;
 // made by tools/generate: modules
 pub mod change;
@@ -93,6 +94,7 @@ pub use set::_time_how;
 pub use set::sattr3;
 pub use set::set_atime;
 pub use set::set_mtime;
+pub use sources::write_diropargs3_from;
 pub use write::write_nfsstring;
 pub use write::write_sattr3;
 pub use write::write_set_atime;

@@ -5,7 +5,7 @@
 use mathlib.Core.Path.{_≡_}
 use mathlib.Core.Bool.{true}
 use mathlib.Core.List.{List}
-use Prim.Native.Nat.{ℕ, _≤_}
+use Prim.Native.Nat.{ℕ, _≤_, _<_}
 use native.Mathlib.Omega.{arith}
 use lib.ListN.{length}
 use mir.Val.{Val}
@@ -22,8 +22,10 @@ use Rattle.rpc.specs.Meaning.Closed.{auth-flavor, auth-stat}
 use Rattle.rpc.specs.Meaning.Auth.{opaque-auth, auth-unix}
 use Rattle.rpc.specs.Meaning.Reply.{mismatch-info, accept-body, accepted-reply, rejected-reply, reply-body}
 use Rattle.rpc.specs.Meaning.Message.{call-body, rpc-body, rpc-msg}
-use Rattle.xdr.specs.Laws.Putting.{putting}
+use Rattle.xdr.specs.Laws.Putting.{putting, place-at, place-room}
+use Rattle.rpc.specs.Meaning.Sources.{unixFrom, messageFrom}
 use Rattle.rpc.specs.Laws.Sizes.{sizes}
+use Rattle.rpc.specs.Laws.Sources.{UnixReady, CallReady, writes-from}
 use Rattle.rpc.specs.declared.auth.auth_flavor.{«auth_flavor»}
 use Rattle.rpc.specs.declared.auth.auth_flavor.the-variants as flavor
 use Rattle.rpc.specs.declared.auth.auth_stat.{«auth_stat»}
@@ -134,6 +136,39 @@ module _ (s : List ℕ) (h : Bytes s) (k : length s ≤ most) where
           ),
         ),
       )
+
+-- from two sources
+pub unix-from-good : (s t : List ℕ) (m : «auth_unix») {vs : List Val} → Is AuthUnix.the-row m vs → Bytes s → Bytes t → UnixReady s t m
+    → auth-unix .codec .kind .Good (unixFrom s t m)
+unfolding auth-unix pieceHeld wordsHeld word number
+unix-from-good s t m p h g r =
+    let f = p .1 .1 in (
+      f .0 .1,
+      (
+        piece-good s (m .machinename) h (r .name .short),
+        (f .1 .1 .0 .1, (f .1 .1 .1 .0 .1, words-good t (m .gids) g (r .gids .short) (r .gids .inside))),
+      ),
+    )
+
+pub message-from-good : (s t : List ℕ) (xid : ℕ) (m : «call_body») {vs : List Val} → xid < 4294967296 → Is CallBody.the-row m vs → Bytes s → Bytes t
+    → CallReady s t m → rpc-msg .codec .kind .Good (messageFrom s t xid m)
+unfolding rpc-msg rpc-body call-body word number
+message-from-good s t xid m x p h g r =
+    let f = p .1 .1 in (
+      x,
+      (
+        omega arith,
+        (
+          f .0 .1,
+          (
+            f .1 .0 .1,
+            (f .1 .1 .0 .1, (f .1 .1 .1 .0 .1, (auth-good s h (r .cred .short) (m .cred), auth-good t g (r .verf .short) (m .verf)))),
+          ),
+        ),
+      ),
+    )
+
+pub ruleset writes-two = (place-at, place-room, writes-from, unix-from-good, message-from-good)
 
 -- what a writer's proof cites
 pub ruleset writes = (putting, sizes, info-good, accept-good, reject-good, auth-good, unix-good, call-good, accepted-good, reply-good, body-good, msg-good)

@@ -6,6 +6,7 @@ pub mod Sizes
 pub mod UnixIn
 pub mod Tags
 pub mod Puts
+pub mod Sources
 pub mod Closed
 pub mod Plans
 pub mod UnixKept

@@ -5,5 +5,6 @@ pub mod Auth
 pub mod UnixIn
 pub mod Reply
 pub mod Message
+pub mod Sources
 pub mod Makers
 pub mod Views

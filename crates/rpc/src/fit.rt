@@ -1,5 +1,6 @@
 // What a writer asks before it writes: whether the pieces lie inside the source, and how long the encoding is.
 ghost use mathlib.Core.Path.{_≡_};
+ghost use mathlib.Core.Bool.{_&&_};
 ghost use Prim.Native.Nat.{_≤_};
 ghost use Rattle.rpc.specs.Meaning.Auth.{opaque-auth, auth-unix};
 ghost use Rattle.rpc.specs.Meaning.Reply.{accepted-reply, reply-body};
@@ -40,6 +41,15 @@ pub(crate) fn call_body_inside(src: &[u8], m: call_body) -> bool
     let cred = m.cred;
     let verf = m.verf;
     opaque_auth_inside(src, cred) & opaque_auth_inside(src, verf)
+}
+
+// The same, where the verifier's body is a piece of another source.
+pub(crate) fn call_inside_from(creds: &[u8], verfs: &[u8], m: call_body) -> bool
+    ensures { λ r. ⌜ r ≡ (opaque-auth .held .inside (now (creds .entry)) (m .cred) && opaque-auth .held .inside (now (verfs .entry)) (m .verf)) ⌝ }
+{
+    let cred = m.cred;
+    let verf = m.verf;
+    opaque_auth_inside(creds, cred) & opaque_auth_inside(verfs, verf)
 }
 
 pub(crate) fn accepted_reply_inside(src: &[u8], m: accepted_reply) -> bool

@@ -1,12 +1,14 @@
 // Kinds laid at the front of a buffer that has room, field by field: each field's writer is lent the tail.
 ghost use mathlib.Core.Path.{_≡_};
-ghost use Prim.Native.Nat.{_≤_};
+ghost use Prim.Native.Nat.{_+_, _≤_};
 ghost use lib.ListN.{length};
 ghost use Rattle.xdr.specs.Meaning.Public.{output};
 ghost use Rattle.xdr.specs.Laws.Write.{Put, Ready};
 ghost use Rattle.rpc.specs.Meaning.Auth.{opaque-auth, auth-unix};
 ghost use Rattle.rpc.specs.Meaning.Reply.{mismatch-info, accept-body, accepted-reply, rejected-reply, reply-body};
 ghost use Rattle.rpc.specs.Meaning.Message.{call-body, rpc-body, rpc-msg};
+ghost use Rattle.rpc.specs.Meaning.Sources.{unixFrom, callFrom, messageFrom};
+ghost use Rattle.rpc.specs.Laws.Sources.{UnixReady, CallReady};
 ghost use Rattle.rpc.specs.Laws.Sizes.{authSize, unixSize, callSize, acceptTag, acceptSize, acceptedSize, rejectSize, replySize, bodySize, msgSize};
 use crate::auth::auth_unix;
 use crate::auth::opaque_auth;
@@ -43,19 +45,53 @@ pub(crate) fn put_opaque_auth(src: &[u8], m: opaque_auth, out: &mut [u8])
     put_opaque(src, body, &mut out[4..]);
 }
 
+// The name is a piece of one source, and the gids of another, which may be the same.
+pub(crate) fn put_auth_unix_from(names: &[u8], groups: &[u8], m: auth_unix, out: &mut [u8])
+    requires { ⌜ UnixReady (now names) (now groups) m ⌝ }
+    requires { ⌜ unixSize m ≤ length (now out) ⌝ }
+    ensures { λ _. ⌜ Put (now (out .entry)) (now (out .exit)) (unixSize m) (auth-unix .codec .kind .write (unixFrom (now (names .entry)) (now (groups .entry)) m)) ⌝ }
+{
+    let machinename = m.machinename;
+    let gids = m.gids;
+    put_u32(m.stamp, out);
+    put_opaque(names, machinename, &mut out[4..]);
+    let a = 4 + opaque_size(machinename.count);
+    let b = a + 8;
+    put_u32_pair(m.uid, m.gid, &mut out[a..]);
+    put_words(groups, gids, &mut out[b..]);
+}
+
 pub(crate) fn put_auth_unix(src: &[u8], m: auth_unix, out: &mut [u8])
     requires { ⌜ Ready auth-unix (now src) m ⌝ }
     requires { ⌜ unixSize m ≤ length (now out) ⌝ }
     ensures { λ _. ⌜ Put (now (out .entry)) (now (out .exit)) (unixSize m) (output auth-unix (now (src .entry)) m) ⌝ }
 {
-    let machinename = m.machinename;
-    let gids = m.gids;
-    put_u32(m.stamp, out);
-    put_opaque(src, machinename, &mut out[4..]);
-    let a = 4 + opaque_size(machinename.count);
-    let b = a + 8;
-    put_u32_pair(m.uid, m.gid, &mut out[a..]);
-    put_words(src, gids, &mut out[b..]);
+    put_auth_unix_from(src, src, m, out);
+}
+
+// The credential's body is a piece of one source, and the verifier's of another, which may be the same.
+pub(crate) fn put_call_body_from(creds: &[u8], verfs: &[u8], m: call_body, out: &mut [u8])
+    requires { ⌜ CallReady (now creds) (now verfs) m ⌝ }
+    requires { ⌜ callSize m ≤ length (now out) ⌝ }
+    ensures { λ _. ⌜ Put (now (out .entry)) (now (out .exit)) (callSize m) (call-body .codec .kind .write (callFrom (now (creds .entry)) (now (verfs .entry)) m)) ⌝ }
+{
+    let cred = m.cred;
+    let verf = m.verf;
+    put_u32_pair(m.rpcvers, m.prog, out);
+    put_u32_pair(m.vers, m.proc, &mut out[8..]);
+    put_opaque_auth(creds, cred, &mut out[16..]);
+    let a = 16 + opaque_auth_size(cred);
+    put_opaque_auth(verfs, verf, &mut out[a..]);
+}
+
+// The rpc_msg of a call.
+pub(crate) fn put_call_from(creds: &[u8], verfs: &[u8], xid: u32, m: call_body, out: &mut [u8])
+    requires { ⌜ CallReady (now creds) (now verfs) m ⌝ }
+    requires { ⌜ 8 + callSize m ≤ length (now out) ⌝ }
+    ensures { λ _. ⌜ Put (now (out .entry)) (now (out .exit)) (8 + callSize m) (rpc-msg .codec .kind .write (messageFrom (now (creds .entry)) (now (verfs .entry)) xid m)) ⌝ }
+{
+    put_u32_pair(xid, 0, out);
+    put_call_body_from(creds, verfs, m, &mut out[8..]);
 }
 
 pub(crate) fn put_call_body(src: &[u8], m: call_body, out: &mut [u8])
@@ -63,13 +99,7 @@ pub(crate) fn put_call_body(src: &[u8], m: call_body, out: &mut [u8])
     requires { ⌜ callSize m ≤ length (now out) ⌝ }
     ensures { λ _. ⌜ Put (now (out .entry)) (now (out .exit)) (callSize m) (output call-body (now (src .entry)) m) ⌝ }
 {
-    let cred = m.cred;
-    let verf = m.verf;
-    put_u32_pair(m.rpcvers, m.prog, out);
-    put_u32_pair(m.vers, m.proc, &mut out[8..]);
-    put_opaque_auth(src, cred, &mut out[16..]);
-    let a = 16 + opaque_auth_size(cred);
-    put_opaque_auth(src, verf, &mut out[a..]);
+    put_call_body_from(src, src, m, out);
 }
 
 fn accept_tag(m: accept_body) -> u32

@@ -8,6 +8,7 @@ ghost use Rattle.rpc.specs.Meaning.Closed.{msg-type, reply-stat, accept-
 ghost use Rattle.rpc.specs.Meaning.Auth.{opaque-auth, auth-unix};
 ghost use Rattle.rpc.specs.Meaning.Reply.{mismatch-info, accept-body, accepted-reply, rejected-reply, reply-body};
 ghost use Rattle.rpc.specs.Meaning.Message.{call-body, rpc-body, rpc-msg};
+ghost use Rattle.rpc.specs.Meaning.Sources.{WritesUnixFrom, WritesCallFrom};
 use crate::auth::auth_flavor;
 use crate::auth::auth_stat;
 use crate::auth::auth_unix;
@@ -19,6 +20,7 @@ use crate::fit::auth_unix_inside;
 use crate::fit::auth_unix_size;
 use crate::fit::call_body_inside;
 use crate::fit::call_body_size;
+use crate::fit::call_inside_from;
 use crate::fit::opaque_auth_inside;
 use crate::fit::opaque_auth_size;
 use crate::fit::rejected_reply_size;
@@ -33,7 +35,9 @@ use crate::message::rpc_msg;
 use crate::put::put_accept_body;
 use crate::put::put_accepted_reply;
 use crate::put::put_auth_unix;
+use crate::put::put_auth_unix_from;
 use crate::put::put_call_body;
+use crate::put::put_call_from;
 use crate::put::put_mismatch_info;
 use crate::put::put_opaque_auth;
 use crate::put::put_rejected_reply;
@@ -49,7 +53,10 @@ use crate::reply::rejected_reply;
 use crate::reply::reply_body;
 use crate::reply::reply_stat;
 use xdr::Wrote;
+use xdr::inside;
+use xdr::order::longer;
 use xdr::order::place;
+use xdr::words_inside;
 use xdr::write_u32;
 
 // A closed enumeration is the word of its number.
@@ -239,5 +246,56 @@ pub fn write_rpc_msg(src: &[u8], m: rpc_msg, out: &mut [u8], at: usize) -> Wrote
         return w;
     };
     put_rpc_msg(src, m, &mut out[at..]);
+    w
+}
+
+// From two sources: the name is a piece of `names`, and the gids of `groups`.
+pub fn write_auth_unix_from(
+    names: &[u8],
+    groups: &[u8],
+    m: auth_unix,
+    out: &mut [u8],
+    at: usize,
+) -> Wrote
+    ensures { λ r. ⌜ WritesUnixFrom (now (names .entry)) (now (groups .entry)) m at (now (out .entry)) (viewWrote r) (now (out .exit)) ⌝ }
+{
+    let machinename = m.machinename;
+    let gids = m.gids;
+    let w = place(
+        longer(names.len(), groups.len()),
+        inside(names, machinename) & words_inside(groups, gids),
+        auth_unix_size(m),
+        out.len(),
+        at,
+    );
+    let Wrote::Done(_) = w else {
+        return w;
+    };
+    put_auth_unix_from(names, groups, m, &mut out[at..]);
+    w
+}
+
+// The rpc_msg of a call from two sources: the credential's body is a piece of `creds`, and the verifier's of `verfs`.
+pub fn write_call_from(
+    creds: &[u8],
+    verfs: &[u8],
+    xid: u32,
+    m: call_body,
+    out: &mut [u8],
+    at: usize,
+) -> Wrote
+    ensures { λ r. ⌜ WritesCallFrom (now (creds .entry)) (now (verfs .entry)) xid m at (now (out .entry)) (viewWrote r) (now (out .exit)) ⌝ }
+{
+    let w = place(
+        longer(creds.len(), verfs.len()),
+        call_inside_from(creds, verfs, m),
+        8 + call_body_size(m),
+        out.len(),
+        at,
+    );
+    let Wrote::Done(_) = w else {
+        return w;
+    };
+    put_call_from(creds, verfs, xid, m, &mut out[at..]);
     w
 }

@@ -54,7 +54,7 @@ fn reply(message: &[u8], m: rpc_msg, out: &mut [u8]) -> Choice
 {
     let wrote = write_rpc_msg(&message[..0], m, out, 0);
     let Wrote::Done(n) = wrote else {
-        return Choice::Refused(Refusal::NoRoom);
+        return Choice::Refused(Refusal::NoRoom { needed: 24 });
     };
     Choice::Replied(n)
 }

@@ -19,7 +19,7 @@ pub fn write_fragment(message: &[u8], out: &mut [u8], at: usize) -> Wrote
         return Wrote::Refused(Refusal::TooLong);
     }
     if out.len() - at < 4 + n {
-        return Wrote::Refused(Refusal::NoRoom);
+        return Wrote::Refused(Refusal::NoRoom { needed: 4 + n });
     }
     put_u32(n as u32 + 2147483648, &mut out[at..]);
     let body = at + 4;

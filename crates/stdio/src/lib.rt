@@ -10,6 +10,7 @@ mod wait;
 pub use input::Got;
 pub use input::read;
 pub use output::Out;
+pub use output::complain;
 pub use output::flush;
 pub use output::number;
 pub use output::say;

@@ -156,3 +156,8 @@ pub fn number(buf: &mut [u8], at: Out, n: u64) -> Out
     let k = io::decimal(n, &mut digits);
     say(buf, at, &digits[0..k])
 }
+
+// Says something on standard error, at once. What cannot be said there is lost: there is nowhere else to say it.
+pub fn complain(text: &[u8]) {
+    io::write_all(libc::STDERR_FILENO, text);
+}

@@ -67,7 +67,7 @@ impl Unhexed {
 }
 
 // Whether every character of a word is a digit.
-fn are_digits(word: &[u8]) -> bool
+pub fn are_digits(word: &[u8]) -> bool
     ensures { λ r. ⌜ Digits (now (word .entry)) r ⌝ }
 {
     let mut i = 0;

@@ -4,6 +4,7 @@ pub mod numeral;
 pub mod word;
 
 pub use hex::Unhexed;
+pub use hex::are_digits;
 pub use hex::glyph;
 pub use hex::unhex;
 pub use numeral::Number;

@@ -47,6 +47,7 @@ pub mod Pairs
 pub mod Keys
 pub mod Unions
 pub mod Putting
+pub mod Sources
 pub mod ByNumber
 pub mod Fields
 pub mod Optional

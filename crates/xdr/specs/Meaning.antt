@@ -17,4 +17,5 @@ pub mod Formats
 pub mod Sizes
 pub mod Order
 pub mod Public
+pub mod Sources
 pub mod Views

@@ -4,6 +4,7 @@ ghost use mathlib.Core.Bool.{true};
 ghost use Rattle.xdr.specs.Meaning.Answer.{opened, took};
 ghost use Rattle.xdr.specs.Meaning.Views.{viewOpening, viewWrote};
 ghost use Rattle.xdr.specs.Meaning.Order.{roomed, placing};
+ghost use Rattle.xdr.specs.Meaning.Sources.{longer};
 use crate::MOST;
 use crate::answer::Wrote;
 use crate::refusal::Refusal;
@@ -35,9 +36,16 @@ pub fn room(len: usize, at: usize, size: usize) -> Wrote
         return Wrote::Refused(Refusal::PastEnd);
     }
     if len - at < size {
-        return Wrote::Refused(Refusal::NoRoom);
+        return Wrote::Refused(Refusal::NoRoom { needed: size });
     }
     Wrote::Done(at + size)
+}
+
+// The longer of two lengths: of the sources of a message whose pieces lie in two.
+pub fn longer(a: usize, b: usize) -> usize
+    ensures { λ r. ⌜ r ≡ longer a b ⌝ }
+{
+    if a <= b { b } else { a }
 }
 
 // Any writer: 9, 3 for the source, 4, 3 for the encoding, 5.
@@ -57,7 +65,7 @@ pub fn place(source: usize, inside: bool, size: usize, room: usize, at: usize) -
         return Wrote::Refused(Refusal::TooLong);
     }
     if room - at < size {
-        return Wrote::Refused(Refusal::NoRoom);
+        return Wrote::Refused(Refusal::NoRoom { needed: size });
     }
     Wrote::Done(at + size)
 }

@@ -1,6 +1,6 @@
 // Why a message is not read, written, assembled or answered: refusals 1 to 9 of docs/SCOPE.md, in one enum for every layer.
 ghost use mathlib.Core.Path.{_≡_};
-ghost use Rattle.xdr.specs.Meaning.Refusal.{numberOf, placeOf, wantingOf};
+ghost use Rattle.xdr.specs.Meaning.Refusal.{numberOf, placeOf, wantingOf, neededOf};
 
 pub enum Refusal {
     // 1: the message ends inside an item; the place of the item's first byte, and how many bytes are wanting to finish it: the rest of a
@@ -12,8 +12,8 @@ pub enum Refusal {
     TooLong,
     // 4: a message to be written names a piece outside its source.
     Outside,
-    // 5: too little room from the asked place on.
-    NoRoom,
+    // 5: too little room from the asked place on; how many bytes the writing needs there.
+    NoRoom { needed: usize },
     // 6: the record assembler's state does not fit.
     Unfit,
     // 7: a fragment would pass the end of the record buffer.
@@ -36,7 +36,7 @@ impl Refusal {
             Refusal::Undeclared(_) => 2,
             Refusal::TooLong => 3,
             Refusal::Outside => 4,
-            Refusal::NoRoom => 5,
+            Refusal::NoRoom { needed: _ } => 5,
             Refusal::Unfit => 6,
             Refusal::Overrun => 7,
             Refusal::NotCall => 8,
@@ -53,7 +53,7 @@ impl Refusal {
             Refusal::Undeclared(p) => p,
             Refusal::TooLong => 0,
             Refusal::Outside => 0,
-            Refusal::NoRoom => 0,
+            Refusal::NoRoom { needed: _ } => 0,
             Refusal::Unfit => 0,
             Refusal::Overrun => 0,
             Refusal::NotCall => 0,
@@ -70,7 +70,27 @@ impl Refusal {
             Refusal::Undeclared(_) => 0,
             Refusal::TooLong => 0,
             Refusal::Outside => 0,
-            Refusal::NoRoom => 0,
+            Refusal::NoRoom { needed: _ } => 0,
+            Refusal::Unfit => 0,
+            Refusal::Overrun => 0,
+            Refusal::NotCall => 0,
+            Refusal::PastEnd => 0,
+        }
+    }
+
+    // How many bytes a writing needs that refusal 5 answers; 0 of the others.
+    pub fn needed(self) -> usize
+        ensures { λ r. ⌜ r ≡ neededOf self ⌝ }
+    {
+        match self {
+            Refusal::Ended {
+                place: _,
+                wanting: _,
+            } => 0,
+            Refusal::Undeclared(_) => 0,
+            Refusal::TooLong => 0,
+            Refusal::Outside => 0,
+            Refusal::NoRoom { needed } => needed,
             Refusal::Unfit => 0,
             Refusal::Overrun => 0,
             Refusal::NotCall => 0,

@@ -32,20 +32,22 @@ pub fn held(kind: &str, source: &[u8]) -> Option<Vec<Field>> {
     }
 }
 
-/// What the crate writes for the fields of a message of a kind (an `rpc_msg` is a call, without its tag); none where its
-/// types cannot hold them.
-pub fn written(kind: &str, fields: &[Field]) -> Option<Vec<u8>> {
-    match kind {
-        "rpc_msg" => bytes_of(&call(fields)?),
-        "fattr3" => bytes_of(&fattr3_of(fields)?),
-        "sattr3" => bytes_of(&sattr3_of(fields)?),
-        "diropargs3" => match fields {
+/// What the crate writes for the fields that a writer of include/yugerzat.h has, bytes or words for each piece; none where
+/// its types cannot hold them.
+pub fn written(writer: &str, fields: &[Field]) -> Option<Vec<u8>> {
+    match writer {
+        "write_call" => bytes_of(&call(fields)?),
+        "write_reply" => bytes_of(&reply(fields)?),
+        "write_auth_unix" => bytes_of(&auth_unix_of(fields)?),
+        "write_fattr3" => bytes_of(&fattr3_of(fields)?),
+        "write_sattr3" => bytes_of(&sattr3_of(fields)?),
+        "write_diropargs3" => match fields {
             [Bytes(dir), Bytes(name)] => {
                 bytes_of(&diropargs3 { dir: nfs_fh3 { data: dir.clone() }, name: nfsstring(name.clone()) })
             },
-            _ => panic!("these are not the fields of {kind}: {fields:?}"),
+            _ => panic!("these are not the fields of a diropargs3: {fields:?}"),
         },
-        _ => panic!("{kind} is not written by its fields"),
+        _ => panic!("there is no {writer}"),
     }
 }
 
@@ -178,23 +180,71 @@ fn word(number: u64) -> Option<u32> {
     u32::try_from(number).ok()
 }
 
+fn auth(flavor: u64, body: &[u8]) -> Option<opaque_auth> {
+    Some(opaque_auth { flavor: auth_flavor::from_u64(flavor)?, body: body.to_vec() })
+}
+
+fn versions(low: u64, high: u64) -> Option<mismatch_info> {
+    Some(mismatch_info { low: word(low)?, high: word(high)? })
+}
+
 fn call(fields: &[Field]) -> Option<rpc_msg> {
     let [Number(xid), Number(rpcvers), Number(prog), Number(vers), Number(proc), Number(cred), Bytes(cred_body), Number(verf), Bytes(verf_body)] =
         fields
     else {
         panic!("these are not the fields of a call: {fields:?}")
     };
-    let auth =
-        |flavor: &u64, body: &[u8]| Some(opaque_auth { flavor: auth_flavor::from_u64(*flavor)?, body: body.to_vec() });
     let call = call_body {
         rpcvers: word(*rpcvers)?,
         prog: word(*prog)?,
         vers: word(*vers)?,
         proc: word(*proc)?,
-        cred: auth(cred, cred_body)?,
-        verf: auth(verf, verf_body)?,
+        cred: auth(*cred, cred_body)?,
+        verf: auth(*verf, verf_body)?,
     };
     Some(rpc_msg { xid: word(*xid)?, body: rpc_body::CALL(call) })
+}
+
+/// A reply by its tag; the crate has none of another tag.
+fn reply(fields: &[Field]) -> Option<rpc_msg> {
+    let body = match fields {
+        [_, Number(1), Number(flavor), Bytes(body), Number(status), Number(low), Number(high)] => {
+            let reply_data = match _accept_stat::from_u64(*status)? {
+                _accept_stat::SUCCESS => accept_body::SUCCESS,
+                _accept_stat::PROG_UNAVAIL => accept_body::PROG_UNAVAIL,
+                _accept_stat::PROG_MISMATCH => accept_body::PROG_MISMATCH(versions(*low, *high)?),
+                _accept_stat::PROC_UNAVAIL => accept_body::PROC_UNAVAIL,
+                _accept_stat::GARBAGE_ARGS => accept_body::GARBAGE_ARGS,
+            };
+            reply_body::MSG_ACCEPTED(accepted_reply { verf: auth(*flavor, body)?, reply_data })
+        },
+        [_, Number(2), Number(low), Number(high), ..] => {
+            reply_body::MSG_DENIED(rejected_reply::RPC_MISMATCH(versions(*low, *high)?))
+        },
+        [_, Number(3), Number(reason), ..] => {
+            reply_body::MSG_DENIED(rejected_reply::AUTH_ERROR(auth_stat::from_u64(*reason)?))
+        },
+        _ => return None,
+    };
+    let Number(xid) = &fields[0] else { panic!("these are not the fields of a reply: {fields:?}") };
+    Some(rpc_msg { xid: word(*xid)?, body: rpc_body::REPLY(body) })
+}
+
+/// The crate keeps these fields to itself: it is given the bytes that they are, and must write the same again.
+fn auth_unix_of(fields: &[Field]) -> Option<auth_unix> {
+    let [Number(stamp), Bytes(name), Number(uid), Number(gid), Words(gids)] = fields else {
+        panic!("these are not the fields of an auth_unix: {fields:?}")
+    };
+    let mut bytes = word(*stamp)?.to_be_bytes().to_vec();
+    bytes.extend((name.len() as u32).to_be_bytes());
+    bytes.extend(name);
+    bytes.resize(bytes.len().next_multiple_of(4), 0);
+    for number in [word(*uid)?, word(*gid)?, gids.len() as u32].iter().chain(gids) {
+        bytes.extend(number.to_be_bytes());
+    }
+    let value = read(&bytes).expect("the crate takes it");
+    assert_eq!(bytes_of(&value).as_ref(), Some(&bytes), "the crate writes what it read in published form");
+    Some(value)
 }
 
 fn fattr3_of(fields: &[Field]) -> Option<fattr3> {

@@ -12,7 +12,7 @@ pub use streams::{cuts, state, stream};
 use crate::answers::{State, BOUND};
 use crate::random::Random;
 use crate::shapes::{kind, AUTH_UNIX, KINDS};
-use crate::values::Value;
+use crate::values::{Value, Writer};
 
 /// A question, and what is lent with it.
 #[derive(Clone, Debug)]
@@ -27,13 +27,30 @@ pub enum Question {
     Read { kind: u32, at: usize, message: Vec<u8>, room: Room },
     Value { value: Value, at: usize, message: Vec<u8> },
     AuthUnix { at: usize, count: usize, message: Vec<u8> },
-    Write { value: Value, source: Vec<u8>, fields: Vec<u64>, room: usize, start: usize },
+    Write { writer: Writer, sources: Sources, fields: Vec<u64>, room: usize, start: usize },
     Part { message: Vec<u8>, at: usize, count: usize },
     Choose { seen: bool, room: usize, message: Vec<u8> },
     Feed { capacity: usize, runs: Vec<Vec<u8>> },
     State { state: State, length: usize, run: Vec<u8> },
     Fragment { message: Vec<u8>, room: usize, start: usize },
     Cuts { cut: Cut, message: Vec<u8> },
+}
+
+/// What the pieces of a writer are of. A writer without pieces is lent none of it.
+#[derive(Clone, Debug)]
+pub enum Sources {
+    /// One buffer, lent once or twice.
+    Same(Vec<u8>),
+    Two(Vec<u8>, Vec<u8>),
+}
+
+impl Sources {
+    pub fn both(&self) -> [&[u8]; 2] {
+        match self {
+            Sources::Same(source) => [source, source],
+            Sources::Two(first, second) => [first, second],
+        }
+    }
 }
 
 /// What a whole message is, and who reads it, where it is cut at every byte.
@@ -170,7 +187,7 @@ fn cut(random: &mut Random, length: usize) -> Case {
             Question::Choose { seen: random.once_in(4), room: 24, message: bytes }
         },
         2 => {
-            let value = random.pick(&Value::WRITTEN);
+            let value = random.pick(&Value::PLACED);
             let style = Style::any(random);
             let kind = kind(value.kind()).expect("the kind is known");
             append_message(random, &KINDS[kind].1, style, &mut bytes, &mut words);
@@ -190,10 +207,10 @@ fn cut(random: &mut Random, length: usize) -> Case {
 
 fn any(random: &mut Random) -> Question {
     match random.below(100) {
-        0..=47 => read(random),
-        48..=60 => values::value(random),
-        61..=64 => values::auth_unix(random),
-        65..=77 => values::write(random),
+        0..=44 => read(random),
+        45..=57 => values::value(random),
+        58..=61 => values::auth_unix(random),
+        62..=77 => values::write(random),
         78..=79 => values::part(random),
         80..=89 => choose(random),
         90..=94 => {

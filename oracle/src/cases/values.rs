@@ -1,14 +1,14 @@
 //! Questions to the readers and writers of single values.
-use super::{append_call, append_message, damage, message, place_to_write, Question, Style};
+use super::{append_call, append_message, damage, message, place_to_write, Question, Sources, Style};
 use crate::answers::BOUND;
 use crate::model::Model;
 use crate::random::Random;
 use crate::shapes::{kind, AUTH_UNIX, KINDS};
-use crate::values::Value;
+use crate::values::{Value, Writer};
 
 pub fn value(random: &mut Random) -> Question {
     // Headers have the most to tell.
-    let value = if random.once_in(3) { Value::Message } else { random.pick(&Value::WRITTEN) };
+    let value = if random.once_in(3) { Value::Message } else { random.pick(&Value::PLACED) };
     let (message, at) = message(random, kind(value.kind()).expect("the kind is known"));
     Question::Value { value, at, message }
 }
@@ -46,76 +46,118 @@ pub fn auth_unix(random: &mut Random) -> Question {
     Question::AuthUnix { at, count, message }
 }
 
-/// The fields of a message as its reader gives them, with the message as the source; then, mostly, some are changed.
+/// The fields of a message as its reader gives them, with the message as the source; or the second piece with another
+/// message as its source. Then, mostly, some fields are changed.
 pub fn write(random: &mut Random) -> Question {
-    let value = random.pick(&Value::WRITTEN);
-    let (mut source, mut fields) = given(random, value);
+    let writer = random.pick(&Writer::ALL);
+    let (source, mut fields) = given(random, writer);
+    let mut sources = Sources::Same(source.clone());
+    if let (&[_, second], false) = (writer.pieces(), random.once_in(3)) {
+        let (other, others) = given(random, writer);
+        fields[second.at..second.at + 2].copy_from_slice(&others[second.at..second.at + 2]);
+        sources = Sources::Two(source, other);
+    }
     if random.once_in(2) {
         for _ in 0..random.between(1, 2) {
-            change(random, value, source.len(), &mut fields);
+            change(random, writer, &sources, &mut fields);
         }
     }
-    if random.once_in(400) {
-        at_the_bound(random, value, &mut source, &mut fields);
+    if random.once_in(200) {
+        at_the_bound(random, writer, &mut sources, &mut fields);
     }
-    let length = Model::FAULTLESS.written(value, &source, &fields).map_or(40, |bytes| bytes.len());
+    let length = Model::FAULTLESS.written(writer, sources.both(), &fields).map_or(40, |bytes| bytes.len());
     let (room, start) = place_to_write(random, length);
-    Question::Write { value, source, fields, room, start }
+    Question::Write { writer, sources, fields, room, start }
 }
 
-fn given(random: &mut Random, value: Value) -> (Vec<u8>, Vec<u64>) {
+fn given(random: &mut Random, writer: Writer) -> (Vec<u8>, Vec<u64>) {
     loop {
+        let value = writer.value();
         let mut source = Vec::new();
         let at = random.below(9);
         random.append(at, &mut source);
-        if value == Value::Message && random.once_in(2) {
+        if writer == Writer::Call && random.once_in(2) {
             append_call(random, &mut source, &mut Vec::new());
         } else {
             let (shape, style) = (&KINDS[kind(value.kind()).expect("the kind is known")].1, Style::any(random));
             append_message(random, shape, style, &mut source, &mut Vec::new());
         }
         let figures = Model::FAULTLESS.value(value, &source, at).answer.expect("a message that was made is taken");
-        if let Some(fields) = value.fields_of(&figures) {
+        if let Some(fields) = writer.fields_of(&figures) {
             return (source, fields);
         }
     }
 }
 
-/// Changes one field: to a number that is near a border of its type or, for a piece, of the source.
-fn change(random: &mut Random, value: Value, source: usize, fields: &mut [u64]) {
-    let at = random.below(value.fields());
-    if let Some(piece) = value.pieces().iter().find(|piece| (**piece..**piece + 2).contains(&at)) {
-        let place = random.below(source + 1);
-        let rest = source - place;
-        let (place, count) = match random.below(8) {
+/// Changes one field: to a number that is near a border of its type or, for a piece, of a source, mostly its own.
+fn change(random: &mut Random, writer: Writer, sources: &Sources, fields: &mut [u64]) {
+    let at = random.below(writer.fields());
+    let piece = writer.pieces().iter().find(|piece| (piece.at..piece.at + 2).contains(&at));
+    // Where a reply is not accepted, these fields are numbers.
+    if let Some(piece) = piece.filter(|_| writer != Writer::Reply || random.once_in(2)) {
+        let of = if random.once_in(4) { 1 - piece.source } else { piece.source };
+        let length = sources.both()[of].len();
+        let place = random.below(length + 1);
+        let rest = (length - place) / piece.width;
+        let (place, count) = match random.below(9) {
             0 => (place as u64, rest as u64 + 1),
-            1 => (source as u64 + 1, 0),
+            1 => (length as u64 + 1, 0),
             2 => (u64::MAX - random.below(3) as u64, random.below(5) as u64),
             3 => (place as u64, u64::MAX - random.below(place + 1) as u64),
             4 => (place as u64, rest as u64),
-            5 => (source as u64, 0),
+            5 => (length as u64, 0),
+            // Four times such a count wraps.
+            6 => (place as u64, random.pick(&[1 << 62, (1 << 62) + 1, 3 << 62])),
             _ => (place as u64, random.below(rest + 1) as u64),
         };
-        fields[*piece] = place;
-        fields[piece + 1] = count;
+        fields[piece.at] = place;
+        fields[piece.at + 1] = count;
         return;
     }
     let some = random.next();
-    fields[at] = random.pick(&[0, 1, 2, 3, 4, 7, 8, 0xFFFF_FFFF, 1 << 32, (1 << 32) + 1, (1 << 32) + 2, u64::MAX, some]);
+    let numbers = [0, 1, 2, 3, 4, 5, 6, 7, 8, 0xFFFF_FFFF, 1 << 32, (1 << 32) + 1, (1 << 32) + 2, u64::MAX, some];
+    fields[at] = random.pick(&numbers);
 }
 
-/// A source about as long as refusal 3 allows, and pieces that make what is written about as long, or are not inside.
-fn at_the_bound(random: &mut Random, value: Value, source: &mut Vec<u8>, fields: &mut [u64]) {
-    let &[first, second] = value.pieces() else { return };
+/// Sources about as long as refusal 3 allows, both or one of them; and pieces that make what is written about as long, or
+/// are not inside.
+fn at_the_bound(random: &mut Random, writer: Writer, sources: &mut Sources, fields: &mut [u64]) {
     let length = random.pick(&[BOUND - 1, BOUND, BOUND, BOUND + 1, BOUND + 2]);
-    source.resize(length, 0x5A);
-    let words = if value == Value::Message { 40 } else { 8 };
-    let count = random.below(length - words);
-    let left = (length - words - count + random.below(9)).saturating_sub(5);
-    fields[first] = random.below(length - count + 1) as u64;
-    fields[first + 1] = count as u64;
-    fields[second] = if random.once_in(2) { length + 1 } else { random.below(length - left + 1) } as u64;
-    fields[second + 1] = left as u64;
+    match sources {
+        Sources::Same(source) => source.resize(length, 0x5A),
+        Sources::Two(first, second) => match random.below(3) {
+            0 => first.resize(length, 0x5A),
+            1 => second.resize(length, 0x5A),
+            _ => {
+                first.resize(length, 0x5A);
+                second.resize(random.pick(&[BOUND - 1, BOUND, BOUND + 1]), 0xA5);
+            },
+        },
+    }
+    if random.once_in(4) {
+        return;
+    }
+    if writer == Writer::Reply {
+        fields[1] = 1;
+    }
+    // What is written besides the pieces. They share what is left of the bound, a little more or less.
+    let words = match writer {
+        Writer::Call => 40,
+        Writer::Reply => 24,
+        Writer::AuthUnix => 20,
+        Writer::Diropargs3 => 8,
+        Writer::Fattr3 | Writer::Sattr3 => return,
+    };
+    let mut left = (BOUND - words + random.below(9)).saturating_sub(5);
+    for (index, piece) in writer.pieces().iter().enumerate() {
+        let longest = sources.both()[piece.source].len();
+        let is_last = index + 1 == writer.pieces().len();
+        let bytes = if is_last { left } else { random.below(left.min(longest)) };
+        left -= bytes;
+        fields[piece.at] =
+            if random.once_in(8) { longest + 1 } else { random.below(longest.saturating_sub(bytes) + 1) } as u64;
+        fields[piece.at + 1] = (bytes / piece.width) as u64;
+    }
 }
 
 pub fn part(random: &mut Random) -> Question {

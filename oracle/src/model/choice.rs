@@ -90,7 +90,7 @@ impl Model {
     fn reply(self, message: &[u8], words: [u32; 5], out: &mut [u8]) -> Result<Choice, Refusal> {
         let mut bytes = message[..4].to_vec();
         bytes.extend(words.iter().flat_map(|word| word.to_be_bytes()));
-        self.put(&bytes, out, 0).map_err(Refusal::plain)?;
+        self.put(&bytes, out, 0).map_err(|unwritten| Refusal::plain(unwritten.number))?;
         Ok(Choice::Reply)
     }
 }

@@ -1,32 +1,63 @@
 //! The model in the library's place: the functions of include/yugerzat.h, with slices for addresses and lengths.
 use super::{Fault, Model};
 use crate::answers::{
-    Choice, Fed, Refusal, State, Told, Wrote, CHOOSE_FIGURES, FEED_FIGURES, PART_FIGURES, READ_FIGURES, SHORT_LIST,
-    STATE_FIGURES, UNKNOWN_KIND, WRITE_FIGURES,
+    Choice, Fed, Refusal, State, Told, Unwritten, Wrote, CHOOSE_FIGURES, FEED_FIGURES, PART_FIGURES, READ_FIGURES, REPLY,
+    SHORT_LIST, STATE_FIGURES, WRITE_FIGURES,
 };
 use crate::shapes::KINDS;
-use crate::values::Value;
+use crate::values::{Value, Writer};
 
 impl Model {
-    pub fn exported_read(self, kind: u32, message: &[u8], at: usize, out: &mut [u8], info: &mut [u64]) -> u32 {
+    pub fn exported_rewrite(self, kind: u32, message: &[u8], at: usize, out: &mut [u8], info: &mut [u64]) -> u32 {
         if info.len() < READ_FIGURES {
             return self.short_list(info);
         }
         if kind as usize >= KINDS.len() {
-            let figures = if self.has(Fault::UnknownUntouched) { Vec::new() } else { vec![0; READ_FIGURES] };
-            return self.tell(Told { answer: UNKNOWN_KIND, figures }, info);
+            return self.unknown_kind(Fault::UnknownUntouched, info);
         }
         let mut rewriting = Vec::new();
-        let mut answer = self.read(kind as usize, message, at, &mut rewriting).answer;
-        let next = answer.map_or(0, |took| took.next);
+        let answer = self.read(kind as usize, message, at, &mut rewriting).answer;
         if answer.is_ok() {
-            if let Err(number) = self.put(&rewriting, out, 0) {
-                answer = Err(Refusal::plain(number));
-            }
+            // Where there is no room, what is told says so.
+            let _ = self.put(&rewriting, out, 0);
         }
-        let mut told = Told::read(&answer);
-        if told.answer == 5 && self.has(Fault::NoRoomNext) {
-            told.figures[0] = next as u64;
+        let mut told = Told::rewritten(&answer, out.len());
+        if told.answer == 5 {
+            if self.has(Fault::NoRoomNext) {
+                told.figures[0] = answer.map_or(0, |took| took.next as u64);
+            }
+            if self.has(Fault::NeededFirst) {
+                told.figures.swap(0, 2);
+            }
+            told.figures[2] -= u64::from(self.has(Fault::NeededLess));
+        }
+        self.tell(told, info)
+    }
+
+    pub fn exported_judge(self, kind: u32, message: &[u8], at: usize, info: &mut [u64]) -> u32 {
+        if info.len() < READ_FIGURES {
+            return self.short_list(info);
+        }
+        if kind as usize >= KINDS.len() {
+            return self.unknown_kind(Fault::JudgeUntouched, info);
+        }
+        let mut read = self.read(kind as usize, message, at, &mut Vec::new());
+        if let Ok(took) = &mut read.answer {
+            if self.has(Fault::JudgeNoPad) {
+                took.length -= read.pad;
+            }
+            if self.has(Fault::JudgeSizeRead) {
+                took.length = took.next - at;
+            }
+            took.plain |= self.has(Fault::JudgePlain);
+        }
+        self.tell(Told::judged(&read.answer), info)
+    }
+
+    fn unknown_kind(self, untouched: Fault, info: &mut [u64]) -> u32 {
+        let mut told = Told::unknown_kind();
+        if self.has(untouched) {
+            told.figures.clear();
         }
         self.tell(told, info)
     }
@@ -52,24 +83,28 @@ impl Model {
 
     pub fn exported_write(
         self,
-        value: Value,
-        source: &[u8],
+        writer: Writer,
+        sources: [&[u8]; 2],
         fields: &[u64],
         out: &mut [u8],
         start: usize,
         info: &mut [u64],
     ) -> u32 {
-        if fields.len() < value.fields() || info.len() < WRITE_FIGURES {
+        if fields.len() < writer.fields() || info.len() < WRITE_FIGURES {
             return self.short_list(info);
         }
-        let written = self.written(value, source, fields);
-        let wrote = match written {
-            Err(number) if number > 9 => Err(number),
-            _ if start > out.len() => Err(9),
-            Err(_) if self.has(Fault::RoomBeforePiece) && out.len() - start < 8 => Err(5),
-            Err(number) => Err(number),
+        let written = self.written(writer, sources, fields);
+        let mut wrote = match written {
+            Err(number) if number > 9 => Err(Unwritten::plain(number)),
+            _ if start > out.len() => Err(Unwritten::plain(9)),
+            Err(_) if self.has(Fault::RoomBeforePiece) && out.len() - start < 8 => Err(Unwritten::no_room(8)),
+            Err(number) => Err(Unwritten::plain(number)),
             Ok(bytes) => self.put(&bytes, out, start),
         };
+        if let Err(Unwritten { number: 5, needed }) = &mut wrote {
+            *needed -= usize::from(self.has(Fault::WriterNeedsLess));
+            *needed += if self.has(Fault::NeededFromZero) { start } else { 0 };
+        }
         self.tell_wrote(&wrote, info)
     }
 
@@ -99,6 +134,9 @@ impl Model {
         }
         *numbers = after;
         let mut told = Told::fed(&fed);
+        if self.has(Fault::FedAsChosen) && told.answer > 9 {
+            told.answer -= 3;
+        }
         if self.has(Fault::MoreLength) && matches!(fed, Fed::More { .. }) {
             told.figures[1] = standing.placed;
         }
@@ -109,7 +147,10 @@ impl Model {
         if info.len() < WRITE_FIGURES {
             return self.short_list(info);
         }
-        let wrote = self.fragment(message, out, start);
+        let mut wrote = self.fragment(message, out, start);
+        if let (Err(Unwritten { number: 5, needed }), true) = (&mut wrote, self.has(Fault::FragmentNeedsMessage)) {
+            *needed = message.len();
+        }
         self.tell_wrote(&wrote, info)
     }
 
@@ -122,6 +163,9 @@ impl Model {
         let mut told = Told::chose(&choice);
         if self.has(Fault::SilenceTells) && choice == Choice::Silence {
             told.figures[0] = u64::from(super::word_at(message, 12));
+        }
+        if self.has(Fault::ChoiceNeeds) && told.answer == 5 {
+            told.figures[0] = REPLY as u64;
         }
         if self.has(Fault::WantingNotChosen) && told.answer == 1 {
             told.figures[1] = 0;

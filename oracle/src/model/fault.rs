@@ -63,7 +63,7 @@ faults! {
     WantingNotChosen "wanting-not-chosen" "the choice of program does not tell what is wanting";
     WantingOutside "wanting-outside" "a body that is not inside wants nothing";
 
-    JudgePlain "judge-plain" "every header is called plain";
+    HeaderPlain "header-plain" "every header is called plain";
     VerifierPlace "verifier-place" "a verifier's place is that of its length";
     DefaultPlace "default-place" "the pieces of a call of zeros are where the reading ended";
     AcceptStatKept "accept-stat-kept" "an undeclared accept_stat is told as it came";
@@ -83,4 +83,29 @@ faults! {
     UnsetLookedAt "unset-looked-at" "a value that is not set must fit its field";
     PieceBeforeSource "piece-before-source" "pieces are looked at before the source's length";
     RoomBeforePiece "room-before-piece" "room is looked at before the pieces";
+    VerifierFromFirst "verifier-from-first" "a call's verifier is taken from the credential's source";
+    GidsFromFirst "gids-from-first" "an auth_unix's groups are taken from the name's source";
+    NameFromFirst "name-from-first" "a diropargs3's name is taken from the handle's source";
+    SecondOutside "second-outside" "a piece outside of the second source is taken where it is inside of the first";
+    LongWritten "long-written" "more than 1,048,576 bytes are written";
+    SecondTooLong "second-too-long" "the second source may have any length";
+    WordsWrap "words-wrap" "the length of a piece of words is worked out in 64 bits";
+    GidsInsideInBytes "gids-inside-in-bytes" "whether the groups are inside is tested by their count in bytes";
+    GidsWrittenInBytes "gids-written-in-bytes" "the count of groups is written in bytes";
+    ReplyTakesCall "reply-takes-call" "a reply with the tag of a call is written as accepted";
+    ReplyLowAlways "reply-low-always" "the lowest version is written for accept_stat 1 too";
+    ReplyReasonSix "reply-reason-six" "a reply with auth_stat 6 is written";
+    ReplyUnusedLookedAt "reply-unused-looked-at" "versions that are not written must fit their fields";
+
+    JudgeNoPad "judge-no-pad" "the size that judging tells is without the padding";
+    JudgeSizeRead "judge-size-read" "the size that judging tells is that of the bytes read";
+    JudgePlain "judge-plain" "every message is judged plain";
+    JudgeUntouched "judge-untouched" "judging a kind that is not there leaves the figures as they were";
+    NeededLess "needed-less" "a rewriting that has no room needs one byte less";
+    NeededFirst "needed-first" "what a rewriting needs is the first figure";
+    WriterNeedsLess "writer-needs-less" "a writer that has no room needs one byte less";
+    NeededFromZero "needed-from-zero" "what a writer needs is counted from the start of the buffer";
+    FragmentNeedsMessage "fragment-needs-message" "what a fragment needs is told without its header";
+    ChoiceNeeds "choice-needs" "the choice of program tells what a reply needs";
+    FedAsChosen "fed-as-chosen" "a feed answers by the numbers of the choice of program";
 }

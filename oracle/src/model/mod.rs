@@ -14,7 +14,7 @@ mod values;
 
 pub use fault::Fault;
 
-use crate::answers::Wrote;
+use crate::answers::{Unwritten, Wrote};
 
 /// The model, with its planted fault if it has one.
 #[derive(Clone, Copy)]
@@ -41,7 +41,7 @@ impl Model {
             if self.has(Fault::WrittenInPart) {
                 room.copy_from_slice(&bytes[..room.len()]);
             }
-            return Err(5);
+            return Err(Unwritten::no_room(bytes.len()));
         }
         room[..bytes.len()].copy_from_slice(bytes);
         if self.has(Fault::ByteBeyond) {

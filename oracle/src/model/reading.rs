@@ -9,6 +9,15 @@ pub struct Read {
     pub answer: Result<Took, Refusal>,
     /// The largest length or count met. The crate allocates by it before it looks whether the bytes are there.
     pub claim: u32,
+    /// How many bytes of the rewriting are padding. Only a planted fault asks.
+    #[cfg_attr(not(feature = "model"), allow(dead_code))]
+    pub pad: usize,
+}
+
+impl Read {
+    fn refused(number: u32) -> Read {
+        Read { answer: Err(Refusal::plain(number)), claim: 0, pad: 0 }
+    }
 }
 
 impl Model {
@@ -17,20 +26,20 @@ impl Model {
         rewriting.clear();
         let bound = if self.has(Fault::BoundOffByOne) { BOUND - 1 } else { BOUND };
         if source.len() > bound {
-            return Read { answer: Err(Refusal::plain(3)), claim: 0 };
+            return Read::refused(3);
         }
         if at > source.len() {
-            return Read { answer: Err(Refusal::plain(9)), claim: 0 };
+            return Read::refused(9);
         }
         self.read_shape(&KINDS[kind].1, source, at, rewriting)
     }
 
     /// The same without refusals 3 and 9. The end of `source` is the end of the message.
     pub(super) fn read_shape(self, shape: &Shape, source: &[u8], at: usize, rewriting: &mut Vec<u8>) -> Read {
-        let mut reader = Reader { model: self, source, at, plain: true, claim: 0, rewriting };
+        let mut reader = Reader { model: self, source, at, plain: true, claim: 0, pad: 0, rewriting };
         let answer = reader.shape(shape);
         let took = Took { next: reader.at, plain: reader.plain, length: reader.rewriting.len() };
-        Read { answer: answer.map(|()| took), claim: reader.claim }
+        Read { answer: answer.map(|()| took), claim: reader.claim, pad: reader.pad }
     }
 }
 
@@ -40,6 +49,7 @@ struct Reader<'a> {
     at: usize,
     plain: bool,
     claim: u32,
+    pad: usize,
     rewriting: &'a mut Vec<u8>,
 }
 
@@ -168,6 +178,7 @@ impl Reader<'_> {
         self.write(length);
         self.rewriting.extend_from_slice(&self.source[content..end]);
         self.rewriting.extend(std::iter::repeat_n(0, next - end));
+        self.pad += next - end;
         self.at = if self.model.has(Fault::PadNotSkipped) { end } else { next };
         Ok(())
     }

@@ -90,11 +90,13 @@ impl Model {
     /// `write_fragment` from a place of a larger buffer on. (Elsewhere the crate can tell all that is asked of it.)
     #[cfg(feature = "model")]
     pub fn fragment(self, message: &[u8], out: &mut [u8], start: usize) -> crate::answers::Wrote {
+        use crate::answers::Unwritten;
+
         if start > out.len() {
-            return Err(9);
+            return Err(Unwritten::plain(9));
         }
         if message.len() > BOUND {
-            return Err(3);
+            return Err(Unwritten::plain(3));
         }
         let bit = if self.has(Fault::FragmentNotLast) { 0 } else { LAST as u32 };
         let mut bytes = (message.len() as u32 + bit).to_be_bytes().to_vec();

@@ -2,7 +2,7 @@
 use super::{word_at, Fault, Model};
 use crate::answers::{Refusal, Took, BOUND, WIDE_NUMBER};
 use crate::shapes::{kind, AUTH_UNIX};
-use crate::values::Value;
+use crate::values::{Value, Writer};
 
 /// What a reading of one value gives: all figures of the function, and the largest length or count that was claimed.
 pub struct ValueRead {
@@ -48,7 +48,7 @@ impl Model {
 
     /// The figures of a value that was read at a place.
     fn figures(self, value: Value, message: &[u8], at: usize, took: &Took) -> Vec<u64> {
-        let plain = took.plain || (value == Value::Message && self.has(Fault::JudgePlain));
+        let plain = took.plain || (value == Value::Message && self.has(Fault::HeaderPlain));
         let mut taken = Taken { model: self, message, at, figures: vec![took.next as u64, u64::from(plain)] };
         match value {
             Value::Message => taken.message(),
@@ -61,26 +61,27 @@ impl Model {
         taken.figures
     }
 
-    /// The bytes of a value by its fields; or 253, 3 for the source, 4, and 3 for the bytes, in that order.
-    pub fn written(self, value: Value, source: &[u8], fields: &[u64]) -> Result<Vec<u8>, u32> {
-        let no_source = value.pieces().is_empty();
-        let mut written = Written { model: self, source, fields, at: 0, bytes: Vec::new(), wide: false, outside: false };
-        match value {
-            Value::Message => written.call(),
-            Value::AuthUnix => unreachable!("there is no such writer"),
-            Value::Fattr3 => written.fattr3(),
-            Value::Sattr3 => written.sattr3(),
-            Value::Diropargs3 => written.diropargs3(),
+    /// What a writer makes of fields; or 253, 3 for a source, 4, and 3 for the bytes, in that order.
+    pub fn written(self, writer: Writer, sources: [&[u8]; 2], fields: &[u64]) -> Result<Vec<u8>, u32> {
+        let mut written = Written { model: self, sources, fields, at: 0, bytes: Vec::new(), wide: false, outside: false };
+        match writer {
+            Writer::Call => written.call(),
+            Writer::Reply => written.reply(),
+            Writer::AuthUnix => written.auth_unix(),
+            Writer::Fattr3 => written.fattr3(),
+            Writer::Sattr3 => written.sattr3(),
+            Writer::Diropargs3 => written.diropargs3(),
         }
+        let looked_at = if self.has(Fault::SecondTooLong) { writer.sources().min(1) } else { writer.sources() };
         if written.wide {
             Err(WIDE_NUMBER)
         } else if written.outside && self.has(Fault::PieceBeforeSource) {
             Err(4)
-        } else if source.len() > BOUND && !no_source {
+        } else if sources[..looked_at].iter().any(|source| source.len() > BOUND) {
             Err(3)
         } else if written.outside {
             Err(4)
-        } else if written.bytes.len() > BOUND {
+        } else if written.bytes.len() > BOUND && !self.has(Fault::LongWritten) {
             Err(3)
         } else {
             Ok(written.bytes)
@@ -245,7 +246,7 @@ impl Taken<'_> {
 /// Bytes that are written for fields; whether a number did not fit, and whether a piece was not inside.
 struct Written<'a> {
     model: Model,
-    source: &'a [u8],
+    sources: [&'a [u8]; 2],
     fields: &'a [u64],
     at: usize,
     bytes: Vec<u8>,
@@ -285,32 +286,89 @@ impl Written<'_> {
         self.put(number);
     }
 
-    fn piece(&mut self) {
+    /// A piece of one of the sources, counted in items of so many bytes.
+    fn piece(&mut self, source: usize, width: usize) {
         let (at, count) = (self.next() as usize, self.next() as usize);
-        let inside = self.model.is_inside(self.source, at, count);
-        let Some(content) = self.source.get(at..at.saturating_add(count)).filter(|_| inside) else {
+        let (model, from) = (self.model, self.sources[source]);
+        let wrapped = count.wrapping_mul(width);
+        let length = if model.has(Fault::WordsWrap) { Some(wrapped) } else { count.checked_mul(width) };
+        let tested = if model.has(Fault::GidsInsideInBytes) { Some(count) } else { length };
+        let is_inside = |source| tested.is_some_and(|length| model.is_inside(source, at, length));
+        let is_taken = is_inside(from) || (model.has(Fault::SecondOutside) && is_inside(self.sources[0]));
+        if !is_taken {
             self.outside = true;
             return;
-        };
-        self.bytes.extend_from_slice(&(count as u32).to_be_bytes());
+        }
+        // What only a planted fault takes is written as far as it goes.
+        let end = at.saturating_add(wrapped).min(from.len());
+        let content = &from[at.min(end)..end];
+        let told = if model.has(Fault::GidsWrittenInBytes) { wrapped } else { count };
+        self.bytes.extend_from_slice(&(told as u32).to_be_bytes());
         self.bytes.extend_from_slice(content);
-        let pad = if self.model.has(Fault::WritePadDirty) { 0xA5 } else { 0 };
+        let pad = if model.has(Fault::WritePadDirty) { 0xA5 } else { 0 };
         self.bytes.resize(self.bytes.len().next_multiple_of(4), pad);
+    }
+
+    /// The source of a writer's second piece.
+    fn second_unless(&self, fault: Fault) -> usize {
+        usize::from(!self.model.has(fault))
     }
 
     fn call(&mut self) {
         self.words(1);
         self.put(0);
         self.words(4);
-        for _ in 0..2 {
+        for source in [0, self.second_unless(Fault::VerifierFromFirst)] {
             self.declared(0..4);
-            self.piece();
+            self.piece(source, 1);
         }
     }
 
+    fn reply(&mut self) {
+        self.words(1);
+        self.put(1);
+        match self.next() {
+            0 if self.model.has(Fault::ReplyTakesCall) => self.accepted(),
+            1 => self.accepted(),
+            2 => {
+                self.put(1);
+                self.put(0);
+                self.words(2);
+            },
+            3 => {
+                self.put(1);
+                self.put(1);
+                self.declared(if self.model.has(Fault::ReplyReasonSix) { 1..7 } else { 1..6 });
+            },
+            _ => self.wide = true,
+        }
+    }
+
+    fn accepted(&mut self) {
+        self.put(0);
+        self.declared(0..4);
+        self.piece(0, 1);
+        let status = self.fields[self.at];
+        self.declared(0..5);
+        if status == 2 {
+            self.words(2);
+        } else if status == 1 && self.model.has(Fault::ReplyLowAlways) {
+            self.words(1);
+        } else if self.model.has(Fault::ReplyUnusedLookedAt) {
+            self.wide |= (self.next() | self.next()) >> 32 != 0;
+        }
+    }
+
+    fn auth_unix(&mut self) {
+        self.words(1);
+        self.piece(0, 1);
+        self.words(2);
+        self.piece(self.second_unless(Fault::GidsFromFirst), 4);
+    }
+
     fn diropargs3(&mut self) {
-        self.piece();
-        self.piece();
+        self.piece(0, 1);
+        self.piece(self.second_unless(Fault::NameFromFirst), 1);
     }
 
     fn fattr3(&mut self) {

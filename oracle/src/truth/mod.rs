@@ -5,7 +5,7 @@ mod values;
 
 use nfsserve::{Handler, Reading, Records, Wire};
 
-use crate::answers::{Choice, Refusal, Took, Wrote, BOUND, REPLY};
+use crate::answers::{Choice, Refusal, Took, Unwritten, Wrote, BOUND, REPLY};
 use crate::model::Model;
 
 /// The crate allocates by the claimed length or count before it looks whether so much is there. Above this (and above
@@ -101,16 +101,13 @@ impl Truth {
     /// The answer of `write_fragment`, and what it leaves in `out`.
     pub fn fragment(&mut self, message: &[u8], out: &mut [u8], start: usize) -> Wrote {
         if start > out.len() {
-            return Err(9);
+            return Err(Unwritten::plain(9));
         }
         if message.len() > BOUND {
-            return Err(3);
+            return Err(Unwritten::plain(3));
         }
         self.wire.fragment(message, &mut self.sent);
-        let next = start + self.sent.len();
-        let place = out.get_mut(start..next).ok_or(5_u32)?;
-        place.copy_from_slice(&self.sent);
-        Ok(next)
+        put(&self.sent, out, start)
     }
 
     /// The records of a stream, as far as its fragments fit into a buffer of that capacity, and the place of the header
@@ -119,6 +116,14 @@ impl Truth {
         let too_long = first_too_long(stream, capacity);
         (self.wire.records(&stream[..too_long.unwrap_or(stream.len())]), too_long)
     }
+}
+
+/// Bytes of the crate, put into a buffer from a place inside it on, if they fit.
+fn put(bytes: &[u8], out: &mut [u8], start: usize) -> Wrote {
+    let next = start + bytes.len();
+    let place = out.get_mut(start..next).ok_or(Unwritten::no_room(bytes.len()))?;
+    place.copy_from_slice(bytes);
+    Ok(next)
 }
 
 fn too_large(claim: u32, source: &[u8]) -> bool {

@@ -2,11 +2,11 @@
 //! bytes of what is written; the places of pieces are the model's, where the message has the crate's bytes there.
 use nfsserve::{Field, Reading};
 
-use super::{placed, too_large, Truth, NO_PLACE};
-use crate::answers::{AuthUnix, Choice, Refusal, Wrote, BOUND, WIDE_NUMBER};
+use super::{placed, put, too_large, Truth, NO_PLACE};
+use crate::answers::{AuthUnix, Choice, Refusal, Unwritten, Wrote, BOUND, WIDE_NUMBER};
 use crate::model::Model;
 use crate::shapes::kind;
-use crate::values::Value;
+use crate::values::{Value, Writer};
 
 impl Truth {
     /// All figures of the reader of a value at a place.
@@ -44,26 +44,25 @@ impl Truth {
         }
     }
 
-    /// The answer of the writer of a value, and what it leaves in `out`. `fields` are enough. 253 where the crate's types
-    /// cannot hold them.
-    pub fn write(&mut self, value: Value, source: &[u8], fields: &[u64], out: &mut [u8], start: usize) -> Wrote {
-        let (held, all_inside) = held(value, source, fields);
-        let bytes = nfsserve::written(value.kind(), &held).ok_or(WIDE_NUMBER)?;
+    /// The answer of a writer, and what it leaves in `out`. `fields` are enough. 253 where the crate's types cannot hold
+    /// them.
+    pub fn write(&mut self, writer: Writer, sources: [&[u8]; 2], fields: &[u64], out: &mut [u8], start: usize) -> Wrote {
+        let refused = |number| Err(Unwritten::plain(number));
+        let (held, all_inside) = held(writer, sources, fields);
+        let Some(bytes) = nfsserve::written(writer.name(), &held) else { return refused(WIDE_NUMBER) };
         if start > out.len() {
-            return Err(9);
+            return refused(9);
         }
-        if source.len() > BOUND && !value.pieces().is_empty() {
-            return Err(3);
+        if sources[..writer.sources()].iter().any(|source| source.len() > BOUND) {
+            return refused(3);
         }
         if !all_inside {
-            return Err(4);
+            return refused(4);
         }
         if bytes.len() > BOUND {
-            return Err(3);
+            return refused(3);
         }
-        let next = start + bytes.len();
-        out.get_mut(start..next).ok_or(5_u32)?.copy_from_slice(&bytes);
-        Ok(next)
+        put(&bytes, out, start)
     }
 }
 
@@ -78,23 +77,32 @@ pub(super) fn auth_unix(bytes: &[u8], message: &[u8], model: &Choice) -> AuthUni
     AuthUnix::of(&figures[2..])
 }
 
-/// The fields of a writer as the crate has them, bytes for pieces; and whether all pieces were inside. One that is not is
-/// empty.
-fn held(value: Value, source: &[u8], fields: &[u64]) -> (Vec<Field>, bool) {
+/// The fields of a writer as the crate has them, bytes or words for pieces; and whether all pieces were inside. One that
+/// is not is empty.
+fn held(writer: Writer, sources: [&[u8]; 2], fields: &[u64]) -> (Vec<Field>, bool) {
     let (mut held, mut all_inside, mut at) = (Vec::new(), true, 0);
-    while at < value.fields() {
-        if value.pieces().contains(&at) {
-            let (place, count) = (fields[at] as usize, fields[at + 1] as usize);
-            let piece = place.checked_add(count).and_then(|end| source.get(place..end));
-            all_inside &= piece.is_some();
-            held.push(Field::Bytes(piece.unwrap_or(&[]).to_vec()));
-            at += 2;
-        } else {
+    // Only an accepted reply has a verifier; where there is none, these two fields are numbers as all others.
+    let has_pieces = writer != Writer::Reply || fields[1] == 1;
+    while at < writer.fields() {
+        let Some(piece) = writer.pieces().iter().find(|piece| piece.at == at && has_pieces) else {
             held.push(Field::Number(fields[at]));
             at += 1;
-        }
+            continue;
+        };
+        let (place, count) = (fields[at] as usize, fields[at + 1] as usize);
+        let end = count.checked_mul(piece.width).and_then(|length| place.checked_add(length));
+        let content = end.and_then(|end| sources[piece.source].get(place..end));
+        all_inside &= content.is_some();
+        let content = content.unwrap_or(&[]);
+        held.push(if piece.width == 1 { Field::Bytes(content.to_vec()) } else { Field::Words(words(content)) });
+        at += 2;
     }
     (held, all_inside)
+}
+
+/// The words that bytes are.
+fn words(bytes: &[u8]) -> Vec<u32> {
+    bytes.chunks_exact(4).map(|word| u32::from_be_bytes([word[0], word[1], word[2], word[3]])).collect()
 }
 
 /// Appends the figures of what the crate holds for the value that begins `source`. `figures` has the first two already;

@@ -1,12 +1,5 @@
-use crate::{sys, Piece, Read, Refusal};
-
-/// The figures that a writer gives: the place after what was written.
-fn written(answer: u32, after: u64) -> Result<usize, Refusal> {
-    match answer {
-        0 => Ok(after as usize),
-        _ => Err(Refusal::of(answer, 0, 0)),
-    }
-}
+use crate::names::{figure, figures};
+use crate::{part, reading, sys, written, Reading, Refusal};
 
 /// The type of a file.
 #[allow(missing_docs)]
@@ -23,8 +16,8 @@ pub enum Ftype3 {
 }
 
 impl Ftype3 {
-    fn of(number: u64) -> Ftype3 {
-        match number {
+    fn of(number: u64) -> Option<Ftype3> {
+        Some(match number {
             1 => Ftype3::Reg,
             2 => Ftype3::Dir,
             3 => Ftype3::Blk,
@@ -32,8 +25,8 @@ impl Ftype3 {
             5 => Ftype3::Lnk,
             6 => Ftype3::Sock,
             7 => Ftype3::Fifo,
-            _ => unreachable!("the library hands over declared types alone"),
-        }
+            _ => return None,
+        })
     }
 }
 
@@ -53,13 +46,7 @@ pub struct Nfstime3 {
     pub nseconds: u32,
 }
 
-impl Nfstime3 {
-    fn of(figures: &[u64]) -> Nfstime3 {
-        Nfstime3 { seconds: figures[0] as u32, nseconds: figures[1] as u32 }
-    }
-}
-
-/// The attributes of a file.
+/// The attributes of a file: `fattr3`.
 #[allow(missing_docs)]
 #[derive(Clone, Copy, Debug, PartialEq, Eq, Hash)]
 pub struct Fattr3 {
@@ -82,33 +69,32 @@ impl Fattr3 {
     /// The bytes of every `fattr3`.
     pub const SIZE: usize = 84;
 
-    /// Reads from place `at` of `src`. Every `fattr3` that is read is plain.
+    /// Reads from place `at` of `bytes`. Every `fattr3` that is read is plain.
     ///
     /// # Errors
-    /// Refusals 1, 2 (the type), 3 and 9.
-    pub fn read(src: &[u8], at: usize) -> Result<Read<Fattr3>, Refusal> {
-        let mut info = [0; 19];
-        match sys::read_fattr3(src, at, &mut info) {
-            0 => {
-                let value = Fattr3 {
-                    ftype: Ftype3::of(info[2]),
-                    mode: info[3] as u32,
-                    nlink: info[4] as u32,
-                    uid: info[5] as u32,
-                    gid: info[6] as u32,
-                    size: info[7],
-                    used: info[8],
-                    rdev: Specdata3 { specdata1: info[9] as u32, specdata2: info[10] as u32 },
-                    fsid: info[11],
-                    fileid: info[12],
-                    atime: Nfstime3::of(&info[13..15]),
-                    mtime: Nfstime3::of(&info[15..17]),
-                    ctime: Nfstime3::of(&info[17..19]),
-                };
-                Ok(Read { value, next: info[0] as usize, plain: info[1] == 1 })
-            },
-            answer => Err(Refusal::of(answer, info[0], info[1])),
-        }
+    /// `Ends`, `Undeclared` (the type), `TooLong` and `PastEnd`.
+    pub fn read(bytes: &[u8], at: usize) -> Result<Reading<Fattr3>, Refusal> {
+        let mut info = [0; figures::FATTR3];
+        let answer = sys::read_fattr3(bytes, at, &mut info);
+        let word = |place: usize| info[place] as u32;
+        let time = |seconds, nseconds| Nfstime3 { seconds: word(seconds), nseconds: word(nseconds) };
+        reading(answer, &info, || {
+            Some(Fattr3 {
+                ftype: Ftype3::of(info[figure::FATTR3_TYPE])?,
+                mode: word(figure::FATTR3_MODE),
+                nlink: word(figure::FATTR3_NLINK),
+                uid: word(figure::FATTR3_UID),
+                gid: word(figure::FATTR3_GID),
+                size: info[figure::FATTR3_SIZE],
+                used: info[figure::FATTR3_USED],
+                rdev: Specdata3 { specdata1: word(figure::FATTR3_SPECDATA1), specdata2: word(figure::FATTR3_SPECDATA2) },
+                fsid: info[figure::FATTR3_FSID],
+                fileid: info[figure::FATTR3_FILEID],
+                atime: time(figure::FATTR3_ATIME_SECONDS, figure::FATTR3_ATIME_NSECONDS),
+                mtime: time(figure::FATTR3_MTIME_SECONDS, figure::FATTR3_MTIME_NSECONDS),
+                ctime: time(figure::FATTR3_CTIME_SECONDS, figure::FATTR3_CTIME_NSECONDS),
+            })
+        })
     }
 
     /// Writes from place `start` of `out`, and gives the place after it. All other bytes stay.
@@ -128,33 +114,32 @@ impl Fattr3 {
     /// ```
     ///
     /// # Errors
-    /// Refusals 9 and 5.
+    /// `PastEnd` and `NoRoom`.
     pub fn write(&self, out: &mut [u8], start: usize) -> Result<usize, Refusal> {
-        let fields = [
-            self.ftype as u64,
-            self.mode.into(),
-            self.nlink.into(),
-            self.uid.into(),
-            self.gid.into(),
-            self.size,
-            self.used,
-            self.rdev.specdata1.into(),
-            self.rdev.specdata2.into(),
-            self.fsid,
-            self.fileid,
-            self.atime.seconds.into(),
-            self.atime.nseconds.into(),
-            self.mtime.seconds.into(),
-            self.mtime.nseconds.into(),
-            self.ctime.seconds.into(),
-            self.ctime.nseconds.into(),
-        ];
-        let mut info = [0; 1];
-        written(sys::write_fattr3(&fields, out, start, &mut info), info[0])
+        let mut list = [0; figures::FATTR3];
+        list[figure::FATTR3_TYPE] = self.ftype as u64;
+        list[figure::FATTR3_MODE] = self.mode.into();
+        list[figure::FATTR3_NLINK] = self.nlink.into();
+        list[figure::FATTR3_UID] = self.uid.into();
+        list[figure::FATTR3_GID] = self.gid.into();
+        list[figure::FATTR3_SIZE] = self.size;
+        list[figure::FATTR3_USED] = self.used;
+        list[figure::FATTR3_SPECDATA1] = self.rdev.specdata1.into();
+        list[figure::FATTR3_SPECDATA2] = self.rdev.specdata2.into();
+        list[figure::FATTR3_FSID] = self.fsid;
+        list[figure::FATTR3_FILEID] = self.fileid;
+        list[figure::FATTR3_ATIME_SECONDS] = self.atime.seconds.into();
+        list[figure::FATTR3_ATIME_NSECONDS] = self.atime.nseconds.into();
+        list[figure::FATTR3_MTIME_SECONDS] = self.mtime.seconds.into();
+        list[figure::FATTR3_MTIME_NSECONDS] = self.mtime.nseconds.into();
+        list[figure::FATTR3_CTIME_SECONDS] = self.ctime.seconds.into();
+        list[figure::FATTR3_CTIME_NSECONDS] = self.ctime.nseconds.into();
+        let mut info = [0; figures::WRITTEN];
+        written(sys::write_fattr3(&list[figure::FIELDS..], out, start, &mut info), info)
     }
 }
 
-/// How a time is set.
+/// How a time is set: `set_atime` and `set_mtime`.
 #[derive(Clone, Copy, Debug, Default, PartialEq, Eq, Hash)]
 pub enum SetTime {
     /// It stays.
@@ -167,12 +152,13 @@ pub enum SetTime {
 }
 
 impl SetTime {
-    fn of(figures: &[u64]) -> SetTime {
-        match figures[0] {
+    fn of(how: u64, seconds: u64, nseconds: u64) -> Option<SetTime> {
+        Some(match how {
             0 => SetTime::DontChange,
             1 => SetTime::ToServerTime,
-            _ => SetTime::ToClientTime(Nfstime3::of(&figures[1..3])),
-        }
+            2 => SetTime::ToClientTime(Nfstime3 { seconds: seconds as u32, nseconds: nseconds as u32 }),
+            _ => return None,
+        })
     }
 
     fn figures(self) -> [u64; 3] {
@@ -184,7 +170,7 @@ impl SetTime {
     }
 }
 
-/// A change of attributes: what is set.
+/// A change of attributes, what is set: `sattr3`.
 #[allow(missing_docs)]
 #[derive(Clone, Copy, Debug, Default, PartialEq, Eq, Hash)]
 pub struct Sattr3 {
@@ -197,27 +183,26 @@ pub struct Sattr3 {
 }
 
 impl Sattr3 {
-    /// Reads from place `at` of `src`. Every flag but 0 says that a value is set; it is plain if all are 0 or 1.
+    /// Reads from place `at` of `bytes`. Every flag but 0 says that a value is set; it is plain if all are 0 or 1.
     ///
     /// # Errors
-    /// Refusals 1, 2 (how a time is set), 3 and 9.
-    pub fn read(src: &[u8], at: usize) -> Result<Read<Sattr3>, Refusal> {
-        let mut info = [0; 16];
-        match sys::read_sattr3(src, at, &mut info) {
-            0 => {
-                let set = |flag: usize| (info[flag] != 0).then_some(info[flag + 1]);
-                let value = Sattr3 {
-                    mode: set(2).map(|n| n as u32),
-                    uid: set(4).map(|n| n as u32),
-                    gid: set(6).map(|n| n as u32),
-                    size: set(8),
-                    atime: SetTime::of(&info[10..13]),
-                    mtime: SetTime::of(&info[13..16]),
-                };
-                Ok(Read { value, next: info[0] as usize, plain: info[1] == 1 })
-            },
-            answer => Err(Refusal::of(answer, info[0], info[1])),
-        }
+    /// `Ends`, `Undeclared` (how a time is set), `TooLong` and `PastEnd`.
+    pub fn read(bytes: &[u8], at: usize) -> Result<Reading<Sattr3>, Refusal> {
+        let mut info = [0; figures::SATTR3];
+        let answer = sys::read_sattr3(bytes, at, &mut info);
+        let set = |flag: usize, value: usize| (info[flag] != 0).then_some(info[value]);
+        let word = |flag: usize, value: usize| (info[flag] != 0).then_some(info[value] as u32);
+        let time = |how: usize, seconds: usize, nseconds: usize| SetTime::of(info[how], info[seconds], info[nseconds]);
+        reading(answer, &info, || {
+            Some(Sattr3 {
+                mode: word(figure::SATTR3_MODE_SET, figure::SATTR3_MODE),
+                uid: word(figure::SATTR3_UID_SET, figure::SATTR3_UID),
+                gid: word(figure::SATTR3_GID_SET, figure::SATTR3_GID),
+                size: set(figure::SATTR3_SIZE_SET, figure::SATTR3_SIZE),
+                atime: time(figure::SATTR3_ATIME_HOW, figure::SATTR3_ATIME_SECONDS, figure::SATTR3_ATIME_NSECONDS)?,
+                mtime: time(figure::SATTR3_MTIME_HOW, figure::SATTR3_MTIME_SECONDS, figure::SATTR3_MTIME_NSECONDS)?,
+            })
+        })
     }
 
     /// Writes from place `start` of `out`, 24 to 60 bytes, and gives the place after it. All other bytes stay.
@@ -233,67 +218,73 @@ impl Sattr3 {
     /// ```
     ///
     /// # Errors
-    /// Refusals 9 and 5.
+    /// `PastEnd` and `NoRoom`.
     pub fn write(&self, out: &mut [u8], start: usize) -> Result<usize, Refusal> {
-        let mut fields = [0; 14];
-        let values = [self.mode.map(u64::from), self.uid.map(u64::from), self.gid.map(u64::from), self.size];
-        for (two, value) in fields.chunks_exact_mut(2).zip(values) {
-            two.copy_from_slice(&[u64::from(value.is_some()), value.unwrap_or(0)]);
+        let mut list = [0; figures::SATTR3];
+        let values = [
+            (figure::SATTR3_MODE_SET, figure::SATTR3_MODE, self.mode.map(u64::from)),
+            (figure::SATTR3_UID_SET, figure::SATTR3_UID, self.uid.map(u64::from)),
+            (figure::SATTR3_GID_SET, figure::SATTR3_GID, self.gid.map(u64::from)),
+            (figure::SATTR3_SIZE_SET, figure::SATTR3_SIZE, self.size),
+        ];
+        for (flag, place, value) in values {
+            list[flag] = value.is_some().into();
+            list[place] = value.unwrap_or(0);
         }
-        fields[8..11].copy_from_slice(&self.atime.figures());
-        fields[11..14].copy_from_slice(&self.mtime.figures());
-        let mut info = [0; 1];
-        written(sys::write_sattr3(&fields, out, start, &mut info), info[0])
+        list[figure::SATTR3_ATIME_HOW..=figure::SATTR3_ATIME_NSECONDS].copy_from_slice(&self.atime.figures());
+        list[figure::SATTR3_MTIME_HOW..=figure::SATTR3_MTIME_NSECONDS].copy_from_slice(&self.mtime.figures());
+        let mut info = [0; figures::WRITTEN];
+        written(sys::write_sattr3(&list[figure::FIELDS..], out, start, &mut info), info)
     }
 }
 
-/// A name in a directory: pieces of a message.
+/// A name in a directory: `diropargs3`.
 #[derive(Clone, Copy, Debug, Default, PartialEq, Eq, Hash)]
-pub struct DirOpArgs3 {
+pub struct Diropargs3<'a> {
     /// The bytes of the directory's handle.
-    pub dir: Piece,
+    pub dir: &'a [u8],
     /// The bytes of the name.
-    pub name: Piece,
+    pub name: &'a [u8],
 }
 
-impl DirOpArgs3 {
-    /// Reads from place `at` of `src`. It is plain if all padding is zero.
+impl<'a> Diropargs3<'a> {
+    /// Reads from place `at` of `bytes`. It is plain if all padding is zero.
     ///
     /// ```
-    /// use yugerzat::DirOpArgs3;
+    /// use yugerzat::Diropargs3;
     ///
     /// let message = [0, 0, 0, 1, 0xAA, 0, 0, 0, 0, 0, 0, 2, b'h', b'i', 0, 0];
-    /// let read = DirOpArgs3::read(&message, 0)?;
-    /// assert_eq!(read.value.dir.of(&message), Some(&[0xAA][..]));
-    /// assert_eq!(read.value.name.of(&message), Some(&b"hi"[..]));
+    /// let read = Diropargs3::read(&message, 0)?;
+    /// assert_eq!(read.value, Diropargs3 { dir: &[0xAA], name: b"hi" });
     ///
     /// let mut out = [0; 16];
-    /// assert_eq!(read.value.write(&message, &mut out, 0)?, 16);
+    /// assert_eq!(read.value.write(&mut out, 0)?, 16);
     /// assert_eq!(out, message);
     /// # Ok::<(), yugerzat::Refusal>(())
     /// ```
     ///
     /// # Errors
-    /// Refusals 1, 3 and 9.
-    pub fn read(src: &[u8], at: usize) -> Result<Read<DirOpArgs3>, Refusal> {
-        let mut info = [0; 6];
-        match sys::read_diropargs3(src, at, &mut info) {
-            0 => {
-                let piece = |first: usize| Piece { at: info[first] as usize, count: info[first + 1] as usize };
-                let value = DirOpArgs3 { dir: piece(2), name: piece(4) };
-                Ok(Read { value, next: info[0] as usize, plain: info[1] == 1 })
-            },
-            answer => Err(Refusal::of(answer, info[0], info[1])),
-        }
+    /// `Ends`, `TooLong` and `PastEnd`.
+    pub fn read(bytes: &'a [u8], at: usize) -> Result<Reading<Diropargs3<'a>>, Refusal> {
+        let mut info = [0; figures::DIROPARGS3];
+        let answer = sys::read_diropargs3(bytes, at, &mut info);
+        reading(answer, &info, || {
+            Some(Diropargs3 {
+                dir: part(bytes, info[figure::DIROPARGS3_DIR_AT], info[figure::DIROPARGS3_DIR_COUNT])?,
+                name: part(bytes, info[figure::DIROPARGS3_NAME_AT], info[figure::DIROPARGS3_NAME_COUNT])?,
+            })
+        })
     }
 
-    /// Writes the pieces of `source` from place `start` of `out`, and gives the place after them. All other bytes stay.
+    /// Writes from place `start` of `out`, and gives the place after it. All other bytes stay.
     ///
     /// # Errors
-    /// Refusals 9, 3 (the source), 4 (a piece lies outside it), 3 (what would be written) and 5.
-    pub fn write(&self, source: &[u8], out: &mut [u8], start: usize) -> Result<usize, Refusal> {
-        let fields = [self.dir.at as u64, self.dir.count as u64, self.name.at as u64, self.name.count as u64];
-        let mut info = [0; 1];
-        written(sys::write_diropargs3(source, &fields, out, start, &mut info), info[0])
+    /// `PastEnd`, `TooLong` (the handle, the name or the whole) and `NoRoom`.
+    pub fn write(&self, out: &mut [u8], start: usize) -> Result<usize, Refusal> {
+        let mut list = [0; figures::DIROPARGS3];
+        list[figure::DIROPARGS3_DIR_COUNT] = self.dir.len() as u64;
+        list[figure::DIROPARGS3_NAME_COUNT] = self.name.len() as u64;
+        let mut info = [0; figures::WRITTEN];
+        written(sys::write_diropargs3(self.dir, self.name, &list[figure::FIELDS..], out, start, &mut info), info)
     }
 }

@@ -1,8 +1,9 @@
-use crate::{sys, AuthUnix, Refusal};
+use crate::names::{answer, figure, figures};
+use crate::{part, sys, AuthUnix, Refusal, Words};
 
 /// What to do with a message that came in.
 #[derive(Clone, Copy, Debug, PartialEq, Eq, Hash)]
-pub enum Choice {
+pub enum Choice<'a> {
     /// It is a call for NFS (100003), the port mapper (100000) or mount (100005).
     HandOver {
         /// The program.
@@ -14,44 +15,62 @@ pub enum Choice {
         /// The place where the arguments begin.
         arguments: usize,
         /// Who calls, where the credential is `AUTH_UNIX`.
-        caller: Option<AuthUnix>,
+        caller: Option<AuthUnix<'a>>,
     },
-    /// A reply to send back stands in the first so many bytes of the output: the RPC version is not 2, or the program is
-    /// not served.
-    Reply(usize),
+    /// This reply is to be sent back: the RPC version is not 2, or the program is not served.
+    Reply([u8; 24]),
     /// The call was seen before.
     Silence,
 }
 
-/// Chooses what to do with a message. `seen` says whether the call came before; a reply is written to the start of `out`.
+/// Chooses what to do with a message. `seen` says whether the call came before.
 ///
 /// ```
 /// use yugerzat::{choose, Choice};
 ///
-/// let mut out = [0; 24];
-/// let answer = choose(&[0, 0, 0, 42, 0, 0, 0, 2], false, &mut out)?;
-/// assert_eq!(answer, Choice::Reply(24));
+/// // xid 42, and a body tag that is not declared
+/// let answer = choose(&[0, 0, 0, 42, 0, 0, 0, 2], false)?;
 /// // xid 42, REPLY, MSG_DENIED, RPC_MISMATCH, 0, 0
-/// assert_eq!(out, [0, 0, 0, 42, 0, 0, 0, 1, 0, 0, 0, 1, 0, 0, 0, 0, 0, 0, 0, 0, 0, 0, 0, 0]);
+/// let reply = [0, 0, 0, 42, 0, 0, 0, 1, 0, 0, 0, 1, 0, 0, 0, 0, 0, 0, 0, 0, 0, 0, 0, 0];
+/// assert_eq!(answer, Choice::Reply(reply));
 /// # Ok::<(), yugerzat::Refusal>(())
 /// ```
 ///
 /// # Errors
-/// Refusals 3, 1, 2, 8 (a REPLY came), 1 of the credential, and 5 where a reply is due and `out` is shorter than 24 bytes.
-/// What 1 of the credential wants is wanting in the credential's body, and more bytes behind the message do not help;
-/// [`judge`](crate::judge) tells, since it takes such a message.
-pub fn choose(message: &[u8], seen: bool, out: &mut [u8]) -> Result<Choice, Refusal> {
-    let mut info = [0; 12];
-    match sys::choose(message, seen, out, &mut info) {
-        100 => Ok(Choice::HandOver {
-            prog: info[0] as u32,
-            vers: info[1] as u32,
-            proc: info[2] as u32,
-            arguments: info[3] as usize,
-            caller: (info[4] != 0).then(|| AuthUnix::of(&info[5..12])),
-        }),
-        101 => Ok(Choice::Reply(info[0] as usize)),
-        102 => Ok(Choice::Silence),
-        answer => Err(Refusal::of(answer, info[0], info[1])),
-    }
+/// `TooLong`, `Ends`, `Undeclared`, `ReplyCame`, and `Ends` of the credential. What that one wants is wanting in the
+/// credential's body, and more bytes behind the message do not help; [`Message::read`](crate::Message::read) tells them
+/// apart, since it takes a message whose credential ends too soon.
+pub fn choose(message: &[u8], seen: bool) -> Result<Choice<'_>, Refusal> {
+    let mut reply = [0; 24];
+    let mut info = [0; figures::CHOOSE];
+    let answer = sys::choose(message, seen, &mut reply, &mut info);
+    let choice = match answer {
+        answer::HAND_OVER => hand_over(message, &info),
+        answer::REPLY if info[figure::CHOOSE_REPLY_LENGTH] == 24 => Some(Choice::Reply(reply)),
+        answer::SILENCE => Some(Choice::Silence),
+        _ => None,
+    };
+    choice.ok_or_else(|| Refusal::of(answer, info[figure::PLACE], info[figure::WANTING], 24))
+}
+
+fn hand_over<'a>(message: &'a [u8], info: &[u64; figures::CHOOSE]) -> Option<Choice<'a>> {
+    let word = |place: usize| info[place] as u32;
+    let caller = if info[figure::CHOOSE_UNIX] == 0 {
+        None
+    } else {
+        Some(AuthUnix {
+            stamp: word(figure::CHOOSE_STAMP),
+            machinename: part(message, info[figure::CHOOSE_NAME_AT], info[figure::CHOOSE_NAME_COUNT])?,
+            uid: word(figure::CHOOSE_UID),
+            gid: word(figure::CHOOSE_GID),
+            gids: Words::of(message, info[figure::CHOOSE_GIDS_AT], info[figure::CHOOSE_GIDS_COUNT])?,
+        })
+    };
+    Some(Choice::HandOver {
+        prog: word(figure::CHOOSE_PROG),
+        vers: word(figure::CHOOSE_VERS),
+        proc: word(figure::CHOOSE_PROC),
+        arguments: info[figure::CHOOSE_ARGUMENTS] as usize,
+        caller,
+    })
 }

@@ -1,11 +1,25 @@
-use std::fmt;
+use core::fmt;
+use core::iter::FusedIterator;
+use core::str::FromStr;
 
+use crate::names::{answer, figure, figures};
 use crate::{sys, Refusal};
 
 macro_rules! kinds {
     ($($kind:ident $name:literal,)*) => {
-        /// A kind of message, under the name of its RFC.
+        /// A kind of message, under the name of its RFC. More may be added.
+        ///
+        /// ```
+        /// use yugerzat::Kind;
+        ///
+        /// assert_eq!("sattr3".parse(), Ok(Kind::Sattr3));
+        /// assert_eq!(Kind::try_from(44), Ok(Kind::Sattr3));
+        /// assert_eq!((Kind::Sattr3.name(), Kind::Sattr3.number()), ("sattr3", 44));
+        /// assert_eq!(Kind::all().next(), Some(Kind::Bool));
+        /// assert!("sattr".parse::<Kind>().is_err());
+        /// ```
         #[derive(Clone, Copy, Debug, PartialEq, Eq, Hash, PartialOrd, Ord)]
+        #[non_exhaustive]
         #[repr(u32)]
         pub enum Kind {
             $(
@@ -15,12 +29,12 @@ macro_rules! kinds {
         }
 
         impl Kind {
-            /// Every kind, in the order of their numbers.
-            pub const ALL: [Kind; [$($name),*].len()] = [$(Kind::$kind),*];
+            /// In the order of their numbers.
+            const ALL: [Kind; [$($name),*].len()] = [$(Kind::$kind),*];
 
             /// The name that the RFC and the crate nfsserve have for it.
             #[must_use]
-            pub fn name(self) -> &'static str {
+            pub const fn name(self) -> &'static str {
                 match self {
                     $(Kind::$kind => $name,)*
                 }
@@ -88,11 +102,84 @@ impl Kind {
     pub const fn number(self) -> u32 {
         self as u32
     }
+
+    /// Every kind, in the order of their numbers.
+    #[must_use]
+    pub fn all() -> impl ExactSizeIterator<Item = Kind> + DoubleEndedIterator + FusedIterator + Clone {
+        Kind::ALL.into_iter()
+    }
 }
 
 impl fmt::Display for Kind {
     fn fmt(&self, f: &mut fmt::Formatter<'_>) -> fmt::Result {
-        f.write_str(self.name())
+        f.pad(self.name())
+    }
+}
+
+/// There is no kind of that name or number.
+#[derive(Clone, Copy, Debug, PartialEq, Eq, Hash)]
+#[non_exhaustive]
+pub struct UnknownKind;
+
+impl fmt::Display for UnknownKind {
+    fn fmt(&self, f: &mut fmt::Formatter<'_>) -> fmt::Result {
+        f.write_str("there is no kind of message of that name or number")
+    }
+}
+
+#[cfg(feature = "std")]
+impl std::error::Error for UnknownKind {}
+
+impl FromStr for Kind {
+    type Err = UnknownKind;
+
+    /// The kind of a name, as [`Kind::name`] has it.
+    fn from_str(name: &str) -> Result<Kind, UnknownKind> {
+        Kind::all().find(|kind| kind.name() == name).ok_or(UnknownKind)
+    }
+}
+
+impl TryFrom<u32> for Kind {
+    type Error = UnknownKind;
+
+    /// The kind of a number, as [`Kind::number`] has it.
+    fn try_from(number: u32) -> Result<Kind, UnknownKind> {
+        Kind::all().find(|kind| kind.number() == number).ok_or(UnknownKind)
+    }
+}
+
+/// What [`judge`] found.
+#[derive(Clone, Copy, Debug, PartialEq, Eq, Hash)]
+pub struct Judged {
+    /// The place after what was read.
+    pub next: usize,
+    /// Whether that was in published form.
+    pub plain: bool,
+    /// How many bytes its rewriting has.
+    pub size: usize,
+}
+
+/// Reads a message of a kind from place `at` of `bytes`, and says whether it is plain and how long its rewriting is. Nothing
+/// is written.
+///
+/// ```
+/// use yugerzat::{judge, Judged, Kind, Refusal};
+///
+/// assert_eq!(judge(Kind::Bool, &[0, 0, 1, 0], 0), Ok(Judged { next: 4, plain: false, size: 4 }));
+/// assert_eq!(judge(Kind::Bool, &[0, 0], 0), Err(Refusal::Ends { place: 0, wanting: 2 }));
+/// ```
+///
+/// # Errors
+/// `Ends`, `Undeclared`, `TooLong` and `PastEnd`.
+pub fn judge(kind: Kind, bytes: &[u8], at: usize) -> Result<Judged, Refusal> {
+    let mut info = [0; figures::JUDGE];
+    match sys::judge(kind.number(), bytes, at, &mut info) {
+        answer::DONE => Ok(Judged {
+            next: info[figure::NEXT] as usize,
+            plain: info[figure::PLAIN] == 1,
+            size: info[figure::JUDGE_SIZE] as usize,
+        }),
+        answer => Err(Refusal::of(answer, info[figure::PLACE], info[figure::WANTING], 0)),
     }
 }
 
@@ -104,10 +191,10 @@ pub struct Rewritten {
     /// Whether that was in published form.
     pub plain: bool,
     /// How many bytes were written.
-    pub len: usize,
+    pub size: usize,
 }
 
-/// Reads a message of a kind from place `at` of `src`, and writes it in published form from the start of `out`.
+/// Reads a message of a kind from place `at` of `bytes`, and writes it in published form from the start of `out`.
 ///
 /// Two messages of a kind are the same exactly when their rewritings are equal bytes, and a rewriting is its own
 /// rewriting. It is never longer than the larger of 40 bytes and the bytes read.
@@ -117,17 +204,21 @@ pub struct Rewritten {
 ///
 /// let mut out = [0xEE; 6];
 /// let done = rewrite(Kind::Bool, &[0, 0, 1, 0], 0, &mut out)?;
-/// assert_eq!(done, Rewritten { next: 4, plain: false, len: 4 });
+/// assert_eq!(done, Rewritten { next: 4, plain: false, size: 4 });
 /// assert_eq!(out, [0, 0, 0, 1, 0xEE, 0xEE]);
 /// # Ok::<(), yugerzat::Refusal>(())
 /// ```
 ///
 /// # Errors
-/// Refusals 1, 2, 3 and 9 of the reading, and 5 where `out` is too short.
-pub fn rewrite(kind: Kind, src: &[u8], at: usize, out: &mut [u8]) -> Result<Rewritten, Refusal> {
-    let mut info = [0; 3];
-    match sys::read(kind.number(), src, at, out, &mut info) {
-        0 => Ok(Rewritten { next: info[0] as usize, plain: info[1] == 1, len: info[2] as usize }),
-        answer => Err(Refusal::of(answer, info[0], info[1])),
+/// `Ends`, `Undeclared`, `TooLong` and `PastEnd` of the reading, and `NoRoom` where `out` is too short.
+pub fn rewrite(kind: Kind, bytes: &[u8], at: usize, out: &mut [u8]) -> Result<Rewritten, Refusal> {
+    let mut info = [0; figures::REWRITE];
+    match sys::rewrite(kind.number(), bytes, at, out, &mut info) {
+        answer::DONE => Ok(Rewritten {
+            next: info[figure::NEXT] as usize,
+            plain: info[figure::PLAIN] == 1,
+            size: info[figure::REWRITE_SIZE] as usize,
+        }),
+        answer => Err(Refusal::of(answer, info[figure::PLACE], info[figure::WANTING], info[figure::REWRITE_SIZE])),
     }
 }

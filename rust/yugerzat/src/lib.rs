@@ -1,66 +1,191 @@
-//! A wire layer for NFS version 3, proved: the messages of XDR (RFC 4506), ONC RPC (RFC 5531) and NFS (RFC 1813), records
-//! from a stream, and the choice of program. These are safe functions over its static library.
+//! A wire layer for NFS version 3, proved: it reads and writes the messages of XDR (RFC 4506), ONC RPC (RFC 5531) and NFS
+//! (RFC 1813), assembles records from a stream, and chooses the program that a call is for. These are safe functions over a
+//! static library whose every function is proved against its specification.
 //!
-//! It reads what the crate nfsserve 0.11.0 reads, says whether that came in published form (`plain`), and writes in
-//! published form alone. Nothing is allocated: what a message holds of bytes is a [`Piece`] of the caller's own message.
+//! # What it is for
 //!
-//! An old client sets a file's size with a flag of `FFFFFFFF` where RFC 1813 has 1. The change is taken as meant, and
-//! passed on as the RFC has it:
+//! Clients bend the rules, and servers don't always forgive. An old client sets a file's size with a flag of `FFFFFFFF`,
+//! where RFC 1813 has 1. The change is taken as meant, and passed on as the RFC has it:
 //!
 //! ```
-//! use yugerzat::{Sattr3, SetTime};
+//! use yugerzat::Sattr3;
 //!
+//! // What to change: nothing but the size, which becomes 0.
 //! let mut came = [0; 32];
 //! came[12..16].fill(0xFF);
+//!
 //! let read = Sattr3::read(&came, 0)?;
 //! assert_eq!(read.value, Sattr3 { size: Some(0), ..Sattr3::default() });
-//! assert_eq!((read.next, read.plain), (32, false));
+//! assert_eq!(read.next, 32);
+//! assert!(!read.plain);
 //!
-//! let mut out = [0; 32];
+//! let mut out = [0; 60];
 //! let end = read.value.write(&mut out, 0)?;
 //! assert_eq!(out[12..16], [0, 0, 0, 1]);
 //! assert!(Sattr3::read(&out[..end], 0)?.plain);
 //! # Ok::<(), yugerzat::Refusal>(())
 //! ```
 //!
-//! What no function of this crate does is panic or touch memory that was not lent: every byte string and every place gets
-//! an answer, `Ok` or a [`Refusal`]. A refusal leaves every buffer as it was; the one exception is
-//! [`Assembler::feed`], which says so. Where a message ends too early, the refusal says how many bytes are wanting.
+//! Reading gives one of three answers:
+//!
+//! - **Plain**: the message is in published form, which is how the RFCs write it. Every flag is 0 or 1, every byte of
+//!   padding is zero, and every tag (a number that says what follows) is declared.
+//! - **Loose**: the message is taken, but is not plain. What is taken is what the crate nfsserve 0.11.0 takes.
+//! - A [`Refusal`], a numbered "no": no message of that kind begins there. Where the message ends too soon, it says how many
+//!   bytes are **wanting**: still missing to finish the item (a number, a run of bytes, a list) that is cut.
+//!
+//! Writing gives published form only. What is written reads back as itself, and is plain.
+//!
+//! # Where to begin
+//!
+//! | You have | You call |
+//! |---|---|
+//! | a stream of records | `Records`, or [`Assembler`] where you read yourself |
+//! | a message of any [kind](Kind) | [`judge`]: is it plain? [`rewrite`]: what is its published form? |
+//! | a call or a reply | [`Message::read`], then [`AuthUnix::read`] for the caller |
+//! | attributes, a change, a name in a directory | [`Fattr3`], [`Sattr3`], [`Diropargs3`] |
+//! | a call to be served | [`choose`]: hand it over, answer it, or keep silent |
+//! | a message to be sent | `write` into a slice or `append` to a `Vec`, then [`write_fragment`] |
+//!
+//! Readers take bytes and a place, which is an offset into them. They give a [`Reading`]: the value, the `next` place, and
+//! whether it was plain. Values borrow their bytes from the message, and nothing is copied.
+//!
+//! A relay passes calls on with their headers in published form and their arguments as they came:
+//!
+//! ```
+//! # #[cfg(feature = "std")]
+//! # fn main() -> Result<(), Box<dyn std::error::Error>> {
+//! use yugerzat::{append_fragment, append_rewriting, Kind, Records};
+//!
+//! // One record, a NULL call of NFS. Any std::io::Read can be the stream.
+//! let mut stream = vec![0x80, 0, 0, 40, 0, 0, 0, 42, 0, 0, 0, 0, 0, 0, 0, 2, 0, 1, 0x86, 0xA3, 0, 0, 0, 3];
+//! stream.resize(44, 0);
+//!
+//! let mut out = Vec::new();
+//! for record in Records::new(&stream[..]) {
+//!     let record = record?;
+//!     let mut message = Vec::new();
+//!     let header = append_rewriting(Kind::RpcMsg, &record, 0, &mut message)?;
+//!     message.extend_from_slice(&record[header.next..]);
+//!     append_fragment(&message, &mut out)?;
+//! }
+//! assert_eq!(out, stream);
+//! # Ok(())
+//! # }
+//! # #[cfg(not(feature = "std"))]
+//! # fn main() {}
+//! ```
+//!
+//! The folder `examples/` has such a relay, a program that judges a stream, and one that passes on a SETATTR of the old
+//! client.
+//!
+//! # What plain does not say
+//!
+//! **Plain is not "what a strict server takes".** No upper bounds are held against a message, as nfsserve has none: a
+//! credential's body over 400 bytes, a machine name over 255, more than 16 groups and a file handle over 64 bytes are all
+//! plain, and servers that hold to the RFCs refuse them. If you pass calls on to one, test these four lengths; they are
+//! lengths of slices.
+//!
+//! Plain covers the bytes that were used, and no others. The header of a call does not cover its arguments, nor what stands
+//! inside its credential: dirt inside an `AUTH_UNIX` body is seen by [`AuthUnix::read`] alone.
+//!
+//! # Limits
+//!
+//! A message has at most [`LIMIT`] bytes. Credentials of flavors above 3 are refused, `RPCSEC_GSS` among them, and so are
+//! `auth_stat`s above 5, because nfsserve does not know them.
+//!
+//! # What is promised
+//!
+//! No function panics or touches memory that was not lent, and every byte string and every place gets an answer. A refusal
+//! leaves every buffer as it was; the one exception is [`Assembler::feed`], which says so. What is proved, and of what,
+//! stands in docs/SCOPE.md. What this crate adds, its types over the library's lists of numbers, is tested and not proved.
+//!
+//! # The library
+//!
+//! The build links the static library that the script `library`, at the top of the repository, proves and builds for this
+//! machine. Run it once before `cargo build`: it takes a while and says how far it is, which a build script cannot. Or let
+//! the environment variable `YUGERZAT_LIB` name an archive; a relative path is taken from the folder where cargo was called,
+//! or else from that of this crate. To compile for another machine, `YUGERZAT_LIB` must name an archive that was built
+//! there.
+//!
+//! # Features
+//!
+//! `std`, which is on by default, brings `Records`, `append` and its like, which write to a `Vec`, and `std::error::Error`
+//! with conversions to `std::io::Error`. Without it the crate is `no_std` and allocates nothing. It depends on no other
+//! crate.
+#![no_std]
 #![deny(missing_docs, unsafe_op_in_unsafe_fn)]
 #![warn(clippy::pedantic)]
 // Figures are 64-bit numbers of which the library has proved that they fit their fields.
 #![allow(clippy::cast_possible_truncation)]
 
+#[cfg(any(feature = "std", test))]
+extern crate std;
+
 #[cfg(not(target_pointer_width = "64"))]
 compile_error!("the library is built for machines with 64-bit addresses");
 
+#[cfg(feature = "std")]
+mod append;
 mod attributes;
 mod choice;
 mod kind;
 mod message;
-mod piece;
+mod names;
 mod record;
+#[cfg(feature = "std")]
+mod records;
 mod refusal;
 mod sys;
+mod words;
 
-pub use attributes::{DirOpArgs3, Fattr3, Ftype3, Nfstime3, Sattr3, SetTime, Specdata3};
+#[cfg(feature = "std")]
+pub use append::{append_fragment, append_rewriting};
+pub use attributes::{Diropargs3, Fattr3, Ftype3, Nfstime3, Sattr3, SetTime, Specdata3};
 pub use choice::{choose, Choice};
-pub use kind::{rewrite, Kind, Rewritten};
-pub use message::{judge, AcceptStat, Auth, AuthFlavor, AuthStat, AuthUnix, Body, Call, Message};
-pub use piece::{part, Piece, Words};
+pub use kind::{judge, rewrite, Judged, Kind, Rewritten, UnknownKind};
+pub use message::{AcceptStat, Auth, AuthFlavor, AuthStat, AuthUnix, Body, Call, Message, Reply};
 pub use record::{write_fragment, Assembler, Fed, FeedError};
+#[cfg(feature = "std")]
+pub use records::{RecordError, Records};
 pub use refusal::Refusal;
+pub use words::{Words, WordsIter};
 
-/// A message, a source, an assembler's capacity and an encoding have at most so many bytes.
+use names::{answer, figure, figures};
+
+/// A message, a source, an assembler's capacity and what is written have at most so many bytes.
 pub const LIMIT: usize = 1_048_576;
 
-/// What a reading gives.
+/// What a reader gives.
 #[derive(Clone, Copy, Debug, PartialEq, Eq, Hash)]
-pub struct Read<T> {
+pub struct Reading<T> {
     /// What was read.
     pub value: T,
     /// The place after it.
     pub next: usize,
     /// Whether it came in published form: all flags 0 or 1, all padding zero, all tags declared.
     pub plain: bool,
+}
+
+/// What a reader answered. There is no value where the figures are none that this version of the library gives.
+fn reading<T>(answer: u32, info: &[u64], value: impl FnOnce() -> Option<T>) -> Result<Reading<T>, Refusal> {
+    if answer != answer::DONE {
+        return Err(Refusal::of(answer, info[figure::PLACE], info[figure::WANTING], 0));
+    }
+    let value = value().ok_or(Refusal::Unknown { answer })?;
+    Ok(Reading { value, next: info[figure::NEXT] as usize, plain: info[figure::PLAIN] == 1 })
+}
+
+/// What a writer answered: the place after what was written.
+fn written(answer: u32, info: [u64; figures::WRITTEN]) -> Result<usize, Refusal> {
+    match answer {
+        answer::DONE => Ok(info[figure::WRITTEN_AFTER] as usize),
+        answer => Err(Refusal::of(answer, 0, 0, info[figure::WRITTEN_NEEDED])),
+    }
+}
+
+/// The bytes that a piece names: its place in the message, and how many. The library has proved that they lie in the
+/// message.
+fn part(bytes: &[u8], at: u64, count: u64) -> Option<&[u8]> {
+    bytes.get(at as usize..)?.get(..count as usize)
 }

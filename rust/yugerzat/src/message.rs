@@ -1,6 +1,8 @@
-use crate::{sys, Piece, Read, Refusal, Words};
+use crate::names::{figure, figures, tag};
+use crate::{part, reading, sys, written, Reading, Refusal, Words};
 
-/// The flavor of a credential or verifier.
+/// The flavor of a credential or verifier. Others are refused ([`Undeclared`](Refusal::Undeclared)), `RPCSEC_GSS` among
+/// them.
 #[allow(missing_docs)]
 #[derive(Clone, Copy, Debug, Default, PartialEq, Eq, Hash)]
 #[repr(u32)]
@@ -13,48 +15,77 @@ pub enum AuthFlavor {
 }
 
 impl AuthFlavor {
-    fn of(number: u64) -> AuthFlavor {
-        match number {
+    fn of(number: u64) -> Option<AuthFlavor> {
+        Some(match number {
             0 => AuthFlavor::Null,
             1 => AuthFlavor::Unix,
             2 => AuthFlavor::Short,
             3 => AuthFlavor::Des,
-            _ => unreachable!("the library hands over declared flavors alone"),
-        }
+            _ => return None,
+        })
     }
 }
 
-/// A credential or verifier: `opaque_auth`.
-#[allow(missing_docs)]
+/// A credential or verifier: `opaque_auth`. The default one is `AUTH_NULL` without a body.
 #[derive(Clone, Copy, Debug, Default, PartialEq, Eq, Hash)]
-pub struct Auth {
+pub struct Auth<'a> {
+    /// How to read the body.
     pub flavor: AuthFlavor,
-    pub body: Piece,
+    /// The body, which a reading of the header does not look into; see [`AuthUnix::read`].
+    pub body: &'a [u8],
 }
 
-impl Auth {
-    fn of(figures: &[u64]) -> Auth {
-        Auth { flavor: AuthFlavor::of(figures[0]), body: Piece { at: figures[1] as usize, count: figures[2] as usize } }
-    }
-
-    fn figures(self) -> [u64; 3] {
-        [self.flavor as u64, self.body.at as u64, self.body.count as u64]
+impl<'a> Auth<'a> {
+    fn of(bytes: &'a [u8], flavor: u64, at: u64, count: u64) -> Option<Auth<'a>> {
+        Some(Auth { flavor: AuthFlavor::of(flavor)?, body: part(bytes, at, count)? })
     }
 }
 
 /// The header of a call, without its xid: `call_body`.
 #[allow(missing_docs)]
 #[derive(Clone, Copy, Debug, Default, PartialEq, Eq, Hash)]
-pub struct Call {
+pub struct Call<'a> {
     pub rpcvers: u32,
     pub prog: u32,
     pub vers: u32,
     pub proc: u32,
-    pub cred: Auth,
-    pub verf: Auth,
+    pub cred: Auth<'a>,
+    pub verf: Auth<'a>,
 }
 
-/// What became of an accepted call.
+impl Call<'_> {
+    /// Writes an `rpc_msg` with this call from place `start` of `out`, and gives the place after it, where the arguments
+    /// go. All other bytes stay. The bodies of credential and verifier may lie anywhere.
+    ///
+    /// ```
+    /// use yugerzat::{Body, Call, Message};
+    ///
+    /// let call = Call { rpcvers: 2, prog: 100_003, vers: 3, proc: 1, ..Call::default() };
+    /// let mut out = [0; 64];
+    /// assert_eq!(call.write(42, &mut out, 0)?, 40);
+    /// assert_eq!(Message::read(&out, 0)?.value, Message { xid: 42, body: Body::Call(call) });
+    /// # Ok::<(), yugerzat::Refusal>(())
+    /// ```
+    ///
+    /// # Errors
+    /// `PastEnd`, `TooLong` (a body or the whole) and `NoRoom`.
+    pub fn write(&self, xid: u32, out: &mut [u8], start: usize) -> Result<usize, Refusal> {
+        let mut fields = [0; figures::WRITE_CALL];
+        fields[figure::WRITE_CALL_XID] = xid.into();
+        fields[figure::WRITE_CALL_RPCVERS] = self.rpcvers.into();
+        fields[figure::WRITE_CALL_PROG] = self.prog.into();
+        fields[figure::WRITE_CALL_VERS] = self.vers.into();
+        fields[figure::WRITE_CALL_PROC] = self.proc.into();
+        fields[figure::WRITE_CALL_CRED_FLAVOR] = self.cred.flavor as u64;
+        fields[figure::WRITE_CALL_CRED_COUNT] = self.cred.body.len() as u64;
+        fields[figure::WRITE_CALL_VERF_FLAVOR] = self.verf.flavor as u64;
+        fields[figure::WRITE_CALL_VERF_COUNT] = self.verf.body.len() as u64;
+        let mut info = [0; figures::WRITTEN];
+        written(sys::write_call(self.cred.body, self.verf.body, &fields, out, start, &mut info), info)
+    }
+}
+
+/// What became of an accepted call: `accept_stat`, with the versions where it has them.
 #[allow(missing_docs)]
 #[derive(Clone, Copy, Debug, PartialEq, Eq, Hash)]
 pub enum AcceptStat {
@@ -65,7 +96,31 @@ pub enum AcceptStat {
     GarbageArgs,
 }
 
-/// Why authentication failed.
+impl AcceptStat {
+    fn of(number: u64, low: u64, high: u64) -> Option<AcceptStat> {
+        Some(match number {
+            0 => AcceptStat::Success,
+            1 => AcceptStat::ProgUnavail,
+            2 => AcceptStat::ProgMismatch { low: low as u32, high: high as u32 },
+            3 => AcceptStat::ProcUnavail,
+            4 => AcceptStat::GarbageArgs,
+            _ => return None,
+        })
+    }
+
+    /// The number, and the versions or zeros.
+    fn figures(self) -> [u64; 3] {
+        match self {
+            AcceptStat::Success => [0; 3],
+            AcceptStat::ProgUnavail => [1, 0, 0],
+            AcceptStat::ProgMismatch { low, high } => [2, low.into(), high.into()],
+            AcceptStat::ProcUnavail => [3, 0, 0],
+            AcceptStat::GarbageArgs => [4, 0, 0],
+        }
+    }
+}
+
+/// Why authentication failed: `auth_stat`.
 #[allow(missing_docs)]
 #[derive(Clone, Copy, Debug, PartialEq, Eq, Hash)]
 #[repr(u32)]
@@ -77,181 +132,254 @@ pub enum AuthStat {
     TooWeak = 5,
 }
 
-/// What a message is.
-#[derive(Clone, Copy, Debug, PartialEq, Eq, Hash)]
-pub enum Body {
-    /// A call.
-    Call(Call),
-    /// A reply to a call that was accepted.
-    Accepted {
-        /// The server's verifier.
-        verf: Auth,
-        /// What became of the call.
-        stat: AcceptStat,
-    },
-    /// A reply to a call that was denied, because of its RPC version.
-    DeniedVersion {
-        /// The lowest version served.
-        low: u32,
-        /// The highest.
-        high: u32,
-    },
-    /// A reply to a call that was denied, because of its credential.
-    DeniedAuth(AuthStat),
-}
-
-/// A message's header: `rpc_msg`.
-#[allow(missing_docs)]
-#[derive(Clone, Copy, Debug, PartialEq, Eq, Hash)]
-pub struct Message {
-    pub xid: u32,
-    pub body: Body,
-}
-
-/// Reads an `rpc_msg` from place `at` of `message`. The arguments of a call begin at `next`.
-///
-/// It is plain if padding is zero and every tag is declared. A credential's body stays opaque; see [`AuthUnix::read`].
-///
-/// ```
-/// use yugerzat::{judge, Body, Call, Message};
-///
-/// // A body tag that is not declared: taken as a call of zeros, as nfsserve takes it.
-/// let read = judge(&[0, 0, 0, 42, 0, 0, 0, 2], 0)?;
-/// assert_eq!(read.value, Message { xid: 42, body: Body::Call(Call::default()) });
-/// assert!(!read.plain);
-/// # Ok::<(), yugerzat::Refusal>(())
-/// ```
-///
-/// # Errors
-/// Refusals 1, 2, 3 and 9.
-pub fn judge(message: &[u8], at: usize) -> Result<Read<Message>, Refusal> {
-    let mut info = [0; 14];
-    match sys::judge(message, at, &mut info) {
-        0 => {
-            let value = Message { xid: info[2] as u32, body: body(info[3], &info[4..14]) };
-            Ok(Read { value, next: info[0] as usize, plain: info[1] == 1 })
-        },
-        answer => Err(Refusal::of(answer, info[0], info[1])),
-    }
-}
-
-fn body(tag: u64, figures: &[u64]) -> Body {
-    match tag {
-        0 => Body::Call(Call {
-            rpcvers: figures[0] as u32,
-            prog: figures[1] as u32,
-            vers: figures[2] as u32,
-            proc: figures[3] as u32,
-            cred: Auth::of(&figures[4..7]),
-            verf: Auth::of(&figures[7..10]),
-        }),
-        1 => Body::Accepted {
-            verf: Auth::of(&figures[0..3]),
-            stat: match figures[3] {
-                0 => AcceptStat::Success,
-                1 => AcceptStat::ProgUnavail,
-                2 => AcceptStat::ProgMismatch { low: figures[4] as u32, high: figures[5] as u32 },
-                3 => AcceptStat::ProcUnavail,
-                _ => AcceptStat::GarbageArgs,
-            },
-        },
-        2 => Body::DeniedVersion { low: figures[0] as u32, high: figures[1] as u32 },
-        _ => Body::DeniedAuth(match figures[0] {
+impl AuthStat {
+    fn of(number: u64) -> Option<AuthStat> {
+        Some(match number {
             1 => AuthStat::BadCred,
             2 => AuthStat::RejectedCred,
             3 => AuthStat::BadVerf,
             4 => AuthStat::RejectedVerf,
             5 => AuthStat::TooWeak,
-            _ => unreachable!("the library hands over declared numbers alone"),
-        }),
+            _ => return None,
+        })
     }
 }
 
-impl Call {
-    /// Writes an `rpc_msg` with this call from place `start` of `out`, and gives the place after it, where the arguments
-    /// go. The bodies of credential and verifier are pieces of `source`. All other bytes stay.
+/// The header of a reply, without its xid: `reply_body`.
+#[derive(Clone, Copy, Debug, PartialEq, Eq, Hash)]
+pub enum Reply<'a> {
+    /// The call was accepted: `MSG_ACCEPTED`.
+    Accepted {
+        /// The server's verifier.
+        verf: Auth<'a>,
+        /// What became of the call.
+        stat: AcceptStat,
+    },
+    /// The call was denied because of its RPC version: `MSG_DENIED`, `RPC_MISMATCH`.
+    RpcMismatch {
+        /// The lowest version served.
+        low: u32,
+        /// The highest.
+        high: u32,
+    },
+    /// The call was denied because of its credential: `MSG_DENIED`, `AUTH_ERROR`.
+    AuthError(AuthStat),
+}
+
+impl Reply<'_> {
+    /// Writes an `rpc_msg` with this reply from place `start` of `out`, and gives the place after it, where the results of a
+    /// `Success` go. All other bytes stay.
     ///
     /// ```
-    /// use yugerzat::{judge, Body, Call};
+    /// use yugerzat::{AcceptStat, Auth, Reply};
     ///
-    /// let call = Call { rpcvers: 2, prog: 100_003, vers: 3, proc: 1, ..Call::default() };
-    /// let mut out = [0; 64];
-    /// let arguments = call.write(42, &[], &mut out, 0)?;
-    /// assert_eq!(arguments, 40);
-    /// let Body::Call(back) = judge(&out, 0)?.value.body else { unreachable!() };
-    /// assert_eq!((back.prog, back.vers, back.proc), (100_003, 3, 1));
+    /// let reply = Reply::Accepted { verf: Auth::default(), stat: AcceptStat::ProcUnavail };
+    /// let mut out = [0xEE; 24];
+    /// assert_eq!(reply.write(42, &mut out, 0)?, 24);
+    /// // xid 42, REPLY, MSG_ACCEPTED, AUTH_NULL, no body, PROC_UNAVAIL
+    /// assert_eq!(out, [0, 0, 0, 42, 0, 0, 0, 1, 0, 0, 0, 0, 0, 0, 0, 0, 0, 0, 0, 0, 0, 0, 0, 3]);
     /// # Ok::<(), yugerzat::Refusal>(())
     /// ```
     ///
     /// # Errors
-    /// Refusals 9, 3 (the source), 4 (a piece lies outside it), 3 (what would be written) and 5.
-    pub fn write(&self, xid: u32, source: &[u8], out: &mut [u8], start: usize) -> Result<usize, Refusal> {
-        let mut fields = [0; 11];
-        let words = [xid, self.rpcvers, self.prog, self.vers, self.proc];
-        for (field, word) in fields.iter_mut().zip(words) {
-            *field = word.into();
+    /// `PastEnd`, `TooLong` (the verifier's body or the whole) and `NoRoom`.
+    pub fn write(&self, xid: u32, out: &mut [u8], start: usize) -> Result<usize, Refusal> {
+        let mut list = [0; figure::FIELDS + figures::WRITE_REPLY];
+        list[figure::RPC_MSG_XID] = xid.into();
+        let mut body: &[u8] = &[];
+        match *self {
+            Reply::Accepted { verf, stat } => {
+                body = verf.body;
+                let [number, low, high] = stat.figures();
+                list[figure::RPC_MSG_TAG] = tag::ACCEPTED;
+                list[figure::RPC_MSG_ACCEPTED_VERF_FLAVOR] = verf.flavor as u64;
+                list[figure::RPC_MSG_ACCEPTED_VERF_COUNT] = verf.body.len() as u64;
+                list[figure::RPC_MSG_ACCEPTED_STAT] = number;
+                list[figure::RPC_MSG_ACCEPTED_LOW] = low;
+                list[figure::RPC_MSG_ACCEPTED_HIGH] = high;
+            },
+            Reply::RpcMismatch { low, high } => {
+                list[figure::RPC_MSG_TAG] = tag::DENIED_VERSION;
+                list[figure::RPC_MSG_DENIED_LOW] = low.into();
+                list[figure::RPC_MSG_DENIED_HIGH] = high.into();
+            },
+            Reply::AuthError(why) => {
+                list[figure::RPC_MSG_TAG] = tag::DENIED_AUTH;
+                list[figure::RPC_MSG_DENIED_AUTH_STAT] = why as u64;
+            },
         }
-        fields[5..8].copy_from_slice(&self.cred.figures());
-        fields[8..11].copy_from_slice(&self.verf.figures());
-        let mut info = [0; 1];
-        match sys::write_call(source, &fields, out, start, &mut info) {
-            0 => Ok(info[0] as usize),
-            answer => Err(Refusal::of(answer, 0, 0)),
+        let mut info = [0; figures::WRITTEN];
+        written(sys::write_reply(body, &list[figure::FIELDS..], out, start, &mut info), info)
+    }
+}
+
+/// What a message is.
+#[derive(Clone, Copy, Debug, PartialEq, Eq, Hash)]
+pub enum Body<'a> {
+    /// A call.
+    Call(Call<'a>),
+    /// A reply.
+    Reply(Reply<'a>),
+}
+
+/// The header of a call or a reply: `rpc_msg`.
+#[derive(Clone, Copy, Debug, PartialEq, Eq, Hash)]
+pub struct Message<'a> {
+    /// The number that a reply shares with its call.
+    pub xid: u32,
+    /// The rest of the header.
+    pub body: Body<'a>,
+}
+
+impl<'a> Message<'a> {
+    /// Reads from place `at` of `bytes`. The arguments of a call, or the results of a reply, begin at `next`.
+    ///
+    /// It is plain if the header's padding is zero and its tags are declared. A credential's body stays opaque: dirt inside
+    /// is not seen here, but by [`AuthUnix::read`].
+    ///
+    /// ```
+    /// use yugerzat::{Body, Call, Message};
+    ///
+    /// // A body tag that is not declared: taken as a call of zeros, as nfsserve takes it.
+    /// let read = Message::read(&[0, 0, 0, 42, 0, 0, 0, 2], 0)?;
+    /// assert_eq!(read.value, Message { xid: 42, body: Body::Call(Call::default()) });
+    /// assert!(!read.plain);
+    /// # Ok::<(), yugerzat::Refusal>(())
+    /// ```
+    ///
+    /// # Errors
+    /// `Ends`, `Undeclared`, `TooLong` and `PastEnd`.
+    pub fn read(bytes: &'a [u8], at: usize) -> Result<Reading<Message<'a>>, Refusal> {
+        let mut info = [0; figures::RPC_MSG];
+        let answer = sys::read_rpc_msg(bytes, at, &mut info);
+        reading(answer, &info, || Some(Message { xid: info[figure::RPC_MSG_XID] as u32, body: Body::of(bytes, &info)? }))
+    }
+
+    /// Writes from place `start` of `out`, and gives the place after it; as [`Call::write`] and [`Reply::write`].
+    ///
+    /// # Errors
+    /// `PastEnd`, `TooLong` (a body or the whole) and `NoRoom`.
+    pub fn write(&self, out: &mut [u8], start: usize) -> Result<usize, Refusal> {
+        match self.body {
+            Body::Call(call) => call.write(self.xid, out, start),
+            Body::Reply(reply) => reply.write(self.xid, out, start),
         }
     }
 }
 
-/// The credential `AUTH_UNIX`: who calls.
+impl<'a> Body<'a> {
+    fn of(bytes: &'a [u8], info: &[u64; figures::RPC_MSG]) -> Option<Body<'a>> {
+        let word = |place: usize| info[place] as u32;
+        let auth = |flavor: usize, at: usize, count: usize| Auth::of(bytes, info[flavor], info[at], info[count]);
+        Some(match info[figure::RPC_MSG_TAG] {
+            tag::CALL => Body::Call(Call {
+                rpcvers: word(figure::RPC_MSG_CALL_RPCVERS),
+                prog: word(figure::RPC_MSG_CALL_PROG),
+                vers: word(figure::RPC_MSG_CALL_VERS),
+                proc: word(figure::RPC_MSG_CALL_PROC),
+                cred: auth(figure::RPC_MSG_CALL_CRED_FLAVOR, figure::RPC_MSG_CALL_CRED_AT, figure::RPC_MSG_CALL_CRED_COUNT)?,
+                verf: auth(figure::RPC_MSG_CALL_VERF_FLAVOR, figure::RPC_MSG_CALL_VERF_AT, figure::RPC_MSG_CALL_VERF_COUNT)?,
+            }),
+            tag::ACCEPTED => Body::Reply(Reply::Accepted {
+                verf: auth(
+                    figure::RPC_MSG_ACCEPTED_VERF_FLAVOR,
+                    figure::RPC_MSG_ACCEPTED_VERF_AT,
+                    figure::RPC_MSG_ACCEPTED_VERF_COUNT,
+                )?,
+                stat: AcceptStat::of(
+                    info[figure::RPC_MSG_ACCEPTED_STAT],
+                    info[figure::RPC_MSG_ACCEPTED_LOW],
+                    info[figure::RPC_MSG_ACCEPTED_HIGH],
+                )?,
+            }),
+            tag::DENIED_VERSION => Body::Reply(Reply::RpcMismatch {
+                low: word(figure::RPC_MSG_DENIED_LOW),
+                high: word(figure::RPC_MSG_DENIED_HIGH),
+            }),
+            tag::DENIED_AUTH => Body::Reply(Reply::AuthError(AuthStat::of(info[figure::RPC_MSG_DENIED_AUTH_STAT])?)),
+            _ => return None,
+        })
+    }
+}
+
+/// Who calls, as the body of an `AUTH_UNIX` credential says: `auth_unix`.
 #[derive(Clone, Copy, Debug, Default, PartialEq, Eq, Hash)]
-pub struct AuthUnix {
+pub struct AuthUnix<'a> {
     /// An arbitrary number of the caller.
     pub stamp: u32,
     /// The bytes of the caller's machine name.
-    pub machinename: Piece,
+    pub machinename: &'a [u8],
     /// The caller's user.
     pub uid: u32,
     /// The caller's group.
     pub gid: u32,
     /// The caller's other groups.
-    pub gids: Words,
+    pub gids: Words<'a>,
 }
 
-impl AuthUnix {
-    /// The seven figures: stamp, the name's place and count, uid, gid, the groups' place and count.
-    pub(crate) fn of(figures: &[u64]) -> AuthUnix {
-        AuthUnix {
-            stamp: figures[0] as u32,
-            machinename: Piece { at: figures[1] as usize, count: figures[2] as usize },
-            uid: figures[3] as u32,
-            gid: figures[4] as u32,
-            gids: Words { at: figures[5] as usize, count: figures[6] as usize },
-        }
-    }
-
-    /// Reads the `auth_unix` inside a credential's body. The end of the body is the end of the reading, and bytes left
-    /// over in it are ignored. All places are places of the whole message.
+impl<'a> AuthUnix<'a> {
+    /// Reads the `auth_unix` that a credential's body begins with. It is plain if the padding of the name is zero. Bytes
+    /// left over in the body are ignored; they begin at `next`.
     ///
     /// ```
-    /// use yugerzat::{judge, AuthFlavor, AuthUnix, Body};
+    /// use yugerzat::{Auth, AuthFlavor, AuthUnix, Body, Call, Message};
     ///
     /// let message: Vec<u8> = [42, 0, 2, 100_003, 3, 0, 1, 24, 7, 0, 1000, 100, 1, 27, 0, 0]
     ///     .iter().flat_map(|word: &u32| word.to_be_bytes()).collect();
-    /// let Body::Call(call) = judge(&message, 0)?.value.body else { unreachable!() };
-    /// assert_eq!(call.cred.flavor, AuthFlavor::Unix);
-    /// let caller = AuthUnix::read(&message, call.cred.body)?.value;
-    /// assert_eq!((caller.uid, caller.gid), (1000, 100));
-    /// assert!(caller.gids.of(&message).is_some_and(|gids| gids.eq([27])));
+    /// match Message::read(&message, 0)?.value.body {
+    ///     Body::Call(Call { cred: Auth { flavor: AuthFlavor::Unix, body }, .. }) => {
+    ///         let caller = AuthUnix::read(body)?.value;
+    ///         assert_eq!((caller.uid, caller.gid), (1000, 100));
+    ///         assert!(caller.gids.iter().eq([27]));
+    ///     },
+    ///     other => panic!("{other:?}"),
+    /// }
     /// # Ok::<(), yugerzat::Refusal>(())
     /// ```
     ///
     /// # Errors
-    /// Refusals 1 and 3. What 1 wants is wanting in the body: more bytes behind the message do not help. A body that does
-    /// not lie in the message is as an empty one at its start.
-    pub fn read(message: &[u8], body: Piece) -> Result<Read<AuthUnix>, Refusal> {
-        let mut info = [0; 9];
-        match sys::read_auth_unix(message, body.at, body.count, &mut info) {
-            0 => Ok(Read { value: AuthUnix::of(&info[2..9]), next: info[0] as usize, plain: info[1] == 1 }),
-            answer => Err(Refusal::of(answer, info[0], info[1])),
-        }
+    /// `Ends` and `TooLong`. Places are places of the body, and the bytes that `Ends` wants are wanting in the body: more
+    /// bytes behind the message do not help.
+    pub fn read(body: &'a [u8]) -> Result<Reading<AuthUnix<'a>>, Refusal> {
+        let mut info = [0; figures::AUTH_UNIX];
+        let answer = sys::read_auth_unix(body, &mut info);
+        reading(answer, &info, || {
+            Some(AuthUnix {
+                stamp: info[figure::AUTH_UNIX_STAMP] as u32,
+                machinename: part(body, info[figure::AUTH_UNIX_NAME_AT], info[figure::AUTH_UNIX_NAME_COUNT])?,
+                uid: info[figure::AUTH_UNIX_UID] as u32,
+                gid: info[figure::AUTH_UNIX_GID] as u32,
+                gids: Words::of(body, info[figure::AUTH_UNIX_GIDS_AT], info[figure::AUTH_UNIX_GIDS_COUNT])?,
+            })
+        })
+    }
+
+    /// Writes from place `start` of `out`, and gives the place after it. All other bytes stay. This is what stands in the
+    /// body of a credential; [`Auth`] and [`Call`] put the flavor and the length around it.
+    ///
+    /// ```
+    /// use yugerzat::{AuthUnix, Words};
+    ///
+    /// let gids: Vec<u8> = [27_u32, 100].iter().flat_map(|gid| gid.to_be_bytes()).collect();
+    /// let gids = Words::new(&gids).expect("whole words");
+    /// let caller = AuthUnix { stamp: 7, machinename: b"abc", uid: 1000, gid: 100, gids };
+    /// let mut body = [0; 32];
+    /// assert_eq!(caller.write(&mut body, 0)?, 32);
+    /// assert_eq!(AuthUnix::read(&body)?.value, caller);
+    /// # Ok::<(), yugerzat::Refusal>(())
+    /// ```
+    ///
+    /// # Errors
+    /// `PastEnd`, `TooLong` (the name, the groups or the whole) and `NoRoom`.
+    pub fn write(&self, out: &mut [u8], start: usize) -> Result<usize, Refusal> {
+        let mut list = [0; figures::AUTH_UNIX];
+        list[figure::AUTH_UNIX_STAMP] = self.stamp.into();
+        list[figure::AUTH_UNIX_NAME_COUNT] = self.machinename.len() as u64;
+        list[figure::AUTH_UNIX_UID] = self.uid.into();
+        list[figure::AUTH_UNIX_GID] = self.gid.into();
+        list[figure::AUTH_UNIX_GIDS_COUNT] = self.gids.len() as u64;
+        let (name, gids) = (self.machinename, self.gids.as_bytes());
+        let mut info = [0; figures::WRITTEN];
+        written(sys::write_auth_unix(name, gids, &list[figure::FIELDS..], out, start, &mut info), info)
     }
 }

@@ -1,26 +1,26 @@
-use std::error::Error;
-use std::fmt;
+use core::fmt;
 
-use crate::{sys, Refusal, LIMIT};
+use crate::names::{answer, figure, figures};
+use crate::{sys, written, Refusal, LIMIT};
 
 /// Assembles records from a stream of fragments. It is a value of seven numbers; the record itself lies in a buffer that
-/// the caller lends.
+/// the caller lends. Where there is a `std::io::Read`, `Records` does the work.
 ///
 /// ```
 /// use yugerzat::{Assembler, Fed};
 ///
 /// let mut record = [0; 10];
-/// let mut assembler = Assembler::new(record.len())?;
+/// let mut assembler = Assembler::new(record.len()).unwrap();
 /// // A fragment of no bytes, and half of a last one of two bytes.
-/// assert_eq!(assembler.feed(&[0, 0, 0, 0, 0x80, 0, 0, 2, 0xAB], &mut record)?, Fed::More { used: 9 });
+/// assert_eq!(assembler.feed(&[0, 0, 0, 0, 0x80, 0, 0, 2, 0xAB], &mut record), Ok(Fed::More { used: 9 }));
+/// assert_eq!(assembler.wanting(), 1);
 /// // The rest; the byte after it belongs to the next record.
-/// assert_eq!(assembler.feed(&[0xCD, 0x80], &mut record)?, Fed::Complete { length: 2, used: 1 });
+/// assert_eq!(assembler.feed(&[0xCD, 0x80], &mut record), Ok(Fed::Complete { length: 2, used: 1 }));
 /// assert_eq!(record[..2], [0xAB, 0xCD]);
-/// # Ok::<(), Box<dyn std::error::Error>>(())
 /// ```
 #[derive(Clone, Copy, Debug, PartialEq, Eq, Hash)]
 pub struct Assembler {
-    state: [u64; 7],
+    state: [u64; figures::STATE],
 }
 
 /// What feeding did.
@@ -43,7 +43,8 @@ pub enum Fed {
 /// Why feeding was refused.
 #[derive(Clone, Copy, Debug, PartialEq, Eq, Hash)]
 pub struct FeedError {
-    /// 6: the buffer's length is not the capacity. 7: a fragment would pass the end of the buffer, or did before.
+    /// `StateDoesNotFit`: the buffer's length is not the capacity. `FragmentTooLong`: a fragment would pass the end of the
+    /// buffer, or did before.
     pub refusal: Refusal,
     /// How many bytes were used.
     pub used: usize,
@@ -55,9 +56,17 @@ impl fmt::Display for FeedError {
     }
 }
 
-impl Error for FeedError {
-    fn source(&self) -> Option<&(dyn Error + 'static)> {
+#[cfg(feature = "std")]
+impl std::error::Error for FeedError {
+    fn source(&self) -> Option<&(dyn std::error::Error + 'static)> {
         Some(&self.refusal)
+    }
+}
+
+#[cfg(feature = "std")]
+impl From<FeedError> for std::io::Error {
+    fn from(error: FeedError) -> std::io::Error {
+        error.refusal.into()
     }
 }
 
@@ -71,47 +80,72 @@ impl Assembler {
     /// An assembler of records of at most `capacity` bytes.
     ///
     /// # Errors
-    /// Refusal 3 where the capacity is over [`LIMIT`].
+    /// `TooLong` where the capacity is over [`LIMIT`].
     pub fn new(capacity: usize) -> Result<Assembler, Refusal> {
         if capacity > LIMIT {
-            return Err(Refusal::TOO_LONG);
+            return Err(Refusal::TooLong);
         }
-        Ok(Assembler { state: [capacity as u64, 0, 0, 0, 0, 0, 0] })
+        Ok(Assembler::fresh(capacity))
+    }
+
+    /// One whose capacity is known to be lawful.
+    pub(crate) const fn fresh(capacity: usize) -> Assembler {
+        let mut state = [0; figures::STATE];
+        state[figure::STATE_CAPACITY] = capacity as u64;
+        Assembler { state }
     }
 
     /// Feeds a run of bytes from the stream. The record is put at the start of `buf`, whose length must be the capacity,
     /// and whose bytes the caller leaves alone while a record is begun.
     ///
     /// # Errors
-    /// Refusal 6 where the buffer's length is not the capacity: nothing is touched. Refusal 7 where a fragment would pass
-    /// the end of the buffer: the buffer holds what was placed before, and the assembler is stopped for good.
+    /// `StateDoesNotFit` where the buffer's length is not the capacity: nothing is touched. `FragmentTooLong` where a
+    /// fragment would pass the end of the buffer: the buffer holds what was placed before, and the assembler is stopped for
+    /// good.
     pub fn feed(&mut self, run: &[u8], buf: &mut [u8]) -> Result<Fed, FeedError> {
-        let mut info = [0; 2];
+        let mut info = [0; figures::FEED];
         let answer = sys::feed(&mut self.state, run, buf, &mut info);
-        let used = info[0] as usize;
+        let used = info[figure::FEED_USED] as usize;
         match answer {
-            100 => Ok(Fed::More { used }),
-            101 => Ok(Fed::Complete { length: info[1] as usize, used }),
-            answer => Err(FeedError { refusal: Refusal::of(answer, 0, 0), used }),
+            answer::MORE => Ok(Fed::More { used }),
+            answer::COMPLETE => Ok(Fed::Complete { length: info[figure::FEED_LENGTH] as usize, used }),
+            answer => Err(FeedError { refusal: Refusal::of(answer, 0, 0, 0), used }),
         }
     }
 
     /// The largest record, and the length of the buffer.
     #[must_use]
-    pub fn capacity(&self) -> usize {
-        self.state[0] as usize
+    pub const fn capacity(&self) -> usize {
+        self.state[figure::STATE_CAPACITY] as usize
     }
 
     /// How many bytes of the record are in the buffer.
     #[must_use]
-    pub fn placed(&self) -> usize {
-        self.state[1] as usize
+    pub const fn placed(&self) -> usize {
+        self.state[figure::STATE_PLACED] as usize
+    }
+
+    /// How many bytes of a fragment's header came, while it is not whole: 0 to 3.
+    #[must_use]
+    pub const fn header(&self) -> usize {
+        self.state[figure::STATE_HEADER_COUNT] as usize
+    }
+
+    /// How many bytes are wanting to finish the fragment that is begun, or else the next header. A program that reads no
+    /// more than these takes no byte that belongs to the next record. 0 where the assembler is stopped.
+    #[must_use]
+    pub const fn wanting(&self) -> usize {
+        match self.state[figure::STATE_LEFT] {
+            _ if self.is_stopped() => 0,
+            0 => 4 - self.header(),
+            left => left as usize,
+        }
     }
 
     /// Whether a fragment was too long. A stopped assembler takes nothing any more.
     #[must_use]
-    pub fn is_stopped(&self) -> bool {
-        self.state[6] != 0
+    pub const fn is_stopped(&self) -> bool {
+        self.state[figure::STATE_STOPPED] != 0
     }
 }
 
@@ -126,11 +160,8 @@ impl Assembler {
 /// ```
 ///
 /// # Errors
-/// Refusals 9, 3 and 5, in this order.
+/// `PastEnd`, `TooLong` and `NoRoom`, in this order.
 pub fn write_fragment(message: &[u8], out: &mut [u8], start: usize) -> Result<usize, Refusal> {
-    let mut info = [0; 1];
-    match sys::fragment(message, out, start, &mut info) {
-        0 => Ok(info[0] as usize),
-        answer => Err(Refusal::of(answer, 0, 0)),
-    }
+    let mut info = [0; figures::WRITTEN];
+    written(sys::fragment(message, out, start, &mut info), info)
 }

@@ -1,9 +1,10 @@
-//! The library's own functions, as include/yugerzat.h declares them, behind safe ones that hand over each slice as its
-//! address and its length. This is the only unsafe code of the crate.
+//! The library's own functions, as `include/yugerzat_list.h` declares them, behind safe ones that hand over each slice as
+//! its address and its length. This is the only unsafe code of the crate. A test in names.rs holds the declarations to the
+//! header.
 
 mod raw {
     extern "C" {
-        pub fn yugerzat_read(
+        pub fn yugerzat_rewrite(
             kind: u32,
             src: *const u8,
             src_len: usize,
@@ -13,7 +14,38 @@ mod raw {
             info: *mut u64,
             info_len: usize,
         ) -> u32;
-        pub fn yugerzat_judge(message: *const u8, message_len: usize, at: usize, info: *mut u64, info_len: usize) -> u32;
+        pub fn yugerzat_judge(kind: u32, src: *const u8, src_len: usize, at: usize, info: *mut u64, info_len: usize) -> u32;
+        pub fn yugerzat_read_rpc_msg(
+            message: *const u8,
+            message_len: usize,
+            at: usize,
+            info: *mut u64,
+            info_len: usize,
+        ) -> u32;
+        pub fn yugerzat_write_call(
+            cred_source: *const u8,
+            cred_source_len: usize,
+            verf_source: *const u8,
+            verf_source_len: usize,
+            fields: *const u64,
+            fields_len: usize,
+            out: *mut u8,
+            out_len: usize,
+            start: usize,
+            info: *mut u64,
+            info_len: usize,
+        ) -> u32;
+        pub fn yugerzat_write_reply(
+            source: *const u8,
+            source_len: usize,
+            fields: *const u64,
+            fields_len: usize,
+            out: *mut u8,
+            out_len: usize,
+            start: usize,
+            info: *mut u64,
+            info_len: usize,
+        ) -> u32;
         pub fn yugerzat_read_auth_unix(
             message: *const u8,
             message_len: usize,
@@ -22,17 +54,20 @@ mod raw {
             info: *mut u64,
             info_len: usize,
         ) -> u32;
-        pub fn yugerzat_read_fattr3(src: *const u8, src_len: usize, at: usize, info: *mut u64, info_len: usize) -> u32;
-        pub fn yugerzat_read_sattr3(src: *const u8, src_len: usize, at: usize, info: *mut u64, info_len: usize) -> u32;
-        pub fn yugerzat_read_diropargs3(src: *const u8, src_len: usize, at: usize, info: *mut u64, info_len: usize) -> u32;
-        pub fn yugerzat_part(
-            message: *const u8,
-            message_len: usize,
-            at: usize,
-            count: usize,
+        pub fn yugerzat_write_auth_unix(
+            name_source: *const u8,
+            name_source_len: usize,
+            gids_source: *const u8,
+            gids_source_len: usize,
+            fields: *const u64,
+            fields_len: usize,
+            out: *mut u8,
+            out_len: usize,
+            start: usize,
             info: *mut u64,
             info_len: usize,
         ) -> u32;
+        pub fn yugerzat_read_fattr3(src: *const u8, src_len: usize, at: usize, info: *mut u64, info_len: usize) -> u32;
         pub fn yugerzat_write_fattr3(
             fields: *const u64,
             fields_len: usize,
@@ -42,6 +77,7 @@ mod raw {
             info: *mut u64,
             info_len: usize,
         ) -> u32;
+        pub fn yugerzat_read_sattr3(src: *const u8, src_len: usize, at: usize, info: *mut u64, info_len: usize) -> u32;
         pub fn yugerzat_write_sattr3(
             fields: *const u64,
             fields_len: usize,
@@ -51,34 +87,17 @@ mod raw {
             info: *mut u64,
             info_len: usize,
         ) -> u32;
+        pub fn yugerzat_read_diropargs3(src: *const u8, src_len: usize, at: usize, info: *mut u64, info_len: usize) -> u32;
         pub fn yugerzat_write_diropargs3(
-            source: *const u8,
-            source_len: usize,
+            dir_source: *const u8,
+            dir_source_len: usize,
+            name_source: *const u8,
+            name_source_len: usize,
             fields: *const u64,
             fields_len: usize,
             out: *mut u8,
             out_len: usize,
             start: usize,
-            info: *mut u64,
-            info_len: usize,
-        ) -> u32;
-        pub fn yugerzat_write_call(
-            source: *const u8,
-            source_len: usize,
-            fields: *const u64,
-            fields_len: usize,
-            out: *mut u8,
-            out_len: usize,
-            start: usize,
-            info: *mut u64,
-            info_len: usize,
-        ) -> u32;
-        pub fn yugerzat_choose(
-            message: *const u8,
-            message_len: usize,
-            seen: u32,
-            out: *mut u8,
-            out_len: usize,
             info: *mut u64,
             info_len: usize,
         ) -> u32;
@@ -101,6 +120,15 @@ mod raw {
             info: *mut u64,
             info_len: usize,
         ) -> u32;
+        pub fn yugerzat_choose(
+            message: *const u8,
+            message_len: usize,
+            seen: u32,
+            out: *mut u8,
+            out_len: usize,
+            info: *mut u64,
+            info_len: usize,
+        ) -> u32;
     }
 }
 
@@ -117,31 +145,19 @@ macro_rules! readers {
     )* };
 }
 readers! {
-    judge over yugerzat_judge;
+    read_rpc_msg over yugerzat_read_rpc_msg;
     read_fattr3 over yugerzat_read_fattr3;
     read_sattr3 over yugerzat_read_sattr3;
     read_diropargs3 over yugerzat_read_diropargs3;
 }
 
-/// Readers of a piece.
-macro_rules! piece_readers {
-    ($($name:ident over $raw:ident;)*) => { $(
-        pub fn $name(message: &[u8], at: usize, count: usize, info: &mut [u64]) -> u32 {
-            unsafe { raw::$raw(message.as_ptr(), message.len(), at, count, info.as_mut_ptr(), info.len()) }
-        }
-    )* };
-}
-piece_readers! {
-    read_auth_unix over yugerzat_read_auth_unix;
-    part over yugerzat_part;
-}
-
-/// Writers of values without pieces.
+/// Writers: of values without pieces, with pieces of one source, and with pieces of two.
 macro_rules! writers {
-    ($($name:ident over $raw:ident;)*) => { $(
-        pub fn $name(fields: &[u64], out: &mut [u8], start: usize, info: &mut [u64]) -> u32 {
+    ($($name:ident($($source:ident),*) over $raw:ident;)*) => { $(
+        pub fn $name($($source: &[u8],)* fields: &[u64], out: &mut [u8], start: usize, info: &mut [u64]) -> u32 {
             unsafe {
                 raw::$raw(
+                    $($source.as_ptr(), $source.len(),)*
                     fields.as_ptr(), fields.len(), out.as_mut_ptr(), out.len(), start, info.as_mut_ptr(), info.len(),
                 )
             }
@@ -149,32 +165,27 @@ macro_rules! writers {
     )* };
 }
 writers! {
-    write_fattr3 over yugerzat_write_fattr3;
-    write_sattr3 over yugerzat_write_sattr3;
+    write_fattr3() over yugerzat_write_fattr3;
+    write_sattr3() over yugerzat_write_sattr3;
+    write_diropargs3(dir, name) over yugerzat_write_diropargs3;
+    write_call(cred, verf) over yugerzat_write_call;
+    write_reply(verf) over yugerzat_write_reply;
+    write_auth_unix(name, gids) over yugerzat_write_auth_unix;
 }
 
-/// Writers of values with pieces of a source.
-macro_rules! source_writers {
-    ($($name:ident over $raw:ident;)*) => { $(
-        pub fn $name(source: &[u8], fields: &[u64], out: &mut [u8], start: usize, info: &mut [u64]) -> u32 {
-            unsafe {
-                raw::$raw(
-                    source.as_ptr(), source.len(), fields.as_ptr(), fields.len(), out.as_mut_ptr(), out.len(), start,
-                    info.as_mut_ptr(), info.len(),
-                )
-            }
-        }
-    )* };
-}
-source_writers! {
-    write_diropargs3 over yugerzat_write_diropargs3;
-    write_call over yugerzat_write_call;
-}
-
-pub fn read(kind: u32, src: &[u8], at: usize, out: &mut [u8], info: &mut [u64]) -> u32 {
+pub fn rewrite(kind: u32, src: &[u8], at: usize, out: &mut [u8], info: &mut [u64]) -> u32 {
     unsafe {
-        raw::yugerzat_read(kind, src.as_ptr(), src.len(), at, out.as_mut_ptr(), out.len(), info.as_mut_ptr(), info.len())
+        raw::yugerzat_rewrite(kind, src.as_ptr(), src.len(), at, out.as_mut_ptr(), out.len(), info.as_mut_ptr(), info.len())
     }
+}
+
+pub fn judge(kind: u32, src: &[u8], at: usize, info: &mut [u64]) -> u32 {
+    unsafe { raw::yugerzat_judge(kind, src.as_ptr(), src.len(), at, info.as_mut_ptr(), info.len()) }
+}
+
+/// Reads a credential's body, which is all of `body`.
+pub fn read_auth_unix(body: &[u8], info: &mut [u64]) -> u32 {
+    unsafe { raw::yugerzat_read_auth_unix(body.as_ptr(), body.len(), 0, body.len(), info.as_mut_ptr(), info.len()) }
 }
 
 pub fn choose(message: &[u8], seen: bool, out: &mut [u8], info: &mut [u64]) -> u32 {

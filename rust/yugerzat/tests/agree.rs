@@ -1,5 +1,5 @@
-//! The functions for single values agree with [`rewrite`], which reads and writes the same kinds by their numbers: on
-//! random words, most of them small, so that flags, tags and lengths often fit.
+//! The functions for single values agree with [`judge`] and [`rewrite`], which read and write the same kinds by their
+//! numbers: on random words, most of them small, so that flags, tags and lengths often fit.
 use yugerzat::*;
 
 /// Numbers that are the same in every run.
@@ -32,84 +32,96 @@ impl Random {
 
 const ROUNDS: u32 = 200_000;
 
-/// Compares a value's reading and writing with [`rewrite`], and says how often there was a value.
-fn agree<T>(
-    kind: Kind,
-    read: impl Fn(&[u8], usize) -> Result<Read<T>, Refusal>,
-    write: impl Fn(&T, &[u8], &mut [u8]) -> Result<usize, Refusal>,
-) -> u32 {
+/// Something with a writer.
+trait Value {
+    fn write(&self, out: &mut [u8], start: usize) -> Result<usize, Refusal>;
+}
+
+macro_rules! values {
+    ($($type:ty),*) => { $(
+        impl Value for $type {
+            fn write(&self, out: &mut [u8], start: usize) -> Result<usize, Refusal> {
+                self.write(out, start)
+            }
+        }
+    )* };
+}
+values!(Fattr3, Sattr3, Diropargs3<'_>, AuthUnix<'_>, Message<'_>);
+
+/// Compares a value's reading and writing with judging and rewriting, in one round.
+fn agree<T: Value>(kind: Kind, message: &[u8], at: usize, read: Result<Reading<T>, Refusal>) -> bool {
+    let (mut whole, mut parts) = ([0xEE; 160], [0xEE; 160]);
+    let what = || format!("{kind} {message:02x?} {at}");
+    let judged = judge(kind, message, at);
+    match (rewrite(kind, message, at, &mut whole), read) {
+        (Ok(rewritten), Ok(read)) => {
+            let Rewritten { next, plain, size } = rewritten;
+            assert_eq!(judged, Ok(Judged { next, plain, size }), "{}", what());
+            assert_eq!((next, plain), (read.next, read.plain), "{}", what());
+            assert_eq!(read.value.write(&mut parts, 0), Ok(size), "{}", what());
+            assert_eq!(whole, parts, "{}", what());
+            // Plain is: the bytes used are the rewriting.
+            assert_eq!(plain, message[at..next] == whole[..size], "{}", what());
+
+            // A byte too little is refused, and both say what is needed.
+            let none = Refusal::NoRoom { needed: size };
+            let mut short = vec![0xEE; size - 1];
+            assert_eq!(rewrite(kind, message, at, &mut short), Err(none), "{}", what());
+            assert_eq!(read.value.write(&mut short, 0), Err(none), "{}", what());
+            assert!(short.iter().all(|byte| *byte == 0xEE), "{}", what());
+            true
+        },
+        (Err(one), Err(other)) => {
+            assert_eq!(one, other, "{}", what());
+            assert_eq!(judged, Err(one), "{}", what());
+            false
+        },
+        (one, other) => panic!("{}: {one:?}, but {:?}", what(), other.err()),
+    }
+}
+
+/// How many of the random messages were taken.
+fn rounds(mut round: impl FnMut(&[u8], usize) -> bool) -> u32 {
     let mut random = Random(0x9E37_79B9_7F4A_7C15);
     let mut taken = 0;
     for _ in 0..ROUNDS {
         let message = random.message();
         let at = random.next() as usize % 9;
-        let (mut whole, mut parts) = ([0xEE; 160], [0xEE; 160]);
-        match (rewrite(kind, &message, at, &mut whole), read(&message, at)) {
-            (Ok(rewritten), Ok(read)) => {
-                assert_eq!((rewritten.next, rewritten.plain), (read.next, read.plain), "{kind} {message:02x?} {at}");
-                assert_eq!(write(&read.value, &message, &mut parts), Ok(rewritten.len), "{kind} {message:02x?} {at}");
-                assert_eq!(whole, parts, "{kind} {message:02x?} {at}");
-                taken += 1;
-            },
-            (Err(one), Err(other)) => assert_eq!(one, other, "{kind} {message:02x?} {at}"),
-            (one, other) => panic!("{kind} {message:02x?} {at}: {one:?}, but {:?}", other.err()),
-        }
+        taken += u32::from(round(&message, at));
     }
+    println!("{taken} of {ROUNDS} were taken");
     taken
 }
 
 #[test]
 fn fattr3_agrees() {
-    assert!(agree(Kind::Fattr3, Fattr3::read, |v, _, out| v.write(out, 0)) > 1000);
+    assert!(rounds(|message, at| agree(Kind::Fattr3, message, at, Fattr3::read(message, at))) > 1000);
 }
 
 #[test]
 fn sattr3_agrees() {
-    assert!(agree(Kind::Sattr3, Sattr3::read, |v, _, out| v.write(out, 0)) > 1000);
+    assert!(rounds(|message, at| agree(Kind::Sattr3, message, at, Sattr3::read(message, at))) > 1000);
 }
 
 #[test]
 fn diropargs3_agrees() {
-    assert!(agree(Kind::Diropargs3, DirOpArgs3::read, |v, source, out| v.write(source, out, 0)) > 1000);
+    assert!(rounds(|message, at| agree(Kind::Diropargs3, message, at, Diropargs3::read(message, at))) > 1000);
 }
 
 #[test]
 fn messages_agree() {
-    let calls = agree(Kind::RpcMsg, judge, |message, source, out| match message.body {
-        Body::Call(call) => call.write(message.xid, source, out, 0),
-        // Replies have no writer of their own.
-        _ => rewrite_reply(message, source, out),
+    let mut replies = 0;
+    let taken = rounds(|message, at| {
+        let read = Message::read(message, at);
+        replies += u32::from(matches!(read, Ok(Reading { value: Message { body: Body::Reply(_), .. }, .. })));
+        agree(Kind::RpcMsg, message, at, read)
     });
-    assert!(calls > 1000);
+    println!("{replies} of these were replies");
+    assert!(replies > 1000 && taken - replies > 1000);
 }
 
-/// A reply written by hand, from what was read of it.
-fn rewrite_reply(message: &Message, source: &[u8], out: &mut [u8]) -> Result<usize, Refusal> {
-    let mut bytes = Vec::new();
-    let mut put = |word: u32| bytes.extend(word.to_be_bytes());
-    put(message.xid);
-    put(1);
-    match message.body {
-        Body::Call(_) => unreachable!("a call has a writer"),
-        Body::Accepted { verf, stat } => {
-            put(0);
-            put(verf.flavor as u32);
-            put(verf.body.count as u32);
-            let body = verf.body.of(source).expect("what is read lies inside");
-            let pad = (4 - body.len() % 4) % 4;
-            bytes.extend(body.iter().copied().chain(std::iter::repeat(0).take(pad)));
-            let words = match stat {
-                AcceptStat::Success => vec![0],
-                AcceptStat::ProgUnavail => vec![1],
-                AcceptStat::ProgMismatch { low, high } => vec![2, low, high],
-                AcceptStat::ProcUnavail => vec![3],
-                AcceptStat::GarbageArgs => vec![4],
-            };
-            bytes.extend(words.into_iter().flat_map(u32::to_be_bytes));
-        },
-        Body::DeniedVersion { low, high } => [1, 0, low, high].into_iter().for_each(put),
-        Body::DeniedAuth(stat) => [1, 1, stat as u32].into_iter().for_each(put),
-    }
-    out[..bytes.len()].copy_from_slice(&bytes);
-    Ok(bytes.len())
+#[test]
+fn auth_unix_agrees() {
+    // A body begins at its own start.
+    assert!(rounds(|body, _| agree(Kind::AuthUnix, body, 0, AuthUnix::read(body))) > 1000);
 }

@@ -3,7 +3,7 @@
 -- Assumes nothing.
 use mathlib.Core.Path.{_≡_, refl, sym, ap, subst, _∙_}
 use mathlib.Core.Logic.{_↔_}
-use mathlib.Core.Bool.{Bool, true, cond}
+use mathlib.Core.Bool.{Bool, true, cond, _&&_}
 use mathlib.Core.List.{List, [], _∷_}
 use mathlib.Core.Option.{Option, none, some}
 use Prim.Native.Nat.{ℕ, zero, suc, _≤_}
@@ -15,14 +15,25 @@ use Rattle.xdr.specs.Meaning.Refusal.{numberOf}
 use Rattle.xdr.specs.Meaning.Answer.{Answer, took, refused, opened, most, Written, done, unwritten}
 use Rattle.xdr.specs.Meaning.Format.{Format, Branch}
 use Rattle.xdr.specs.Meaning.Public.{Answers, Took, writing, leaving, Writes, Back}
+use Rattle.xdr.specs.Meaning.Pieces.{isInside, areInside}
+use Rattle.xdr.specs.Meaning.Sources.{longer, WritesFrom, Stands}
 use Rattle.xdr.specs.Laws.Public.{kept}
+use Rattle.xdr.specs.Laws.Sources.{from-back}
 use Rattle.xdr.specs.Laws.Write.{wrote-back}
 use Rattle.xdr.specs.declared.refusal.Refusal.{Refusal}
 use Rattle.xdr.specs.declared.refusal.Refusal.the-variants.{Ended, Undeclared, TooLong, Outside, NoRoom, Unfit, Overrun, NotCall, PastEnd}
+use Rattle.rpc.specs.Meaning.Auth.{opaque-auth, auth-unix}
+use Rattle.rpc.specs.Meaning.Message.{rpc-msg}
+use Rattle.rpc.specs.Meaning.Sources.{unixFrom, messageFrom}
+use Rattle.rpc.specs.declared.auth.auth_unix.{«auth_unix»}
+use Rattle.rpc.specs.declared.message.call_body.{«call_body»}
+use Rattle.nfs.specs.Meaning.Dir.{nfs-fh, diropargs}
+use Rattle.nfs.specs.Meaning.Sources.{diropargsFrom}
+use Rattle.nfs.specs.declared.dir.diropargs3.{diropargs3}
 use Rattle.door.specs.Meaning.Copy.{Copy, unknown, unread, unmade, made, saidOf, copySaid, copyLeft, Copies}
 use Rattle.door.specs.Meaning.Kinds.{kinds, CopiesOf}
 use Rattle.door.specs.Meaning.Exports.{codeOf, figures, Told, wroteCode}
-use Rattle.door.specs.Meaning.Given.{GivenTold, WriteCalled}
+use Rattle.door.specs.Meaning.Given.{GivenTold, WriteCalled, diropargs3Given, WriteDiropargs3Called, callGiven, WriteCallCalled, unixGiven, WriteUnixCalled}
 
 -- a copy that was made is a reading and a writing
 pub record Made {M S : Type 0} (F : Format M S) (s : List ℕ) (at start : ℕ) (o o′ : List ℕ) (n : ℕ) (b : Bool) (e : ℕ) : Type 0 where
@@ -88,13 +99,13 @@ equal-iff F m m′ =
       (λ g. f .1 (sym (wrote-bytes F m) ∙ g ∙ wrote-bytes F m′)),
     )
 
--- `yugerzat_read` answered 0: its kind has a format, and the copy was made with the figures that it gave
+-- `yugerzat_rewrite` answered 0: its kind has a format, and the copy was made with the figures that it gave
 numbers-none : (r : Refusal) → 0 ≡ numberOf r → ⊥
 numbers-none (Ended p w) e = omega arith
 numbers-none (Undeclared p) e = omega arith
 numbers-none TooLong e = omega arith
 numbers-none Outside e = omega arith
-numbers-none NoRoom e = omega arith
+numbers-none (NoRoom n) e = omega arith
 numbers-none Unfit e = omega arith
 numbers-none Overrun e = omega arith
 numbers-none NotCall e = omega arith
@@ -121,22 +132,54 @@ by-copy : (c : Copy) (kind : ℕ) (s : List ℕ) (at : ℕ) (o i o′ i′ : Lis
     → ReadMade kind s at o i o′ i′
 by-copy unknown kind s at o i o′ i′ h c e f = absurd (omega arith)
 by-copy (unread r) kind s at o i o′ i′ h c e f = absurd (numbers-none r e)
-by-copy (unmade r) kind s at o i o′ i′ h c e f = absurd (numbers-none r e)
+by-copy (unmade r m d) kind s at o i o′ i′ h c e f = absurd (numbers-none r e)
 by-copy (made n b k) kind s at o i o′ i′ h c e f = of-kind kinds kind s at o i o′ i′ h n b k c f
 
 pub read-made : (kind : ℕ) (s : List ℕ) (at : ℕ) (o i o′ i′ : List ℕ) → Bytes s → Told kind s at o i 0 o′ i′ → ReadMade kind s at o i o′ i′
 read-made kind s at o i o′ i′ h t = by-copy (t .copy) kind s at o i o′ i′ h (t .copies) (t .number) (t .list)
 
 -- a `yugerzat_write_X` answered 0: what it wrote reads back as the value that the figures are
-module _ {M S : Type 0} (F : Format M S) (s : List ℕ) (start : ℕ) (o : List ℕ) where
-  by-written : (x : S) (w : Written) {o′ : List ℕ} → Writes F s x start o w o′ → 0 ≡ wroteCode w → (n : ℕ) × Back F s x start n o′
-  by-written x (done n) d e = (n, wrote-back F s x start o d)
-  by-written x (unwritten r) d e = absurd (numbers-none r e)
+module _ {S : Type 0} (W : S → Written → List ℕ → Type 0) (B : S → ℕ → List ℕ → Type 0) (back : (x : S) (n : ℕ) (p : List ℕ) → W x (done n) p → B x n p) where
+  by-written : (x : S) (w : Written) (p : List ℕ) → W x w p → 0 ≡ wroteCode w → (n : ℕ) × B x n p
+  by-written x (done n) p d e = (n, back x n p d)
+  by-written x (unwritten r) p d e = absurd (numbers-none r e)
 
-  pub written-back : {k : ℕ} {given : List ℕ → Option S} {l i o′ i′ : List ℕ} → WriteCalled (λ x w p. Writes F s x start o w p) k given l o i 0 o′ i′
-      → k ≤ length l → 1 ≤ length i → (x : S) × (given l ≡ some x) × ((n : ℕ) × Back F s x start n o′)
-  written-back {given = given} {l} {i} {o′} {i′} c h j = by (given l) refl (c .room h j)
-    where
-      by : (g : Option S) → given l ≡ g → GivenTold (λ x w p. Writes F s x start o w p) g o i 0 o′ i′ → (x : S) × (given l ≡ some x) × ((n : ℕ) × Back F s x start n o′)
-      by none e t = let z = t .0 in absurd (omega arith)
-      by (some x) e t = (x, e, by-written x (t .answer) (t .writes) (t .number))
+  by-given : (g : Option S) (o i o′ i′ : List ℕ) → GivenTold W g o i 0 o′ i′ → (x : S) × (g ≡ some x) × ((n : ℕ) × B x n o′)
+  by-given none o i o′ i′ t = let z = t .0 in absurd (omega arith)
+  by-given (some x) o i o′ i′ t = (x, refl, by-written x (t .answer) o′ (t .writes) (t .number))
+
+  given-back : {k : ℕ} {given : List ℕ → Option S} {l o i o′ i′ : List ℕ} → WriteCalled W k given l o i 0 o′ i′ → k ≤ length l → 1 ≤ length i
+      → (x : S) × (given l ≡ some x) × ((n : ℕ) × B x n o′)
+  given-back {given = given} {l} {o} {i} {o′} {i′} c h j = by-given (given l) o i o′ i′ (c .room h j)
+
+-- from one source
+pub written-back : {M S : Type 0} (F : Format M S) (s : List ℕ) (start : ℕ) (o : List ℕ) {k : ℕ} {given : List ℕ → Option S} {l i o′ i′ : List ℕ}
+    → WriteCalled (λ x w p. Writes F s x start o w p) k given l o i 0 o′ i′ → k ≤ length l → 1 ≤ length i
+    → (x : S) × (given l ≡ some x) × ((n : ℕ) × Back F s x start n o′)
+written-back F s start o c h j =
+    given-back (λ x w p. Writes F s x start o w p) (λ x n p. Back F s x start n p) (λ x n p d. wrote-back F s x start o d) c h j
+
+-- from two
+pub written-from : {M S T : Type 0} (F : Format M S) (m : T → M) (longest : ℕ) (inside : T → Bool) (start : ℕ) (o : List ℕ) {k : ℕ} {given : List ℕ → Option T}
+    {l i o′ i′ : List ℕ} → WriteCalled (λ x w p. WritesFrom (F .codec) (m x) longest (inside x) start o w p) k given l o i 0 o′ i′ → k ≤ length l → 1 ≤ length i
+    → (x : T) × (given l ≡ some x) × ((n : ℕ) × Stands F (m x) start n o′)
+written-from F m longest inside start o c h j =
+    given-back (λ x w p. WritesFrom (F .codec) (m x) longest (inside x) start o w p) (λ x n p. Stands F (m x) start n p)
+    (λ x n p d. from-back F (m x) longest (inside x) start o n p d) c h j
+
+module _ (s t l o : List ℕ) (start : ℕ) (i o′ i′ : List ℕ) where
+  pub call-back : WriteCallCalled s t l o start i 0 o′ i′ → 11 ≤ length l → 1 ≤ length i
+      → (x : ℕ × «call_body») × (callGiven l ≡ some x) × ((n : ℕ) × Stands rpc-msg (messageFrom s t (x .0) (x .1)) start n o′)
+  call-back c h j =
+      written-from rpc-msg (λ x. messageFrom s t (x .0) (x .1)) (longer (length s) (length t))
+      (λ x. opaque-auth .held .inside s (x .1 .cred) && opaque-auth .held .inside t (x .1 .verf)) start o c h j
+
+  pub unix-back : WriteUnixCalled s t l o start i 0 o′ i′ → 7 ≤ length l → 1 ≤ length i
+      → (x : «auth_unix») × (unixGiven l ≡ some x) × ((n : ℕ) × Stands auth-unix (unixFrom s t x) start n o′)
+  unix-back c h j =
+      written-from auth-unix (unixFrom s t) (longer (length s) (length t)) (λ x. isInside s (x .machinename) && areInside t (x .gids)) start o c h j
+
+  pub diropargs-back : WriteDiropargs3Called s t l o start i 0 o′ i′ → 4 ≤ length l → 1 ≤ length i
+      → (x : diropargs3) × (diropargs3Given l ≡ some x) × ((n : ℕ) × Stands diropargs (diropargsFrom s t x) start n o′)
+  diropargs-back c h j =
+      written-from diropargs (diropargsFrom s t) (longer (length s) (length t)) (λ x. nfs-fh .held .inside s (x .dir) && isInside t (x .name)) start o c h j

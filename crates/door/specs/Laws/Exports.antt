@@ -1,31 +1,67 @@
 -- What the exported functions' proofs cite: by the room for the figures, and by what is told.
 -- Assumes nothing.
-use mathlib.Core.Path.{refl}
-use mathlib.Core.List.{List}
+use mathlib.Core.Path.{_≡_, refl, sym, ap, _∙_}
+use mathlib.Core.List.{List, [], _∷_}
 use mathlib.Core.Logic.{⊎-elim}
 use Prim.Native.Nat.{ℕ, _≤_, _<_}
 use native.Mathlib.Omega.{arith}
 use lib.Dec.{eqb}
 use lib.ListN.{length}
-use mathlib.Core.Bool.{not}
+use lib.Seq.{sets}
+use borrow.Author.Tests.{eq-eqb, ne-eqb}
+use mathlib.Core.Bool.{Bool, true, false, not, cond}
 use Rattle.xdr.specs.Meaning.Answer.{Written}
 use Rattle.rpcwire.specs.Meaning.Fragment.{WritesFragment}
 use Rattle.rpcwire.specs.Meaning.Choice.{Chosen, Chooses}
 use Rattle.rpcwire.specs.Meaning.Stream.{Said, Feeds}
-use Rattle.door.specs.Meaning.Copy.{Copy}
+use Rattle.xdr.specs.Meaning.Refusal.{numberOf, neededOf}
+use Rattle.xdr.specs.declared.refusal.Refusal.{Refusal}
+use Rattle.door.specs.declared.copy.Copied.{Copied}
+use Rattle.door.specs.Meaning.Copy.{Copy, unmade, viewCopied}
 use Rattle.door.specs.Meaning.Kinds.{kinds, CopiesOf}
 use Rattle.door.specs.Meaning.Figures.{Shown, Says}
-use Rattle.door.specs.Meaning.Exports.{codeOf, figures, ReadCalled, wroteCode, wroteFigures, FragmentCalled, chosenCode, chosenFigures, ChooseCalled, stateOf, stateList, fedCode, fedState, fedFigures, FeedCalled}
+use Rattle.door.specs.Meaning.Exports.{codeOf, figures, RewriteCalled, sizeCode, sizeFigures, judgedCode, judgedFigures, JudgeCalled, wroteCode, wroteFigures, FragmentCalled, chosenCode, chosenFigures, ChooseCalled, stateOf, stateList, fedCode, fedState, fedFigures, FeedCalled}
 
 module _ (kind at : ℕ) (s o i : List ℕ) where
-  pub read-short : length i < 3 → ReadCalled kind s at o i 254 o i
-  read-short h = record { room = λ g. absurd (omega arith); short = λ g. (refl, refl, refl) }
+  pub rewrite-short : length i < 3 → RewriteCalled kind s at o i 254 o i
+  rewrite-short h = record { room = λ g. absurd (omega arith); short = λ g. (refl, refl, refl) }
 
-  pub read-told : 3 ≤ length i → {c : Copy} {r : ℕ} {o′ i′ : List ℕ} → Says codeOf figures c i r i′ → CopiesOf kinds kind s at 0 o c o′
-      → ReadCalled kind s at o i r o′ i′
-  read-told h t c =
+  pub rewrite-told : 3 ≤ length i → {c : Copy} {r : ℕ} {o′ i′ : List ℕ} → Says codeOf figures c i r i′ → CopiesOf kinds kind s at 0 o c o′
+      → RewriteCalled kind s at o i r o′ i′
+  rewrite-told h t c =
       record {
         room = λ g. record { copy = _; copies = c; number = t .number; list = t .shown .list };
+        short = λ g. absurd (omega arith);
+      }
+
+-- a refusal by its number: only 5 says how long the rewriting is
+module _ (n k : ℕ) (b : Bool) (r : Refusal) (i i′ : List ℕ) where
+  pub size-other : k ≡ numberOf r → (k ≡ 5 → ⊥) → Shown (0 ∷ 0 ∷ 0 ∷ []) i i′ → Says sizeCode (sizeFigures n b) r i k i′
+  size-other e f s =
+      let g : eqb (numberOf r) 5 ≡ false = ne-eqb (numberOf r) 5 (λ h. f (e ∙ h)) in
+      record { number = e ∙ sym (rw g); shown = record { list = s .list ∙ sym (rw g) } }
+
+  pub size-told : k ≡ numberOf r → k ≡ 5 → Shown (n ∷ cond b 1 0 ∷ neededOf r ∷ []) i i′ → Says sizeCode (sizeFigures n b) r i 0 i′
+  size-told e f s =
+      let g : eqb (numberOf r) 5 ≡ true = eq-eqb (numberOf r) 5 (sym e ∙ f) in
+      record { number = sym (rw g); shown = record { list = s .list ∙ sym (rw g) } }
+
+-- what was said of a size, of the copy
+pub says-size : (x t : Copied) (r : Refusal) (n k : ℕ) (b : Bool) (i i′ : List ℕ) → x ≡ t → Says sizeCode (sizeFigures n b) r i k i′ → viewCopied t ≡ unmade r n b
+    → Says judgedCode judgedFigures (viewCopied x) i k i′
+says-size x t r n k b i i′ e s h =
+    let g = ap viewCopied e ∙ h in
+    record { number = s .number ∙ sym (ap judgedCode g); shown = record { list = s .shown .list ∙ sym (ap (λ z. sets i 0 (judgedFigures z)) g) } }
+
+module _ (kind at : ℕ) (s i : List ℕ) where
+  pub judge-short : length i < 3 → JudgeCalled kind s at i 254 i
+  judge-short h = record { room = λ g. absurd (omega arith); short = λ g. (refl, refl) }
+
+  pub judge-told : (c : Copy) (r : ℕ) (o′ i′ : List ℕ) → 3 ≤ length i → Says judgedCode judgedFigures c i r i′ → CopiesOf kinds kind s at 0 [] c o′
+      → JudgeCalled kind s at i r i′
+  judge-told c r o′ i′ h t d =
+      record {
+        room = λ g. record { copy = c; left = o′; copies = d; number = t .number; list = t .shown .list };
         short = λ g. absurd (omega arith);
       }
 

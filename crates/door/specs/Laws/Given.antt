@@ -28,12 +28,14 @@ use Rattle.nfs.specs.declared.change.set_size3.{«set_size3»}
 use Rattle.nfs.specs.declared.set.set_atime.{«set_atime»}
 use Rattle.nfs.specs.declared.set.set_mtime.{«set_mtime»}
 use Rattle.rpc.specs.Meaning.Closed.{flavorNumber, flavors}
+use Rattle.rpc.specs.Meaning.Sources.{WritesCallFrom}
 use Rattle.rpc.specs.declared.auth.auth_flavor.{«auth_flavor»}
-use Rattle.rpc.specs.declared.message.rpc_msg.{«rpc_msg»}
+use Rattle.rpc.specs.declared.auth.auth_unix.{«auth_unix»}
+use Rattle.rpc.specs.declared.message.call_body.{«call_body»}
 use Rattle.door.specs.Meaning.Copy.{Is}
 use Rattle.door.specs.Meaning.Figures.{Says}
 use Rattle.door.specs.Meaning.Exports.{wroteCode, wroteFigures}
-use Rattle.door.specs.Meaning.Given.{GivenTold, WriteCalled, low, isWord, areWords, seenOr, fattr3Words, fattr3By, fattr3Of, fattr3Given, optionFits, timeFits, sattr3Fits, optionOf, timeOf, sattr3By, sattr3Of, sattr3Given, foundFlavor, callWords, callBy, callOf, callGiven}
+use Rattle.door.specs.Meaning.Given.{GivenTold, WriteCalled, low, isWord, areWords, seenOr, fattr3Words, fattr3By, fattr3Of, fattr3Given, optionFits, timeFits, sattr3Fits, optionOf, timeOf, sattr3By, sattr3Of, sattr3Given, foundFlavor, callWords, callBy, callOf, callGiven, WriteCallCalled, unixWords, unixBy, unixOf, unixGiven}
 use Rattle.door.specs.declared.values_write.FlavorFound.{FlavorFound}
 
 -- by the room, and by what the numbers are
@@ -55,12 +57,18 @@ module _ {S : Type 0} (W : S → Written → List ℕ → Type 0) (k : ℕ) (giv
   pub write-wide : k ≤ length l → 1 ≤ length i → Is given l none → WriteCalled W k given l o i 253 o i
   write-wide h g e = called h g (subst (λ z. GivenTold W z o i 253 o i) (e .is) (refl, refl, refl))
 
+-- a call is its xid and its body
+pub write-call-as : (s t l o : List ℕ) (start : ℕ) (i : List ℕ) → 11 ≤ length l → 1 ≤ length i → (r : ℕ) (o′ i′ : List ℕ) (xid : ℕ) (c : «call_body») (w : Written)
+    → WritesCallFrom s t xid c start o w o′ → Says wroteCode wroteFigures w i r i′ → Is callGiven l (some (xid, c)) → WriteCallCalled s t l o start i r o′ i′
+write-call-as s t l o start i h g r o′ i′ xid c w d e f =
+    write-as (λ x w o′. WritesCallFrom s t (x .0) (x .1) start o w o′) 11 callGiven l o i h g {x = (xid, c)} d e f
+
 -- what a function found of numbers, taken apart
 pub is-case : {B R : Type 0} (view : R → B) {f : List ℕ → B} {a : List ℕ} {r t : R} {y : B} → Is f a (view r) → r ≡ t → view t ≡ y → Is f a y
 is-case view d e h = record { is = sym (ap view e ∙ h) ∙ d .is }
 
 -- a word is its own rest, and so is each number that a test of words holds of
-low-is : (n : ℕ) → isWord n ≡ true → low n ≡ n
+pub low-is : (n : ℕ) → isWord n ≡ true → low n ≡ n
 low-is n e = mod-eq-of-lt (ltb-true n 4294967296 e)
 
 low-at : (ps l : List ℕ) → areWords ps l ≡ true → (k : ℕ) → k < length ps → low (getD l (getD ps k 0) 0) ≡ getD l (getD ps k 0) 0
@@ -93,9 +101,14 @@ fattr3-low l t e =
 call-low : (l : List ℕ) (a b : «auth_flavor») → areWords callWords l ≡ true → callBy low l a b ≡ callOf l a b
 call-low l a b e =
     let w = low-at callWords l e in
-    rw (w 0 (omega arith), w 1 (omega arith), w 2 (omega arith), w 3 (omega arith), w 4 (omega arith))
+    rw (w 1 (omega arith), w 2 (omega arith), w 3 (omega arith), w 4 (omega arith))
 
-none-seen : {A B : Type 0} (s : Seen A) → seenOr {A = A} {B = B} (λ a. none) s ≡ none
+unix-low : (l : List ℕ) → areWords unixWords l ≡ true → unixBy low l ≡ unixOf l
+unix-low l e =
+    let w = low-at unixWords l e in
+    rw (w 0 (omega arith), w 1 (omega arith), w 2 (omega arith))
+
+pub none-seen : {A B : Type 0} (s : Seen A) → seenOr {A = A} {B = B} (λ a. none) s ≡ none
 none-seen (means a w) = refl
 none-seen undeclared = refl
 
@@ -121,13 +134,22 @@ module _ {l : List ℕ} {b : Bool} where
     pub call-no-cred : foundFlavor t ≡ undeclared → Is callGiven l none
     call-no-cred h = record { is = rw (yes (d .is) e, ← f, g, h) }
 
-    pub call-some : {a a′ : «auth_flavor»} {x : «rpc_msg»} → x ≡ callBy low l a a′ → foundFlavor t ≡ means a [] → {r′ t′ : FlavorFound}
-        → foundFlavor r′ ≡ among flavorNumber flavors (getD l 8 0) → r′ ≡ t′ → foundFlavor t′ ≡ means a′ [] → Is callGiven l (some x)
-    call-some {a} {a′} m h f′ g′ k = record { is = rw (m, call-low l a a′ (yes (d .is) e), yes (d .is) e, ← f, g, h, ← f′, g′, k) }
+    pub call-some : {a a′ : «auth_flavor»} {x : «call_body»} → x ≡ callBy low l a a′ → foundFlavor t ≡ means a [] → {r′ t′ : FlavorFound}
+        → foundFlavor r′ ≡ among flavorNumber flavors (getD l 8 0) → r′ ≡ t′ → foundFlavor t′ ≡ means a′ [] → Is callGiven l (some (low (getD l 0 0), x))
+    call-some {a} {a′} m h f′ g′ k =
+        record { is = rw (m, call-low l a a′ (yes (d .is) e), low-at callWords l (yes (d .is) e) 0 (omega arith), yes (d .is) e, ← f, g, h, ← f′, g′, k) }
 
   pub call-no-verf : Is (areWords callWords) l b → not b ≡ false → {r t : FlavorFound} → foundFlavor r ≡ among flavorNumber flavors (getD l 8 0) → r ≡ t
       → foundFlavor t ≡ undeclared → Is callGiven l none
   call-no-verf d e f g h = record { is = rw (yes (d .is) e, ← f, g, h) (sym (none-seen (among flavorNumber flavors (getD l 5 0)))) }
+
+-- an auth_unix
+module _ {l : List ℕ} {b : Bool} where
+  pub unix-wide : Is (areWords unixWords) l b → not b ≡ true → Is unixGiven l none
+  unix-wide d e = record { is = rw (no (d .is) e) }
+
+  pub unix-some : Is (areWords unixWords) l b → not b ≡ false → {x : «auth_unix»} → x ≡ unixBy low l → Is unixGiven l (some x)
+  unix-some d e k = record { is = rw (k, unix-low l (yes (d .is) e), yes (d .is) e) }
 
 -- a sattr3
 option-low : (flag v : ℕ) → optionFits flag v ≡ true → optionOf flag (low v) ≡ optionOf flag v

@@ -1,7 +1,7 @@
 -- Two answers that a contract permits are one: of `copy_kind`, and of each exported function.
 -- Assumes nothing.
 use mathlib.Core.Path.{_≡_, refl, sym, ap, _∙_}
-use mathlib.Core.Bool.{Bool, true, false, not}
+use mathlib.Core.Bool.{Bool, true, false, not, _&&_}
 use mathlib.Core.List.{List, [], _∷_}
 use mathlib.Core.Logic.{_⊎_, inl, inr}
 use mathlib.Core.Option.{Option, none, some}
@@ -13,18 +13,26 @@ use borrow.Author.Tests.{leb-true, leb-false}
 use Rattle.xdr.specs.Meaning.Answer.{Answer, Written}
 use Rattle.xdr.specs.Meaning.Format.{Format, Branch}
 use Rattle.xdr.specs.Meaning.Public.{Answers, leaving, Writes}
+use Rattle.xdr.specs.Meaning.Pieces.{isInside, areInside}
+use Rattle.xdr.specs.Meaning.Sources.{longer}
 use Rattle.xdr.specs.Laws.One.{Told}
+use Rattle.xdr.specs.Laws.Sources.{from-one}
 use Rattle.xdr.specs.declared.piece.Piece.{Piece}
+use Rattle.rpc.specs.Meaning.Auth.{opaque-auth, auth-unix}
+use Rattle.rpc.specs.Meaning.Message.{rpc-msg}
+use Rattle.rpc.specs.Meaning.Sources.{unixFrom, WritesUnixFrom, messageFrom, WritesCallFrom}
+use Rattle.nfs.specs.Meaning.Dir.{nfs-fh, diropargs}
+use Rattle.nfs.specs.Meaning.Sources.{diropargsFrom, WritesDiropargsFrom}
 use Rattle.rpcwire.specs.Laws.Promise.{promised}
 use Rattle.rpcwire.specs.Laws.Fragment.{one-fragment}
 use Rattle.rpcwire.specs.Laws.Choice.{choice-promised}
 use Rattle.door.specs.Meaning.Copy.{Copy, viewCopied}
 use Rattle.door.specs.Meaning.Kinds.{kinds, CopiesOf}
-use Rattle.door.specs.Meaning.Exports.{codeOf, figures, ReadCalled, wroteCode, wroteFigure, FragmentCalled, chosenCode, chosenFigures, ChooseCalled, stateList, fedCode, fedState, fedFigures, FeedCalled}
+use Rattle.door.specs.Meaning.Exports.{codeOf, figures, RewriteCalled, judgedCode, judgedFigures, JudgeCalled, wroteCode, wroteFigure, FragmentCalled, chosenCode, chosenFigures, ChooseCalled, stateList, fedCode, fedState, fedFigures, FeedCalled}
 use Rattle.door.specs.declared.copy.Copied.{Copied}
 use Rattle.door.specs.declared.copy.Copied.the-variants.{Unknown, Unread, Unwritten, Done}
 use Rattle.door.specs.Meaning.Values.{readCode, readFigures, ValueCalled, PartCalled}
-use Rattle.door.specs.Meaning.Given.{GivenTold, WriteCalled}
+use Rattle.door.specs.Meaning.Given.{GivenTold, WriteCalled, diropargs3Given, WriteDiropargs3Called, callGiven, WriteCallCalled, unixGiven, WriteUnixCalled}
 
 module _ {S : Type 0} (Answered : Answer S → Type 0) (one : (a b : Answer S) → Answered a → Answered b → a ≡ b) (f : S → List ℕ) (k : ℕ) (i : List ℕ) {r t : ℕ} {i′ j′ : List ℕ} where
   pub value-one : ValueCalled Answered f k i r i′ → ValueCalled Answered f k i t j′ → (r ≡ t) × (i′ ≡ j′)
@@ -71,23 +79,44 @@ writes-one F s start o x a b o′ p′ c d =
     let g : a ≡ b = c .says ∙ sym (d .says) in
     (g, c .leaves ∙ ap (λ w. leaving F s x w start o) g ∙ sym (d .leaves))
 
+-- the writers from two sources
+module _ (s t l o : List ℕ) (start : ℕ) (i : List ℕ) {r r′ : ℕ} {o′ p′ i′ j′ : List ℕ} where
+  pub call-called-one : WriteCallCalled s t l o start i r o′ i′ → WriteCallCalled s t l o start i r′ p′ j′ → (r ≡ r′) × (o′ ≡ p′) × (i′ ≡ j′)
+  call-called-one c d =
+      write-one (λ x w p. WritesCallFrom s t (x .0) (x .1) start o w p)
+      (λ x v w p q. from-one (rpc-msg .codec) (messageFrom s t (x .0) (x .1)) (longer (length s) (length t)) (opaque-auth .held .inside s (x .1 .cred) && opaque-auth .held .inside t (x .1 .verf)) start o v w p q)
+      o i 11 callGiven l c d
+
+  pub unix-called-one : WriteUnixCalled s t l o start i r o′ i′ → WriteUnixCalled s t l o start i r′ p′ j′ → (r ≡ r′) × (o′ ≡ p′) × (i′ ≡ j′)
+  unix-called-one c d =
+      write-one (λ x w p. WritesUnixFrom s t x start o w p)
+      (λ x v w p q. from-one (auth-unix .codec) (unixFrom s t x) (longer (length s) (length t)) (isInside s (x .machinename) && areInside t (x .gids)) start o v w p q)
+      o i 7 unixGiven l c d
+
+  pub diropargs-called-one : WriteDiropargs3Called s t l o start i r o′ i′ → WriteDiropargs3Called s t l o start i r′ p′ j′
+      → (r ≡ r′) × (o′ ≡ p′) × (i′ ≡ j′)
+  diropargs-called-one c d =
+      write-one (λ x w p. WritesDiropargsFrom s t x start o w p)
+      (λ x v w p q. from-one (diropargs .codec) (diropargsFrom s t x) (longer (length s) (length t)) (nfs-fh .held .inside s (x .dir) && isInside t (x .name)) start o v w p q)
+      o i 4 diropargs3Given l c d
+
 -- `copy_kind`: its answer, and the buffer
 pub copied-told : Told viewCopied
 copied-told Unknown Unknown e = refl
 copied-told Unknown (Unread r) e = cc
-copied-told Unknown (Unwritten r) e = cc
+copied-told Unknown (Unwritten r n b) e = cc
 copied-told Unknown (Done n b k) e = cc
 copied-told (Unread r) Unknown e = cc
 copied-told (Unread r) (Unread r′) e = cc
-copied-told (Unread r) (Unwritten r′) e = cc
+copied-told (Unread r) (Unwritten r′ n′ b′) e = cc
 copied-told (Unread r) (Done n b k) e = cc
-copied-told (Unwritten r) Unknown e = cc
-copied-told (Unwritten r) (Unread r′) e = cc
-copied-told (Unwritten r) (Unwritten r′) e = cc
-copied-told (Unwritten r) (Done n b k) e = cc
+copied-told (Unwritten r n b) Unknown e = cc
+copied-told (Unwritten r n b) (Unread r′) e = cc
+copied-told (Unwritten r n b) (Unwritten r′ n′ b′) e = cc
+copied-told (Unwritten r n b) (Done n′ b′ k) e = cc
 copied-told (Done n b k) Unknown e = cc
 copied-told (Done n b k) (Unread r) e = cc
-copied-told (Done n b k) (Unwritten r) e = cc
+copied-told (Done n b k) (Unwritten r n′ b′) e = cc
 copied-told (Done n b k) (Done n′ b′ k′) e = cc
 
 copies-one : (l : List Branch) (k : ℕ) (s : List ℕ) (at start : ℕ) (o : List ℕ) {c d : Copy} {o′ p′ : List ℕ} → CopiesOf l k s at start o c o′
@@ -102,9 +131,9 @@ copy-kind-one k s at start o c d e f = let g = copies-one kinds k s at start o e
 
 -- the other exported functions: by the room for their figures
 module _ (i : List ℕ) {r t : ℕ} {i′ j′ : List ℕ} where
-  pub read-one : (kind : ℕ) (s : List ℕ) (at : ℕ) (o : List ℕ) {o′ p′ : List ℕ} → ReadCalled kind s at o i r o′ i′ → ReadCalled kind s at o i t p′ j′
+  pub rewrite-one : (kind : ℕ) (s : List ℕ) (at : ℕ) (o : List ℕ) {o′ p′ : List ℕ} → RewriteCalled kind s at o i r o′ i′ → RewriteCalled kind s at o i t p′ j′
       → (r ≡ t) × (o′ ≡ p′) × (i′ ≡ j′)
-  read-one kind s at o {o′} {p′} c d = by (leb 3 (length i)) refl
+  rewrite-one kind s at o {o′} {p′} c d = by (leb 3 (length i)) refl
     where
       by : (b : Bool) → leb 3 (length i) ≡ b → (r ≡ t) × (o′ ≡ p′) × (i′ ≡ j′)
       by true e =
@@ -115,6 +144,19 @@ module _ (i : List ℕ) {r t : ℕ} {i′ j′ : List ℕ} where
       by false e =
           let h = leb-false 3 (length i) e in
           (c .short h .0 ∙ sym (d .short h .0), c .short h .1 ∙ sym (d .short h .1), c .short h .2 ∙ sym (d .short h .2))
+
+  pub judge-one : (kind : ℕ) (s : List ℕ) (at : ℕ) → JudgeCalled kind s at i r i′ → JudgeCalled kind s at i t j′ → (r ≡ t) × (i′ ≡ j′)
+  judge-one kind s at c d = by (leb 3 (length i)) refl
+    where
+      by : (b : Bool) → leb 3 (length i) ≡ b → (r ≡ t) × (i′ ≡ j′)
+      by true e =
+          let x = c .room (leb-true 3 (length i) e) in
+          let y = d .room (leb-true 3 (length i) e) in
+          let g = copies-one kinds kind s at 0 [] (x .copies) (y .copies) in
+          (x .number ∙ ap judgedCode (g .0) ∙ sym (y .number), x .list ∙ ap (λ a. sets i 0 (judgedFigures a)) (g .0) ∙ sym (y .list))
+      by false e =
+          let h = leb-false 3 (length i) e in
+          (c .short h .0 ∙ sym (d .short h .0), c .short h .1 ∙ sym (d .short h .1))
 
   pub fragment-called-one : (m : List ℕ) (start : ℕ) (o : List ℕ) {o′ p′ : List ℕ} → FragmentCalled m start o i r o′ i′ → FragmentCalled m start o i t p′ j′
       → (r ≡ t) × (o′ ≡ p′) × (i′ ≡ j′)

@@ -16,23 +16,23 @@ use Rattle.door.specs.declared.copy.Copied.the-variants.{Unknown, Unread
 pub record Is {A B : Type 0} (f : A → B) (x : A) (y : B) : Type 0 where
   pub is : y ≡ f x
 
--- what is said: no such kind; the reading's refusal; the writing's refusal; or the three figures
+-- what is said: no such kind; the reading's refusal; the writing's refusal, with the reading's two figures; or the three figures
 pub data Copy : Type 0 where
   unknown : Copy
   unread : Refusal → Copy
-  unmade : Refusal → Copy
+  unmade : Refusal → ℕ → Bool → Copy
   made : ℕ → Bool → ℕ → Copy
 
 abbrev pub viewCopied : Copied → Copy
 viewCopied Unknown = unknown
 viewCopied (Unread r) = unread r
-viewCopied (Unwritten r) = unmade r
+viewCopied (Unwritten r n b) = unmade r n b
 viewCopied (Done n b e) = made n b e
 
 -- what is said of a reading that was taken, by what its writer says
 abbrev pub saidOf : ℕ → Bool → Written → Copy
 saidOf n b (done e) = made n b e
-saidOf n b (unwritten r) = unmade r
+saidOf n b (unwritten r) = unmade r n b
 
 module _ {M S : Type 0} (F : Format M S) (s : List ℕ) (start : ℕ) (o : List ℕ) where
   -- what is said of a reading, and what the other buffer then holds

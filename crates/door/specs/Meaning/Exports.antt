@@ -1,7 +1,7 @@
 -- What the exported functions answer: a number, and figures in a lent list.
 -- Assumes nothing.
 use mathlib.Core.Path.{_≡_}
-use mathlib.Core.Bool.{cond, not}
+use mathlib.Core.Bool.{Bool, cond, not}
 use mathlib.Core.List.{List, [], _∷_}
 use Prim.Native.Nat.{ℕ, _≤_, _<_}
 use lib.ListN.{length, getD}
@@ -9,8 +9,9 @@ use lib.Seq.{sets}
 use mathlib.Core.Option.{Option, none, some}
 use mathlib.Core.Logic.{_⊎_}
 use lib.Dec.{eqb}
-use Rattle.xdr.specs.Meaning.Refusal.{numberOf, placeOf, wantingOf}
+use Rattle.xdr.specs.Meaning.Refusal.{numberOf, placeOf, wantingOf, neededOf}
 use Rattle.xdr.specs.Meaning.Answer.{Written, done, unwritten}
+use Rattle.xdr.specs.declared.refusal.Refusal.{Refusal}
 use Rattle.rpc.specs.declared.auth.auth_unix.{«auth_unix»}
 use Rattle.rpcwire.specs.Meaning.Fragment.{WritesFragment}
 use Rattle.rpcwire.specs.Meaning.Choice.{Chosen, turned-away, replied, silent, handed, Chooses}
@@ -22,16 +23,16 @@ use Rattle.door.specs.Meaning.Kinds.{kinds, CopiesOf}
 abbrev pub codeOf : Copy → ℕ
 codeOf unknown = 255
 codeOf (unread r) = numberOf r
-codeOf (unmade r) = numberOf r
+codeOf (unmade r n b) = numberOf r
 codeOf (made n b e) = 0
 
 abbrev pub figures : Copy → List ℕ
 figures unknown = 0 ∷ 0 ∷ 0 ∷ []
 figures (unread r) = placeOf r ∷ wantingOf r ∷ 0 ∷ []
-figures (unmade r) = 0 ∷ 0 ∷ 0 ∷ []
+figures (unmade r n b) = 0 ∷ 0 ∷ neededOf r ∷ []
 figures (made n b e) = n ∷ cond b 1 0 ∷ e ∷ []
 
--- `yugerzat_read`, where its list has room for three figures: the copy to place 0
+-- `yugerzat_rewrite`, where its list has room for three figures: the copy to place 0
 pub record Told (kind : ℕ) (s : List ℕ) (at : ℕ) (o i : List ℕ) (r : ℕ) (o′ i′ : List ℕ) : Type 0 where
   pub copy : Copy
   pub copies : CopiesOf kinds kind s at 0 o copy o′
@@ -39,18 +40,48 @@ pub record Told (kind : ℕ) (s : List ℕ) (at : ℕ) (o i : List ℕ) (r : ℕ
   pub list : i′ ≡ sets i 0 (figures copy)
 
 -- and where it has not, 254, with both as they were
-pub record ReadCalled (kind : ℕ) (s : List ℕ) (at : ℕ) (o i : List ℕ) (r : ℕ) (o′ i′ : List ℕ) : Type 0 where
+pub record RewriteCalled (kind : ℕ) (s : List ℕ) (at : ℕ) (o i : List ℕ) (r : ℕ) (o′ i′ : List ℕ) : Type 0 where
   pub room : 3 ≤ length i → Told kind s at o i r o′ i′
   pub short : length i < 3 → (r ≡ 254) × (o′ ≡ o) × (i′ ≡ i)
 
--- `yugerzat_fragment`: one figure, the place after the fragment
+-- `yugerzat_judge`: what a copy into no buffer says of a reading; what has no room there is how long the rewriting is
+abbrev pub sizeCode : Refusal → ℕ
+sizeCode r = cond (eqb (numberOf r) 5) 0 (numberOf r)
+
+abbrev pub sizeFigures : ℕ → Bool → Refusal → List ℕ
+sizeFigures n b r = cond (eqb (numberOf r) 5) (n ∷ cond b 1 0 ∷ neededOf r ∷ []) (0 ∷ 0 ∷ 0 ∷ [])
+
+abbrev pub judgedCode : Copy → ℕ
+judgedCode unknown = 255
+judgedCode (unread r) = numberOf r
+judgedCode (unmade r n b) = sizeCode r
+judgedCode (made n b e) = 0
+
+abbrev pub judgedFigures : Copy → List ℕ
+judgedFigures unknown = 0 ∷ 0 ∷ 0 ∷ []
+judgedFigures (unread r) = placeOf r ∷ wantingOf r ∷ 0 ∷ []
+judgedFigures (unmade r n b) = sizeFigures n b r
+judgedFigures (made n b e) = n ∷ cond b 1 0 ∷ e ∷ []
+
+pub record JudgeTold (kind : ℕ) (s : List ℕ) (at : ℕ) (i : List ℕ) (r : ℕ) (i′ : List ℕ) : Type 0 where
+  pub copy : Copy
+  pub left : List ℕ
+  pub copies : CopiesOf kinds kind s at 0 [] copy left
+  pub number : r ≡ judgedCode copy
+  pub list : i′ ≡ sets i 0 (judgedFigures copy)
+
+pub record JudgeCalled (kind : ℕ) (s : List ℕ) (at : ℕ) (i : List ℕ) (r : ℕ) (i′ : List ℕ) : Type 0 where
+  pub room : 3 ≤ length i → JudgeTold kind s at i r i′
+  pub short : length i < 3 → (r ≡ 254) × (i′ ≡ i)
+
+-- `yugerzat_fragment`: one figure, the place after the fragment, or how many bytes it needs
 abbrev pub wroteCode : Written → ℕ
 wroteCode (done n) = 0
 wroteCode (unwritten r) = numberOf r
 
 abbrev pub wroteFigure : Written → ℕ
 wroteFigure (done n) = n
-wroteFigure (unwritten r) = 0
+wroteFigure (unwritten r) = neededOf r
 
 abbrev pub wroteFigures : Written → List ℕ
 wroteFigures w = wroteFigure w ∷ []
@@ -111,8 +142,8 @@ stateList s =
     s .capacity ∷ s .placed ∷ s .«header_count» ∷ s .«header_value» ∷ s .left ∷ cond (s .last) 1 0 ∷ cond (s .stopped) 1 0 ∷ []
 
 abbrev pub fedCode : Said → ℕ
-fedCode (more s u) = 100
-fedCode (complete n s u) = 101
+fedCode (more s u) = 103
+fedCode (complete n s u) = 104
 fedCode (refused r s u) = numberOf r
 
 abbrev pub fedState : Said → Assembler

@@ -18,21 +18,23 @@ use Rattle.xdr.specs.declared.piece.Piece.{Piece}
 use Rattle.nfsattr.specs.Meaning.Attr.{ftypeNumber, ftypes, fattr}
 use Rattle.nfs.specs.Meaning.Change.{setModeTo, setUidTo, setGidTo, setSizeTo}
 use Rattle.nfs.specs.Meaning.Set.{SetTime, dont-change, server-time, client-time, atimeTo, mtimeTo, sattr}
-use Rattle.nfs.specs.Meaning.Dir.{diropargs}
+use Rattle.nfs.specs.Meaning.Sources.{WritesDiropargsFrom}
 use Rattle.nfsattr.specs.declared.attr.ftype3.{ftype3}
 use Rattle.nfsattr.specs.declared.attr.fattr3.{fattr3}
 use Rattle.nfs.specs.declared.set.sattr3.{sattr3}
 use Rattle.nfs.specs.declared.dir.diropargs3.{diropargs3}
 use Rattle.rpc.specs.Meaning.Closed.{flavorNumber, flavors}
-use Rattle.rpc.specs.Meaning.Message.{rpc-msg}
+use Rattle.rpc.specs.Meaning.Sources.{WritesUnixFrom, WritesCallFrom}
 use Rattle.rpc.specs.declared.auth.auth_flavor.{«auth_flavor»}
-use Rattle.rpc.specs.declared.message.rpc_body.the-variants.{CALL}
-use Rattle.rpc.specs.declared.message.rpc_msg.{«rpc_msg»}
+use Rattle.rpc.specs.declared.auth.auth_unix.{«auth_unix»}
+use Rattle.rpc.specs.declared.message.call_body.{«call_body»}
 use Rattle.door.specs.Meaning.Exports.{wroteCode, wroteFigure}
 use Rattle.door.specs.declared.values_write.GivenFattr3.{GivenFattr3}
 use Rattle.door.specs.declared.values_write.GivenFattr3.the-variants as fattr3·
 use Rattle.door.specs.declared.values_write.GivenCall.{GivenCall}
 use Rattle.door.specs.declared.values_write.GivenCall.the-variants as call·
+use Rattle.door.specs.declared.values_write.GivenUnix.{GivenUnix}
+use Rattle.door.specs.declared.values_write.GivenUnix.the-variants as unix·
 use Rattle.door.specs.declared.values_write.FlavorFound.{FlavorFound}
 use Rattle.door.specs.declared.values_write.FlavorFound.the-variants as flavor·
 
@@ -116,9 +118,9 @@ pieceOf l p n = record { at = getD l p 0; count = getD l n 0 }
 abbrev pub diropargs3Given : List ℕ → Option diropargs3
 diropargs3Given l = some (record { dir = record { «data» = pieceOf l 0 1 }; name = pieceOf l 2 3 })
 
-abbrev pub WriteDiropargs3Called : (s l o : List ℕ) (start : ℕ) (i : List ℕ) (r : ℕ) (o′ i′ : List ℕ) → Type 0
-WriteDiropargs3Called s l o start i r o′ i′ =
-    WriteCalled (λ x w o′. Writes diropargs s x start o w o′) 4 diropargs3Given l o i r o′ i′
+abbrev pub WriteDiropargs3Called : (dirs names l o : List ℕ) (start : ℕ) (i : List ℕ) (r : ℕ) (o′ i′ : List ℕ) → Type 0
+WriteDiropargs3Called s t l o start i r o′ i′ =
+    WriteCalled (λ x w o′. WritesDiropargsFrom s t x start o w o′) 4 diropargs3Given l o i r o′ i′
 
 -- `yugerzat_write_sattr3`: what stands behind a flag of 0 is nothing, whatever it is; so is what stands behind a tag of 0 or 1
 abbrev pub optionFits : ℕ → ℕ → Bool
@@ -168,35 +170,53 @@ foundFlavor (flavor·.Is a) = means a []
 abbrev pub callWords : List ℕ
 callWords = 0 ∷ 1 ∷ 2 ∷ 3 ∷ 4 ∷ []
 
-abbrev pub callBy : (ℕ → ℕ) → List ℕ → «auth_flavor» → «auth_flavor» → «rpc_msg»
+abbrev pub callBy : (ℕ → ℕ) → List ℕ → «auth_flavor» → «auth_flavor» → «call_body»
 callBy w l a b =
     record {
-      xid = w (getD l 0 0);
-      body =
-          CALL
-          (record {
-            rpcvers = w (getD l 1 0);
-            prog = w (getD l 2 0);
-            vers = w (getD l 3 0);
-            proc = w (getD l 4 0);
-            cred = record { flavor = a; body = pieceOf l 6 7 };
-            verf = record { flavor = b; body = pieceOf l 9 10 };
-          });
+      rpcvers = w (getD l 1 0);
+      prog = w (getD l 2 0);
+      vers = w (getD l 3 0);
+      proc = w (getD l 4 0);
+      cred = record { flavor = a; body = pieceOf l 6 7 };
+      verf = record { flavor = b; body = pieceOf l 9 10 };
     }
 
-abbrev pub callOf : List ℕ → «auth_flavor» → «auth_flavor» → «rpc_msg»
+abbrev pub callOf : List ℕ → «auth_flavor» → «auth_flavor» → «call_body»
 callOf = callBy (λ n. n)
 
-abbrev pub callGiven : List ℕ → Option «rpc_msg»
+-- with its xid
+abbrev pub callGiven : List ℕ → Option (ℕ × «call_body»)
 callGiven l =
     cond (areWords callWords l)
-    (seenOr (λ a. seenOr (λ b. some (callOf l a b)) (among flavorNumber flavors (getD l 8 0))) (among flavorNumber flavors (getD l 5 0)))
+    (seenOr (λ a. seenOr (λ b. some (getD l 0 0, callOf l a b)) (among flavorNumber flavors (getD l 8 0))) (among flavorNumber flavors (getD l 5 0)))
     none
 
-abbrev pub viewGivenCall : GivenCall → Option «rpc_msg»
+abbrev pub viewGivenCall : GivenCall → Option (ℕ × «call_body»)
 viewGivenCall call·.Wide = none
-viewGivenCall (call·.Is m) = some m
+viewGivenCall (call·.Is x c) = some (x, c)
 
-abbrev pub WriteCallCalled : (s l o : List ℕ) (start : ℕ) (i : List ℕ) (r : ℕ) (o′ i′ : List ℕ) → Type 0
-WriteCallCalled s l o start i r o′ i′ =
-    WriteCalled (λ x w o′. Writes rpc-msg s x start o w o′) 11 callGiven l o i r o′ i′
+abbrev pub WriteCallCalled : (creds verfs l o : List ℕ) (start : ℕ) (i : List ℕ) (r : ℕ) (o′ i′ : List ℕ) → Type 0
+WriteCallCalled s t l o start i r o′ i′ =
+    WriteCalled (λ x w o′. WritesCallFrom s t (x .0) (x .1) start o w o′) 11 callGiven l o i r o′ i′
+
+-- `yugerzat_write_auth_unix`
+abbrev pub unixWords : List ℕ
+unixWords = 0 ∷ 3 ∷ 4 ∷ []
+
+abbrev pub unixBy : (ℕ → ℕ) → List ℕ → «auth_unix»
+unixBy w l =
+    record { stamp = w (getD l 0 0); machinename = pieceOf l 1 2; uid = w (getD l 3 0); gid = w (getD l 4 0); gids = pieceOf l 5 6 }
+
+abbrev pub unixOf : List ℕ → «auth_unix»
+unixOf = unixBy (λ n. n)
+
+abbrev pub unixGiven : List ℕ → Option «auth_unix»
+unixGiven l = cond (areWords unixWords l) (some (unixOf l)) none
+
+abbrev pub viewGivenUnix : GivenUnix → Option «auth_unix»
+viewGivenUnix unix·.Wide = none
+viewGivenUnix (unix·.Is v) = some v
+
+abbrev pub WriteUnixCalled : (names groups l o : List ℕ) (start : ℕ) (i : List ℕ) (r : ℕ) (o′ i′ : List ℕ) → Type 0
+WriteUnixCalled s t l o start i r o′ i′ =
+    WriteCalled (λ x w o′. WritesUnixFrom s t x start o w o′) 7 unixGiven l o i r o′ i′

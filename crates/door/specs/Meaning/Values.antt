@@ -94,7 +94,7 @@ sattr3Figures a =
 abbrev pub Sattr3Called : (s : List ℕ) (at : ℕ) (i : List ℕ) (r : ℕ) (i′ : List ℕ) → Type 0
 Sattr3Called s at = ValueCalled (Answers (exactly sattr) s at) sattr3Figures 14
 
--- `yugerzat_judge`: xid, then 0 with a call's figures, 1 with an accepted reply's, 2 with the versions of a denial, or 3 with its auth_stat
+-- `yugerzat_read_rpc_msg`: xid, then 0 with a call's figures, 1 with an accepted reply's, 2 with the versions of a denial, or 3 with its auth_stat
 abbrev pub authFigures : «opaque_auth» → List ℕ
 authFigures a = flavorNumber (a .flavor) ∷ pieceFigures (a .body)
 
@@ -121,8 +121,8 @@ bodyFigures (REPLY («MSG_DENIED» («AUTH_ERROR» s))) = 3 ∷ authStatNumber s
 abbrev pub messageFigures : «rpc_msg» → List ℕ
 messageFigures m = m .xid ∷ bodyFigures (m .body)
 
-abbrev pub JudgeCalled : (s : List ℕ) (at : ℕ) (i : List ℕ) (r : ℕ) (i′ : List ℕ) → Type 0
-JudgeCalled s at = ValueCalled (Answers rpc-msg s at) messageFigures 12
+abbrev pub RpcMsgCalled : (s : List ℕ) (at : ℕ) (i : List ℕ) (r : ℕ) (i′ : List ℕ) → Type 0
+RpcMsgCalled s at = ValueCalled (Answers rpc-msg s at) messageFigures 12
 
 -- `yugerzat_read_auth_unix`: of a credential's body
 abbrev pub unixFigures : «auth_unix» → List ℕ

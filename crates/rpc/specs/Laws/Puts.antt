@@ -45,7 +45,7 @@ abbrev pub backAt : ℕ → List ℕ → List ℕ → List ℕ
 backAt a ys zs = putMid a (length ys - a) ys zs
 
 -- the same under another name of its length
-put-sized : {xs ys bs : List ℕ} {n m : ℕ} → n ≡ m → Put xs ys n bs → Put xs ys m bs
+pub put-sized : {xs ys bs : List ℕ} {n m : ℕ} → n ≡ m → Put xs ys n bs → Put xs ys m bs
 put-sized {xs} {bs = bs} e f = record { is = f .is ∙ ap (λ k. bs ++ drop k xs) e; long = f .long ∙ e }
 
 -- every case of accept_body but PROG_MISMATCH is its tag alone
@@ -131,37 +131,8 @@ module _ (xs ys : List ℕ) where
           → Put (lentFrom 4 ys) zs (bodySize (m .body)) (output rpc-body s (m .body)) → Put xs (backAt 4 ys zs) (msgSize m) (output rpc-msg s m)
       msg-put m h e f = put-same (msg-written s m) (tag-put (m .xid) h e f)
 
--- records of four
-module _ (xs y₁ z₁ z₂ z₃ s : List ℕ) (n : ℕ) where
-  pub unix-put : (m : «auth_unix») → ((j : ℕ) → Fits w8 (getD s j 0)) → Ready auth-unix s m → unixSize m ≤ length xs → n ≡ sizeUpTo (m .machinename .count)
-      → let y₂ = backAt 4 y₁ z₁ in
-      let y₃ = backAt (4 + n) y₂ z₂ in
-      y₁ ≡ laid (word .kind .write (m .stamp)) xs → z₁ ≡ laidOf bytes s (m .machinename) (lentFrom 4 y₁)
-      → z₂ ≡ laid (word-pair .kind .write (m .uid, m .gid)) (lentFrom (4 + n) y₂) → z₃ ≡ laidOf wordList s (m .gids) (lentFrom (4 + n + 8) y₃)
-      → Put xs (backAt (4 + n + 8) y₃ z₃) (unixSize m) (output auth-unix s m)
-  unix-put m given r h e a b c d =
-      let f₁ = put-laid (word-length (m .stamp)) (omega arith) a in
-      let f₂ = lent-of bytes s (m .machinename) (unix-name s m r) f₁ (omega arith) (bytes-sized s (m .machinename) (unix-name s m r)) b in
-      let f₃ = lent _ (put-sized (ap (λ k. 4 + k) (sym e)) f₂) (omega arith) (word-pair-length (m .uid) (m .gid)) c in
-      let f₄ = lent-of wordList s (m .gids) (unix-gids s m r) f₃ (omega arith) (gids-size s (known-bytes s given) m r) d in
-      put-sized (omega arith) (put-same (unix-written s m) f₄)
-
-  pub call-put : (m : «call_body») → callSize m ≤ length xs → n ≡ authSize (m .cred)
-      → let y₂ = backAt 8 y₁ z₁ in
-      let y₃ = backAt 16 y₂ z₂ in
-      y₁ ≡ laid (word-pair .kind .write (m .rpcvers, m .prog)) xs → z₁ ≡ laid (word-pair .kind .write (m .vers, m .proc)) (lentFrom 8 y₁)
-      → Put (lentFrom 16 y₂) z₂ (authSize (m .cred)) (output opaque-auth s (m .cred))
-      → Put (lentFrom (16 + n) y₃) z₃ (authSize (m .verf)) (output opaque-auth s (m .verf))
-      → Put xs (backAt (16 + n) y₃ z₃) (callSize m) (output call-body s m)
-  call-put m h e a b c d =
-      let f₁ = put-laid (word-pair-length (m .rpcvers) (m .prog)) (omega arith) a in
-      let f₂ = lent _ f₁ (omega arith) (word-pair-length (m .vers) (m .proc)) b in
-      let f₃ = field f₂ (omega arith) c in
-      let f₄ = field (put-sized (ap (λ k. 16 + k) (sym e)) f₃) (omega arith) d in
-      put-sized (ap (λ k. 16 + k + authSize (m .verf)) e) (put-same (call-written s m) f₄)
-
 -- what `put_X` is handed of its parts
 pub ruleset readies = (call-cred, call-verf, accepted-verf, reply-accepted, body-call, body-reply, msg-body)
 
 pub ruleset puts =
-    (info-put, error-put, bare-put, accept-info-put, reject-info-put, reply-accepted-put, reply-denied-put, body-call-put, body-reply-put, auth-put, accepted-put, msg-put, unix-put, call-put)
+    (info-put, error-put, bare-put, accept-info-put, reject-info-put, reply-accepted-put, reply-denied-put, body-call-put, body-reply-put, auth-put, accepted-put, msg-put)

@@ -162,7 +162,7 @@ module _ (s : List ℕ) where
   unfolding opaque-auth auth-flavor
   auth-written m = refl
 
-  auth-length : (m : «opaque_auth») → Ready opaque-auth s m → length (output opaque-auth s m) ≡ authSize m
+  pub auth-length : (m : «opaque_auth») → Ready opaque-auth s m → length (output opaque-auth s m) ≡ authSize m
   auth-length m h =
       ap length (sym (auth-written m)) ∙ simp (length-append, word-length) (omega (arith, bytes-sized s (m .body) (auth-body m h)))
 

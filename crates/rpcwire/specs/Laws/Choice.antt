@@ -54,11 +54,11 @@ unavail-short x = record { long = refl; whole = refl }
 
 -- what the writer of a message says and leaves, of one that is short
 module _ (m : «rpc_msg») (h : Short m) (o : List ℕ) where
-  says-short : writing rpc-msg [] m 0 (length o) ≡ cond (leb 24 (length o)) (done 24) (unwritten NoRoom)
+  says-short : writing rpc-msg [] m 0 (length o) ≡ cond (leb 24 (length o)) (done 24) (unwritten (NoRoom 24))
   unfolding writing placing
   says-short = rw (h .whole, h .long, le-leb 0 (length o) (omega arith))
 
-  done-by : (t : Bool) → leb 24 (length o) ≡ t → {n : ℕ} {o′ : List ℕ} → done n ≡ cond t (done 24) (unwritten NoRoom) → o′ ≡ leaving rpc-msg [] m (done n) 0 o
+  done-by : (t : Bool) → leb 24 (length o) ≡ t → {n : ℕ} {o′ : List ℕ} → done n ≡ cond t (done 24) (unwritten (NoRoom 24)) → o′ ≡ leaving rpc-msg [] m (done n) 0 o
       → outcome (replied n) o′ ≡ replying m o
   unfolding replying
   done-by true e {n} {o′} f g =
@@ -69,13 +69,13 @@ module _ (m : «rpc_msg») (h : Short m) (o : List ℕ) where
   pub reply-done : {w : Written} {n : ℕ} {o′ : List ℕ} → Writes rpc-msg [] m 0 o w o′ → w ≡ done n → outcome (replied n) o′ ≡ replying m o
   reply-done c e = done-by (leb 24 (length o)) refl (sym e ∙ c .says ∙ says-short) (c .leaves ∙ ap (λ v. leaving rpc-msg [] m v 0 o) e)
 
-  none-by : (t : Bool) → leb 24 (length o) ≡ t → {r : Refusal} {o′ : List ℕ} → unwritten r ≡ cond t (done 24) (unwritten NoRoom) → o′ ≡ o
-      → outcome (turned-away NoRoom) o′ ≡ replying m o
+  none-by : (t : Bool) → leb 24 (length o) ≡ t → {r : Refusal} {o′ : List ℕ} → unwritten r ≡ cond t (done 24) (unwritten (NoRoom 24)) → o′ ≡ o
+      → outcome (turned-away (NoRoom 24)) o′ ≡ replying m o
   unfolding replying
   none-by true e f g = let z : _≡_ {A = ℕ} 0 1 = cc in absurd (omega arith)
-  none-by false e f g = ap (λ l. outcome (turned-away NoRoom) l) g ∙ sym (rw e)
+  none-by false e f g = ap (λ l. outcome (turned-away (NoRoom 24)) l) g ∙ sym (rw e)
 
-  pub reply-none : {w : Written} {r : Refusal} {o′ : List ℕ} → Writes rpc-msg [] m 0 o w o′ → w ≡ unwritten r → outcome (turned-away NoRoom) o′ ≡ replying m o
+  pub reply-none : {w : Written} {r : Refusal} {o′ : List ℕ} → Writes rpc-msg [] m 0 o w o′ → w ≡ unwritten r → outcome (turned-away (NoRoom 24)) o′ ≡ replying m o
   reply-none c e = none-by (leb 24 (length o)) refl (sym e ∙ c .says ∙ says-short) (c .leaves ∙ ap (λ v. leaving rpc-msg [] m v 0 o) e)
 
 -- a call whose credential is read
@@ -148,7 +148,7 @@ module _ (s : List ℕ) (seen : Bool) (o : List ℕ) where
 
 -- each reply that is decided on is short, and no refusal that is decided on is 5
 abbrev Brief : Decision → Type 0
-Brief (refuse r) = r ≡ NoRoom → ⊥
+Brief (refuse r) = r ≡ NoRoom 24 → ⊥
 Brief (reply m) = Short m
 Brief silence = Unit {0}
 Brief (hand-over p v f a n) = Unit {0}
@@ -158,16 +158,16 @@ brief-cond true d e f g = f
 brief-cond false d e f g = g
 
 -- a refusal of a reading is not 5
-not-of-reading : {r : Refusal} → OfReading r → r ≡ NoRoom → ⊥
+not-of-reading : {r : Refusal} → OfReading r → r ≡ NoRoom 24 → ⊥
 not-of-reading h e = subst OfReading e h
 
-not-too-long : {r : Refusal} → r ≡ TooLong → r ≡ NoRoom → ⊥
+not-too-long : {r : Refusal} → r ≡ TooLong → r ≡ NoRoom 24 → ⊥
 not-too-long e f = let z : _≡_ {A = ℕ} 0 1 = cc in omega arith
 
-not-past-end : {r : Refusal} → r ≡ PastEnd → r ≡ NoRoom → ⊥
+not-past-end : {r : Refusal} → r ≡ PastEnd → r ≡ NoRoom 24 → ⊥
 not-past-end e f = let z : _≡_ {A = ℕ} 0 1 = cc in omega arith
 
-not-call : NotCall ≡ NoRoom → ⊥
+not-call : NotCall ≡ NoRoom 24 → ⊥
 not-call e = let z : _≡_ {A = ℕ} 0 1 = cc in omega arith
 
 module _ (s : List ℕ) (seen : Bool) (h : Bytes s) where
@@ -190,7 +190,7 @@ module _ (s : List ℕ) (seen : Bool) (h : Bytes s) where
   brief-body x n (CALL c) = brief-flavor x c n (c .cred .flavor)
   brief-body x n (REPLY r) = not-call
 
-  brief-refused : {r : Refusal} → (r ≡ TooLong) ⊎ ((r ≡ PastEnd) ⊎ OfReading r) → r ≡ NoRoom → ⊥
+  brief-refused : {r : Refusal} → (r ≡ TooLong) ⊎ ((r ≡ PastEnd) ⊎ OfReading r) → r ≡ NoRoom 24 → ⊥
   brief-refused (inl e) = not-too-long e
   brief-refused (inr (inl e)) = not-past-end e
   brief-refused (inr (inr o)) = not-of-reading o
@@ -208,7 +208,7 @@ reply-room : (m : «rpc_msg») (o : List ℕ) → 24 ≤ length o → replying m
 unfolding replying
 reply-room m o h = rw (le-leb 24 (length o) h)
 
-reply-short : (m : «rpc_msg») (o : List ℕ) → length o < 24 → replying m o ≡ outcome (turned-away NoRoom) o
+reply-short : (m : «rpc_msg») (o : List ℕ) → length o < 24 → replying m o ≡ outcome (turned-away (NoRoom 24)) o
 unfolding replying
 reply-short m o h = rw (lt-leb 24 (length o) h)
 
@@ -236,15 +236,15 @@ pub said-held : {r t : Outcome} → r ≡ t → (r .said ≡ t .said) × (r .hel
 said-held e = (ap (λ (r : Outcome). r .said) e, ap (λ (r : Outcome). r .held) e)
 
 -- a reply of 24 bytes is no refusal
-not-five : (m : «rpc_msg») (o : List ℕ) (t : Bool) → leb 24 (length o) ≡ t → replying m o .said ≡ turned-away NoRoom → length o < 24
+not-five : (m : «rpc_msg») (o : List ℕ) (t : Bool) → leb 24 (length o) ≡ t → replying m o .said ≡ turned-away (NoRoom 24) → length o < 24
 not-five m o true e f =
     let k = said-held (reply-room m o (leb-true 24 (length o) e)) .0 in
     let z : _≡_ {A = ℕ} 0 1 = cc in absurd (omega arith)
 not-five m o false e f = leb-false 24 (length o) e
 
 -- so where 5 is said, a reply was due
-five-due : (d : Decision) (o : List ℕ) → Brief d → carriedOut d o .said ≡ turned-away NoRoom → (m : «rpc_msg») × (d ≡ reply m) × (length o < 24)
-five-due (refuse r) o h f = let g : r ≡ NoRoom = cc in absurd (h g)
+five-due : (d : Decision) (o : List ℕ) → Brief d → carriedOut d o .said ≡ turned-away (NoRoom 24) → (m : «rpc_msg») × (d ≡ reply m) × (length o < 24)
+five-due (refuse r) o h f = let g : r ≡ NoRoom 24 = cc in absurd (h g)
 five-due (reply m) o h f = (m, refl, not-five m o (leb 24 (length o)) refl f)
 five-due silence o h f = let z : _≡_ {A = ℕ} 0 1 = cc in absurd (omega arith)
 five-due (hand-over p v g a n) o h f = let z : _≡_ {A = ℕ} 0 1 = cc in absurd (omega arith)

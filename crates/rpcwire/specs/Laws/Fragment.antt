@@ -38,7 +38,7 @@ module _ (m : List ℕ) (at : ℕ) (o : List ℕ) (b : Bytes m) where
     fragment-long g = record { says = simp (le-leb at (length o) h, lt-leb (length m) most g); leaves = refl; bytes = b }
 
     module _ (g : length m ≤ most) where
-      pub fragment-short : length o - at < 4 + length m → WritesFragment m at o (unwritten NoRoom) o
+      pub fragment-short : length o - at < 4 + length m → WritesFragment m at o (unwritten (NoRoom (4 + length m))) o
       unfolding fragmentSaid
       fragment-short r =
           let k : length o < at + 4 + length m = omega arith in
@@ -131,7 +131,7 @@ module _ (m : List ℕ) (at : ℕ) (o : List ℕ) where
           → (at ≤ length o) × (n ≡ at + 4 + length m)
       go false ha b hb r hr = no {r = PastEnd} (simp ha at e)
       go true ha false hb r hr = no {r = TooLong} (simp (ha, hb) at e)
-      go true ha true hb false hr = no {r = NoRoom} (simp (ha, hb, hr) at e)
+      go true ha true hb false hr = no {r = NoRoom (4 + length m)} (simp (ha, hb, hr) at e)
       go true ha true hb true hr =
           let f : _≡_ {A = Written} (done n) (done (at + 4 + length m)) = simp (ha, hb, hr) at e in
           (leb-true at (length o) ha, cc f)

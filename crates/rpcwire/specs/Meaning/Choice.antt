@@ -86,7 +86,7 @@ outcome c o = record { said = c; held = o }
 
 -- a reply is 24 bytes, written from place 0; refusal 5 where the output is shorter. (The two replies have no pieces, so no source.)
 unfoldable pub replying : «rpc_msg» → List ℕ → Outcome
-replying m o = cond (leb 24 (length o)) (outcome (replied 24) (output rpc-msg [] m ++ drop 24 o)) (outcome (turned-away NoRoom) o)
+replying m o = cond (leb 24 (length o)) (outcome (replied 24) (output rpc-msg [] m ++ drop 24 o)) (outcome (turned-away (NoRoom 24)) o)
 
 -- a decision carried out on the output o
 abbrev pub carriedOut : Decision → List ℕ → Outcome
@@ -114,5 +114,5 @@ pub record ChoicePromised (s : List ℕ) (seen : Bool) (o : List ℕ) (c : Chose
   -- all but a reply's bytes stay
   pub leaves : Leaves c o o′
   -- 5 is given exactly if a reply is due and the output is shorter; else a reply that is due is given
-  pub five-iff : (c ≡ turned-away NoRoom) ↔ ((m : «rpc_msg») × (decided s seen ≡ reply m) × (length o < 24))
+  pub five-iff : (c ≡ turned-away (NoRoom 24)) ↔ ((m : «rpc_msg») × (decided s seen ≡ reply m) × (length o < 24))
   pub replies : {m : «rpc_msg»} → decided s seen ≡ reply m → 24 ≤ length o → (c ≡ replied 24) × (o′ ≡ output rpc-msg [] m ++ drop 24 o)

@@ -20,7 +20,7 @@ fragmentOf m = word .kind .write (length m + 2147483648) ++ m
 unfoldable pub fragmentSaid : List ℕ → (at len : ℕ) → Written
 fragmentSaid m at len =
     cond (leb at len)
-    (cond (leb (length m) most) (cond (leb (at + 4 + length m) len) (done (at + 4 + length m)) (unwritten NoRoom)) (unwritten TooLong))
+    (cond (leb (length m) most) (cond (leb (at + 4 + length m) len) (done (at + 4 + length m)) (unwritten (NoRoom (4 + length m)))) (unwritten TooLong))
     (unwritten PastEnd)
 
 -- what the buffer holds afterwards: a refusal leaves it as it was

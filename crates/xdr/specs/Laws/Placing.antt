@@ -39,7 +39,7 @@ module _ (source : ℕ) (inside : Bool) (size room at : ℕ) where
         placing-large l = simp (le-leb at room h, le-leb source most g, i, lt-leb size most l)
 
         module _ (l : size ≤ most) where
-          pub placing-short : room - at < size → unwritten NoRoom ≡ placing source inside size room at
+          pub placing-short : room - at < size → unwritten (NoRoom size) ≡ placing source inside size room at
           unfolding placing
           placing-short r =
               let k : room < at + size = omega arith in

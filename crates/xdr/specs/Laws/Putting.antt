@@ -33,13 +33,15 @@ pub record Sized {M S : Type 0} (F : Format M S) (size : S → ℕ) : Type 0 whe
 
 -- there is a place, by lengths alone
 module _ (source : ℕ) (i : Bool) (m len at : ℕ) (w : Wrote) (k : ℕ) (e : viewWrote w ≡ placing source i m len at) (f : w ≡ W.Done k) where
-  record Placed : Type 0 where
+  pub record Placed : Type 0 where
     pub starts : at ≤ len
     pub short : source ≤ most
     pub inside : i ≡ true
+    pub small : m ≤ most
     pub ends : at + m ≤ len
+    pub next : k ≡ at + m
 
-  placed : Placed
+  pub placed : Placed
   unfolding placing
   placed =
       go (leb at len) refl (leb source most) refl i refl (leb m most) refl (leb (at + m) len) refl (sym (ap viewWrote f) ∙ e)
@@ -53,9 +55,17 @@ module _ (source : ℕ) (i : Bool) (m len at : ℕ) (w : Wrote) (k : ℕ) (e : v
       go true ha false hb c hc d hd r hr g = no {r = TooLong} (simp (ha, hb) at g)
       go true ha true hb false hc d hd r hr g = no {r = Outside} (simp (ha, hb, hc) at g)
       go true ha true hb true hc false hd r hr g = no {r = TooLong} (simp (ha, hb, hc, hd) at g)
-      go true ha true hb true hc true hd false hr g = no {r = NoRoom} (simp (ha, hb, hc, hd, hr) at g)
+      go true ha true hb true hc true hd false hr g = no {r = NoRoom m} (simp (ha, hb, hc, hd, hr) at g)
       go true ha true hb true hc true hd true hr g =
-          record { starts = leb-true at len ha; short = leb-true source most hb; inside = hc; ends = leb-true (at + m) len hr }
+          let z : done k ≡ done (at + m) = simp (ha, hb, hc, hd, hr) at g in
+          record {
+            starts = leb-true at len ha;
+            short = leb-true source most hb;
+            inside = hc;
+            small = leb-true m most hd;
+            ends = leb-true (at + m) len hr;
+            next = cc z;
+          }
 
   pub place-at : at ≤ len
   place-at = placed .starts

@@ -25,7 +25,7 @@ module _ (len at size : ℕ) where
   unfolding roomed
   room-past h = simp (lt-leb at len h)
 
-  pub room-short : at ≤ len → len - at < size → unwritten NoRoom ≡ roomed len at size
+  pub room-short : at ≤ len → len - at < size → unwritten (NoRoom size) ≡ roomed len at size
   unfolding roomed
   room-short h k = simp (le-leb at len h, lt-leb (at + size) len (omega arith))
 
@@ -37,7 +37,7 @@ module _ (len at size : ℕ) where
     pub room : at + size ≤ len
     pub next : at + size ≡ n
 
-  fits-by : {n : ℕ} (a b : Bool) → leb at len ≡ a → leb (at + size) len ≡ b → done n ≡ cond a (cond b (done (at + size)) (unwritten NoRoom)) (unwritten PastEnd)
+  fits-by : {n : ℕ} (a b : Bool) → leb at len ≡ a → leb (at + size) len ≡ b → done n ≡ cond a (cond b (done (at + size)) (unwritten (NoRoom size))) (unwritten PastEnd)
       → Fits n
   fits-by true true e f g = record { room = leb-true (at + size) len f; next = cc }
   fits-by true false e f g = let z : _≡_ {A = ℕ} 0 1 = cc in absurd (omega arith)
@@ -53,7 +53,7 @@ module _ (len at size : ℕ) where
 
 module _ {M S : Type 0} (F : Format M S) (s : List ℕ) (x : S) {n : ℕ} (l : length (output F s x) ≡ n) (r : Ready F s x) (k : n ≤ most) (at : ℕ) (o : List ℕ) where
   off-by : {q : Refusal} (a b : Bool) → leb at (length o) ≡ a → leb (at + n) (length o) ≡ b
-      → unwritten q ≡ cond a (cond b (done (at + n)) (unwritten NoRoom)) (unwritten PastEnd) → Writes F s x at o (unwritten q) o
+      → unwritten q ≡ cond a (cond b (done (at + n)) (unwritten (NoRoom n))) (unwritten PastEnd) → Writes F s x at o (unwritten q) o
   off-by true true e f g = let z : _≡_ {A = ℕ} 0 1 = cc in absurd (omega arith)
   off-by true false e f g =
       let h : at ≤ length o = leb-true at (length o) e in

@@ -1,6 +1,6 @@
 -- What a writer leaves in its buffer: fields one after another, each lent the tail; and that what was written reads back as itself.
 -- Assumes nothing.
-use mathlib.Core.Path.{_≡_, refl, sym, ap, ap₂, _∙_}
+use mathlib.Core.Path.{_≡_, refl, sym, ap, ap₂, subst, _∙_}
 use mathlib.Core.Bool.{Bool, true, false}
 use mathlib.Core.List.{List, [], _++_, append-assoc, append-nil}
 use Prim.Native.Nat.{ℕ, _+_, _-_, _<_, _≤_}
@@ -77,7 +77,7 @@ module _ {M S : Type 0} (F : Format M S) (s : List ℕ) (x : S) where
       module _ (g : length s ≤ most) where
         module _ (i : F .held .inside s x ≡ true) where
           module _ (l : length (output F s x) ≤ most) where
-            pub writes-short : length o < at + length (output F s x) → Writes F s x at o (unwritten NoRoom) o
+            pub writes-short : length o < at + length (output F s x) → Writes F s x at o (unwritten (NoRoom (length (output F s x)))) o
             unfolding writing placing
             writes-short r =
                 record {
@@ -131,7 +131,7 @@ module _ {M S : Type 0} (F : Format M S) (s : List ℕ) (x : S) where
         go true ha false hb c hc d hd r hr = no {r = TooLong} (simp (ha, hb) at e)
         go true ha true hb false hc d hd r hr = no {r = Outside} (simp (ha, hb, hc) at e)
         go true ha true hb true hc false hd r hr = no {r = TooLong} (simp (ha, hb, hc, hd) at e)
-        go true ha true hb true hc true hd false hr = no {r = NoRoom} (simp (ha, hb, hc, hd, hr) at e)
+        go true ha true hb true hc true hd false hr = no {r = NoRoom (length (output F s x))} (simp (ha, hb, hc, hd, hr) at e)
         go true ha true hb true hc true hd true hr =
             let f : _≡_ {A = Written} (done n) (done (at + length (output F s x))) = simp (ha, hb, hc, hd, hr) at e in
             record {
@@ -267,8 +267,10 @@ module _ {M S : Type 0} (F : Format M S) (s : List ℕ) (x : S) (o : List ℕ) w
 module _ {M S : Type 0} (F : Format M S) (s : List ℕ) (x : S) {n : ℕ} (l : length (output F s x) ≡ n) (r : Ready F s x) (at : ℕ) (o : List ℕ)
     (h : at ≤ length o) where
   module _ (k : n ≤ most) where
-    pub sized-short : length o - at < n → Writes F s x at o (unwritten NoRoom) o
-    sized-short g = writes-short F s x at o h (r .short) (r .inside) (omega arith) (omega arith)
+    pub sized-short : length o - at < n → Writes F s x at o (unwritten (NoRoom n)) o
+    sized-short g =
+        subst (λ z. Writes F s x at o (unwritten (NoRoom z)) o) l
+        (writes-short F s x at o h (r .short) (r .inside) (omega arith) (omega arith))
 
     pub sized-put : F .codec .kind .Good (F .held .mean s x) → n ≤ length o - at → {zs : List ℕ}
         → Put (midOf at (length o - at) o) zs n (output F s x) → Writes F s x at o (done (at + n)) (putMid at (length o - at) o zs)

@@ -8,7 +8,7 @@ use Rattle.xdr.specs.declared.refusal.Refusal.the-variants.{TooLong, Out
 
 -- a message without pieces: where `size` bytes from `at` on end, in a buffer of `len`; 9, then 5
 unfoldable pub roomed : ℕ → ℕ → ℕ → Written
-roomed len at size = cond (leb at len) (cond (leb (at + size) len) (done (at + size)) (unwritten NoRoom)) (unwritten PastEnd)
+roomed len at size = cond (leb at len) (cond (leb (at + size) len) (done (at + size)) (unwritten (NoRoom size))) (unwritten PastEnd)
 
 -- any message, by the length of the source, whether its pieces lie inside, the size of the encoding, the length of the buffer, and the place:
 -- 9, 3 for the source, 4, 3 for the encoding, 5
@@ -16,6 +16,6 @@ unfoldable pub placing : ℕ → Bool → ℕ → ℕ → ℕ → Written
 placing source inside size room at =
     cond (leb at room)
     (cond (leb source most)
-    (cond inside (cond (leb size most) (cond (leb (at + size) room) (done (at + size)) (unwritten NoRoom)) (unwritten TooLong)) (unwritten Outside))
+    (cond inside (cond (leb size most) (cond (leb (at + size) room) (done (at + size)) (unwritten (NoRoom size))) (unwritten TooLong)) (unwritten Outside))
     (unwritten TooLong))
     (unwritten PastEnd)

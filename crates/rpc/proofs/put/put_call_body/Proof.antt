@@ -1,14 +1,7 @@
 use borrow.Author.Needs.{needs}
-use native.Mathlib.Omega.{arith}
-use lib.ListN.{length-take, length-drop}
-use Rattle.rpc.specs.Laws.Puts.{puts, readies}
+use Rattle.rpc.specs.Laws.Sources.{puts-from, readies-from}
 use Rattle.rpc.proofs.put.put_call_body.Statement.{statement}
 use Rattle.rpc.proofs.put.put_call_body.Tie as tie
 
 pub put-call-body-spec : {M : Type 1} → statement M
-put-call-body-spec =
-    tie.close
-    (tie.spec
-    (search needs) (search needs) (search needs) (search needs) (search needs) (search needs) (search needs) (search needs)
-    (λ c κs. (search readies, simp (length-take, length-drop) (omega arith))) (search needs) (search needs) (search needs) (search needs)
-    (search needs) (λ c κs. (search readies, simp (length-take, length-drop) (omega arith))) (search needs) (λ c. search puts))
+put-call-body-spec = tie.close (tie.spec (λ c κs. search readies-from) (search needs) (λ c. search puts-from))

@@ -22,5 +22,5 @@ pub write-fragment-spec : {M : Type 1} → statement M
 write-fragment-spec =
     tie.close
     (tie.spec
-    returns returns-2 (search needs) (search needs) returns-3 (search needs) (search needs) (search needs) (search needs) (search needs)
+    returns returns-2 (search needs) (search needs) (search needs) returns-3 (search needs) (search needs) (search needs) (search needs) (search needs)
     (search needs) (search needs) (search needs) (search needs) (search needs) (search needs) (search needs) (search needs) returns-4)

@@ -3,8 +3,8 @@ use native.Mathlib.Omega.{arith}
 use mathlib.Core.Path.{_≡_}
 use Prim.Native.Nat.{_≤_, _-_, _+_, _*_}
 use lib.ListN.{length, length-set}
-use Rattle.answers.proofs.records.are_runs.Statement.{statement}
-use Rattle.answers.proofs.records.are_runs.Tie as tie
+use Rattle.answers.proofs.records.runs_at.Statement.{statement}
+use Rattle.answers.proofs.records.runs_at.Tie as tie
 
 abbrev Inv-loop : tie.InvT-loop
 Inv-loop line start message₀ s₀ message s = (length message ≡ length message₀)
@@ -15,8 +15,8 @@ abbrev μ-loop : tie.MeasureT-loop
 loop-less : tie.Need-loop-less Inv-loop μ-loop
 loop-less c = omega (arith, c .before .before .before .before .bytes-at .ensures .1 (omega arith))
 
-pub are-runs-spec : {M : Type 1} → statement M
-are-runs-spec =
+pub runs-at-spec : {M : Type 1} → statement M
+runs-at-spec =
     tie.close
     (tie.spec
     Inv-loop μ-loop (search needs) (search needs) (search needs) (search needs) (search needs) loop-less (search needs) (search needs)

@@ -1,0 +1,124 @@
+//! What needs the feature `std`, but for streams: writing to the end of a `Vec`, and errors as std knows them.
+#![cfg(feature = "std")]
+use std::error::Error;
+use std::io::{self, ErrorKind};
+
+use yugerzat::*;
+
+fn words(numbers: &[u32]) -> Vec<u8> {
+    numbers.iter().flat_map(|n| n.to_be_bytes()).collect()
+}
+
+/// Appends to vectors of several lengths, one of them over the limit of a message, and compares with what `write` writes.
+fn appends(
+    append: impl Fn(&mut Vec<u8>) -> Result<(), Refusal>,
+    write: impl Fn(&mut [u8], usize) -> Result<usize, Refusal>,
+) {
+    let mut due = [0xEE; 200];
+    let size = write(&mut due, 0).expect("there is room");
+    for before in [0, 1, 7, LIMIT + 3] {
+        let mut out = vec![0x55; before];
+        append(&mut out).expect("a vector has room");
+        assert!(out[..before].iter().all(|byte| *byte == 0x55));
+        assert_eq!(out[before..], due[..size]);
+    }
+}
+
+/// Tries to append what is too long.
+fn refuses(append: impl Fn(&mut Vec<u8>) -> Result<(), Refusal>) {
+    let mut out = vec![0x55; 3];
+    assert_eq!(append(&mut out), Err(Refusal::TooLong));
+    assert_eq!(out, [0x55; 3]);
+}
+
+#[test]
+fn values_are_appended_as_they_are_written() {
+    let gids = words(&[27, 29]);
+    let caller = AuthUnix { stamp: 7, machinename: b"abc", uid: 1000, gid: 100, gids: Words::new(&gids).unwrap() };
+    let verf = Auth { flavor: AuthFlavor::Short, body: &[9; 5] };
+    let call = Call { rpcvers: 2, prog: 100_003, vers: 3, proc: 6, cred: verf, verf };
+    let reply = Reply::Accepted { verf, stat: AcceptStat::ProgMismatch { low: 2, high: 4 } };
+    let name = Diropargs3 { dir: &[1; 7], name: b"notes" };
+    let change = Sattr3 { size: Some(9), atime: SetTime::ToServerTime, ..Sattr3::default() };
+    let attributes = Fattr3::read(&words(&[2, 1, 2, 3, 4, 5, 6, 7, 8, 9, 10, 11, 12, 13, 14, 15, 16, 17, 18, 19, 20]), 0);
+    let attributes = attributes.unwrap().value;
+    appends(|out| attributes.append(out), |out, start| attributes.write(out, start));
+    appends(|out| change.append(out), |out, start| change.write(out, start));
+    appends(|out| name.append(out), |out, start| name.write(out, start));
+    appends(|out| caller.append(out), |out, start| caller.write(out, start));
+    appends(|out| call.append(42, out), |out, start| call.write(42, out, start));
+    appends(|out| reply.append(42, out), |out, start| reply.write(42, out, start));
+    for body in [Body::Call(call), Body::Reply(reply)] {
+        let message = Message { xid: 42, body };
+        appends(|out| message.append(out), |out, start| message.write(out, start));
+    }
+    for message in [&b""[..], b"abc"] {
+        appends(|out| append_fragment(message, out), |out, start| write_fragment(message, out, start));
+    }
+}
+
+#[test]
+fn what_is_too_long_leaves_a_vector_as_it_was() {
+    let long = vec![0; LIMIT + 4];
+    let verf = Auth { flavor: AuthFlavor::Null, body: &long };
+    refuses(|out| Diropargs3 { dir: &long[..LIMIT], name: b"" }.append(out));
+    refuses(|out| AuthUnix { gids: Words::new(&long[..LIMIT]).unwrap(), ..AuthUnix::default() }.append(out));
+    refuses(|out| Call { verf, ..Call::default() }.append(42, out));
+    refuses(|out| Reply::Accepted { verf, stat: AcceptStat::Success }.append(42, out));
+    refuses(|out| Message { xid: 42, body: Body::Call(Call { verf, ..Call::default() }) }.append(out));
+    refuses(|out| append_fragment(&long, out));
+    refuses(|out| append_rewriting(Kind::U32, &long, 0, out).map(drop));
+}
+
+#[test]
+fn rewritings_are_appended() {
+    // A flag, a name and a header, all of them loose; the last one grows.
+    let cases = [
+        (Kind::Bool, words(&[0, 0xFFFF_FFFF]), words(&[1])),
+        (Kind::Nfsstring, words(&[0, 1, 0x6101_0203]), words(&[1, 0x6100_0000])),
+        (Kind::RpcMsg, words(&[0, 42, 2]), words(&[42, 0, 0, 0, 0, 0, 0, 0, 0, 0])),
+    ];
+    for (kind, message, due) in cases {
+        let mut out = vec![0x55; 3];
+        let done = append_rewriting(kind, &message, 4, &mut out).unwrap();
+        assert_eq!(done, Rewritten { next: message.len(), plain: false, size: due.len() });
+        assert_eq!((&out[..3], &out[3..]), (&[0x55; 3][..], &due[..]));
+        // What is in published form stays as it is.
+        let again = append_rewriting(kind, &out.clone(), 3, &mut out).unwrap();
+        assert_eq!(again, Rewritten { next: 3 + due.len(), plain: true, size: due.len() });
+        assert_eq!(out[3..3 + due.len()], out[3 + due.len()..]);
+
+        let before = out.clone();
+        assert_eq!(append_rewriting(kind, &message, message.len() + 1, &mut out), Err(Refusal::PastEnd));
+        let ends = append_rewriting(kind, &message, message.len(), &mut out);
+        assert_eq!(ends, Err(Refusal::Ends { place: message.len(), wanting: 4 }));
+        assert_eq!(out, before);
+    }
+}
+
+#[test]
+fn refusals_are_errors() {
+    let cases = [
+        (Refusal::Ends { place: 0, wanting: 1 }, ErrorKind::UnexpectedEof),
+        (Refusal::Undeclared { place: 0 }, ErrorKind::InvalidData),
+        (Refusal::TooLong, ErrorKind::InvalidData),
+        (Refusal::Outside, ErrorKind::InvalidInput),
+        (Refusal::NoRoom { needed: 4 }, ErrorKind::WriteZero),
+        (Refusal::StateDoesNotFit, ErrorKind::InvalidInput),
+        (Refusal::FragmentTooLong, ErrorKind::InvalidData),
+        (Refusal::ReplyCame, ErrorKind::InvalidData),
+        (Refusal::PastEnd, ErrorKind::InvalidInput),
+    ];
+    for (refusal, kind) in cases {
+        let error = io::Error::from(refusal);
+        assert_eq!((error.kind(), error.to_string()), (kind, refusal.to_string()));
+        // The refusal is not lost in it.
+        let inner = error.get_ref().and_then(|inner| inner.downcast_ref::<Refusal>());
+        assert_eq!(inner, Some(&refusal));
+    }
+    let fed = FeedError { refusal: Refusal::FragmentTooLong, used: 4 };
+    assert_eq!(fed.source().map(ToString::to_string), Some(Refusal::FragmentTooLong.to_string()));
+    assert_eq!(io::Error::from(fed).kind(), ErrorKind::InvalidData);
+    let unknown: Box<dyn Error> = "sattr".parse::<Kind>().unwrap_err().into();
+    assert_eq!(unknown.to_string(), "there is no kind of message of that name or number");
+}

@@ -1,0 +1,107 @@
+//! The relay of `examples/relay.rs` over what real programs sent: every call passes byte for byte, as plain. Only where
+//! fragments begin may change.
+//!
+//! The captures are those of the folder that CAPTURES names, or else of `captures` in the folder `shared` beside the
+//! repository. Where they are not there, the test says so and ends.
+#![cfg(feature = "std")]
+use std::path::{Path, PathBuf};
+use std::{env, fs};
+
+use yugerzat::{AuthFlavor, AuthUnix, Body, Message, Records};
+
+#[allow(dead_code)]
+#[path = "../examples/relay.rs"]
+mod relay;
+
+/// The files of one direction, `c2s` or `s2c`, in all folders of the captures.
+fn files(direction: &str) -> Option<Vec<PathBuf>> {
+    let folder = match env::var_os("CAPTURES") {
+        Some(folder) => PathBuf::from(folder),
+        None => Path::new(env!("CARGO_MANIFEST_DIR")).join("../../../shared/captures"),
+    };
+    if !folder.is_dir() && env::var_os("CAPTURES").is_none() {
+        println!("there are no captures at {}, so none were tried; CAPTURES can name others", folder.display());
+        return None;
+    }
+    let list = |folder: &Path| -> Vec<PathBuf> {
+        let entries = fs::read_dir(folder).unwrap_or_else(|e| panic!("{} cannot be read: {e}", folder.display()));
+        entries.map(|entry| entry.unwrap().path()).collect()
+    };
+    let runs = list(&folder).into_iter().filter(|path| path.is_dir());
+    let mut files: Vec<PathBuf> = runs.flat_map(|run| list(&run)).collect();
+    files.retain(|path| path.to_string_lossy().ends_with(&format!("-{direction}.bin")));
+    files.sort();
+    assert!(!files.is_empty(), "{} has no captures", folder.display());
+    Some(files)
+}
+
+/// The records of a stream, without the help of the library; and how many fragments there were.
+fn records(mut stream: &[u8]) -> (Vec<Vec<u8>>, usize) {
+    let (mut records, mut record, mut fragments) = (Vec::new(), Vec::new(), 0);
+    while !stream.is_empty() {
+        let header = u32::from_be_bytes([stream[0], stream[1], stream[2], stream[3]]);
+        let (fragment, rest) = stream[4..].split_at((header & 0x7FFF_FFFF) as usize);
+        record.extend(fragment);
+        stream = rest;
+        fragments += 1;
+        if header >> 31 == 1 {
+            records.push(std::mem::take(&mut record));
+        }
+    }
+    assert!(record.is_empty());
+    (records, fragments)
+}
+
+#[test]
+fn captured_calls_pass_the_relay_byte_for_byte() {
+    let (mut calls, mut pieces, mut callers) = (0, 0, 0);
+    let files = match files("c2s") {
+        Some(files) => files,
+        None => return,
+    };
+    for file in &files {
+        let stream = fs::read(file).unwrap();
+        let (due, fragments) = records(&stream);
+        let found: Vec<Vec<u8>> = Records::new(&stream[..]).map(Result::unwrap).collect();
+        assert_eq!(found, due, "{}", file.display());
+
+        let (mut clean, mut says) = (Vec::new(), Vec::new());
+        assert!(relay::relay(&stream[..], &mut clean, &mut says).unwrap(), "{}", file.display());
+        assert_eq!(String::from_utf8(says).unwrap(), "", "{}: none is loose or refused", file.display());
+        assert_eq!(records(&clean), (due.clone(), due.len()), "{}", file.display());
+
+        for record in &due {
+            match Message::read(record, 0).unwrap().value.body {
+                Body::Call(call) if call.cred.flavor == AuthFlavor::Unix => {
+                    assert!(AuthUnix::read(call.cred.body).unwrap().plain, "{}", file.display());
+                    callers += 1;
+                },
+                Body::Call(_) => {},
+                Body::Reply(_) => panic!("{}: a client sent a reply", file.display()),
+            }
+        }
+        calls += due.len();
+        pieces += fragments;
+    }
+    println!("{calls} calls in {pieces} fragments of {} files, {callers} of them by AUTH_UNIX: all passed", files.len());
+}
+
+#[test]
+fn captured_replies_are_written_as_they_were_read() {
+    let mut replies = 0;
+    let files = match files("s2c") {
+        Some(files) => files,
+        None => return,
+    };
+    for file in &files {
+        for record in records(&fs::read(file).unwrap()).0 {
+            let read = Message::read(&record, 0).unwrap();
+            assert!(read.plain && matches!(read.value.body, Body::Reply(_)), "{}", file.display());
+            let mut written = Vec::new();
+            read.value.append(&mut written).unwrap();
+            assert_eq!(written, record[..read.next], "{}", file.display());
+            replies += 1;
+        }
+    }
+    println!("{replies} replies of {} files: all headers came back", files.len());
+}
