@@ -40,7 +40,7 @@ fn is_missing(line: &[u8], start: usize) -> bool {
     text::word_end(line, start) == start
 }
 
-// The word at a place is missing, or it is not what stands there.
+// The word at a place is missing, or it is a wrong one. (The place is tested here too, so that the part of the line is inside it.)
 fn missing_or(
     line: &[u8],
     start: usize,

@@ -9,7 +9,7 @@ pub enum Copied {
     Unknown,
     // The reading was refused.
     Unread(Refusal),
-    // The reading was taken, and the writing refused: the refusal, and the reading's place after what was read and its mark.
+    // The reading was taken, and the writing refused: the refusal, the place after what was read, and whether that was in published form.
     Unwritten {
         refusal: Refusal,
         next: usize,

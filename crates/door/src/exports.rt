@@ -57,7 +57,7 @@ fn tell_copied(c: Copied, info: &mut [u64]) -> u32
 
 // Reads a message of a kind from place `at` of src, and writes it in published form from the start of out. 0: info holds the place after
 // what was read, 1 if that was in published form and else 0, and the count of bytes written. A refusal of the reading: info holds its
-// place, how many bytes it wants, and 0. A refusal of the writing: two zeros, and how many bytes refusal 5 needs.
+// place, how many bytes it wants, and 0. A refusal of the writing: two zeros, and how many bytes are needed (5), or 0.
 #[no_mangle]
 pub extern "C" fn yugerzat_rewrite(
     kind: u32,
@@ -75,7 +75,7 @@ pub extern "C" fn yugerzat_rewrite(
     tell_copied(c, info)
 }
 
-// A reading whose rewriting was refused: what has no room says how long it is.
+// The rewriting was refused: for lack of room alone (5), which tells its size and is what was asked; or otherwise, and then so is judging.
 fn tell_size(r: Refusal, next: usize, plain: bool, info: &mut [u64]) -> u32
     requires { ⌜ 3 ≤ length (now info) ⌝ }
     ensures { λ q. ⌜ Says sizeCode (sizeFigures next plain) r (now (info .entry)) q (now (info .exit)) ⌝ }
@@ -89,7 +89,7 @@ fn tell_size(r: Refusal, next: usize, plain: bool, info: &mut [u64]) -> u32
     0
 }
 
-// The number of what a copy into no room says of a reading, and its figures: what has no room is how long the rewriting is.
+// What judging tells, by a copy into an empty buffer: refusal 5 there tells the size of the rewriting.
 fn tell_judged(c: Copied, info: &mut [u64]) -> u32
     requires { ⌜ 3 ≤ length (now info) ⌝ }
     ensures { λ r. ⌜ Says judgedCode judgedFigures (viewCopied c) (now (info .entry)) r (now (info .exit)) ⌝ }
@@ -146,8 +146,8 @@ pub(crate) fn tell_wrote(w: Wrote, info: &mut [u64]) -> u32
     }
 }
 
-// Writes a message as a record's only fragment, from place `start` of out. 0: info holds the place after it. A refusal: how many bytes
-// refusal 5 needs, and 0 of the others.
+// Writes a message as a record's only fragment, from place `start` of out. 0: info holds the place after it. After
+// refusal 5 it holds how many bytes are needed, after the others 0.
 #[no_mangle]
 pub extern "C" fn yugerzat_fragment(
     message: &[u8],

@@ -1,6 +1,6 @@
 // The exported writers of single values. Each takes the figures that the reader of its kind gives, without the first two, and writes from
-// place `start` of out. 0: info holds the place after the value. A refusal: how many bytes refusal 5 needs, and 0 of the others. Where a list is too short the answer is 254, and where a
-// number does not fit its field 253; then nothing is touched.
+// place `start` of out. 0: info holds the place after the value. After refusal 5 it holds how many bytes are needed, after the others 0.
+// Where a list is too short the answer is 254, and where a number does not fit its field 253; then nothing is touched.
 ghost use mathlib.Core.Path.{_≡_};
 ghost use Prim.Native.Nat.{_≤_};
 ghost use lib.ListN.{length};

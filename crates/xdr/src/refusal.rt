@@ -78,7 +78,7 @@ impl Refusal {
         }
     }
 
-    // How many bytes a writing needs that refusal 5 answers; 0 of the others.
+    // How many bytes the writing needs, after refusal 5; 0 for the others.
     pub fn needed(self) -> usize
         ensures { λ r. ⌜ r ≡ neededOf self ⌝ }
     {

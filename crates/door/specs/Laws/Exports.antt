@@ -46,7 +46,7 @@ module _ (n k : ℕ) (b : Bool) (r : Refusal) (i i′ : List ℕ) where
       let g : eqb (numberOf r) 5 ≡ true = eq-eqb (numberOf r) 5 (sym e ∙ f) in
       record { number = sym (rw g); shown = record { list = s .list ∙ sym (rw g) } }
 
--- what was said of a size, of the copy
+-- what `tell_size` says, as what is said of the copy
 pub says-size : (x t : Copied) (r : Refusal) (n k : ℕ) (b : Bool) (i i′ : List ℕ) → x ≡ t → Says sizeCode (sizeFigures n b) r i k i′ → viewCopied t ≡ unmade r n b
     → Says judgedCode judgedFigures (viewCopied x) i k i′
 says-size x t r n k b i i′ e s h =

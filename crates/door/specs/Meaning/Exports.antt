@@ -44,7 +44,7 @@ pub record RewriteCalled (kind : ℕ) (s : List ℕ) (at : ℕ) (o i : List ℕ)
   pub room : 3 ≤ length i → Told kind s at o i r o′ i′
   pub short : length i < 3 → (r ≡ 254) × (o′ ≡ o) × (i′ ≡ i)
 
--- `yugerzat_judge`: what a copy into no buffer says of a reading; what has no room there is how long the rewriting is
+-- `yugerzat_judge`: by the copy into an empty buffer. Refusal 5 there is no refusal to judge: it tells the size of the rewriting
 abbrev pub sizeCode : Refusal → ℕ
 sizeCode r = cond (eqb (numberOf r) 5) 0 (numberOf r)
 
