@@ -1,6 +1,7 @@
 /*
- * A relay between an old client and a strict server, in small: a SETATTR call comes in whose size flag is FFFFFFFF.
- * It is taken as meant, reported as loose (not in published form), and passed on clean.
+ * A relay between an old client and a strict server, in small: a SETATTR call comes in whose size flag is FFFFFFFF, and
+ * whose credential has rubbish in the padding behind the machine's name. It is taken as meant, reported as loose (not
+ * in published form), and passed on clean.
  */
 #include <stdio.h>
 
@@ -10,7 +11,10 @@ static const uint8_t call[] = {
     0x00, 0x00, 0x00, 0x2A, 0x00, 0x00, 0x00, 0x00, /* xid 42, CALL */
     0x00, 0x00, 0x00, 0x02, 0x00, 0x01, 0x86, 0xA3, /* RPC version 2, program 100003: NFS */
     0x00, 0x00, 0x00, 0x03, 0x00, 0x00, 0x00, 0x02, /* version 3, procedure 2: SETATTR */
-    0x00, 0x00, 0x00, 0x00, 0x00, 0x00, 0x00, 0x00, /* no credential */
+    0x00, 0x00, 0x00, 0x01, 0x00, 0x00, 0x00, 0x18, /* the credential: AUTH_UNIX, 24 bytes */
+    0x00, 0x00, 0x00, 0x07, 0x00, 0x00, 0x00, 0x03, /* stamp 7; a name of 3 bytes, */
+    0x6F, 0x6C, 0x64, 0xFF, 0x00, 0x00, 0x03, 0xE8, /* "old", behind which is rubbish; uid 1000 */
+    0x00, 0x00, 0x00, 0x64, 0x00, 0x00, 0x00, 0x00, /* gid 100, no other gids */
     0x00, 0x00, 0x00, 0x00, 0x00, 0x00, 0x00, 0x00, /* no verifier */
     0x00, 0x00, 0x00, 0x04, 0x0A, 0x0B, 0x0C, 0x0D, /* the file's handle */
     0x00, 0x00, 0x00, 0x00, 0x00, 0x00, 0x00, 0x00, /* mode, uid: not set */
@@ -20,8 +24,9 @@ static const uint8_t call[] = {
     0x00, 0x00, 0x00, 0x00,                         /* no guard */
 };
 
-/* The clean call, which grows from its start. */
-static uint8_t out[sizeof call + 40];
+/* The clean credential, and the clean call. Neither is longer than it came. */
+static uint8_t credential[sizeof call];
+static uint8_t out[sizeof call];
 
 static int refused(const char *what, const struct yugerzat_refusal *refusal)
 {
@@ -32,15 +37,9 @@ static int refused(const char *what, const struct yugerzat_refusal *refusal)
     return 1;
 }
 
-/* Rewrites what stands at *at of the call, of any kind, to *end of out; both move on. */
-static int rewrite(enum yugerzat_kind kind, size_t *at, size_t *end)
+static const char *form(const struct yugerzat_reading *reading)
 {
-    struct yugerzat_rewriting done;
-    if (yugerzat_rewrite_kind(kind, call, sizeof call, *at, out + *end, sizeof out - *end, &done) != YUGERZAT_DONE)
-        return refused(yugerzat_kind_name(kind), &done.refusal);
-    *at = done.next;
-    *end += done.size;
-    return 0;
+    return reading->plain ? "plain" : "loose";
 }
 
 static void print(const char *title, const uint8_t *bytes, size_t count)
@@ -55,44 +54,47 @@ static void print(const char *title, const uint8_t *bytes, size_t count)
 int main(void)
 {
     struct yugerzat_rpc_msg header;
-    struct yugerzat_sattr3 change;
+    struct yugerzat_opaque_auth *cred = &header.body.call.cred;
+    struct yugerzat_auth_unix caller;
+    struct yugerzat_setattr3args arguments;
     struct yugerzat_reading reading;
     struct yugerzat_writing writing;
-    size_t at, end;
+    size_t at;
 
-    /* The header, read into a struct and written from it. The arguments begin where it ends. */
+    /* The header. The arguments begin where it ends. */
     if (yugerzat_get_rpc_msg(call, sizeof call, 0, &header, &reading) != YUGERZAT_DONE)
         return refused("header", &reading.refusal);
-    if (header.tag != YUGERZAT_TAG_CALL)
+    if (header.tag != YUGERZAT_TAG_CALL || header.body.call.prog != 100003 || header.body.call.vers != 3 ||
+        header.body.call.proc != YUGERZAT_PROCEDURE_SETATTR)
         return 1;
-    printf("call %lu: program %lu, version %lu, procedure %lu\n", (unsigned long)header.xid,
-        (unsigned long)header.body.call.prog, (unsigned long)header.body.call.vers,
-        (unsigned long)header.body.call.proc);
+    printf("call %lu: SETATTR, its header is %s\n", (unsigned long)header.xid, form(&reading));
+    at = reading.next;
+
+    /* The credential. Its body is opaque in the header, so it is read and cleaned by itself, and put back. */
+    if (cred->flavor == YUGERZAT_AUTH_UNIX) {
+        if (yugerzat_get_auth_unix(cred->body.bytes, cred->body.count, 0, &caller, &reading) != YUGERZAT_DONE)
+            return refused("credential", &reading.refusal);
+        printf("by uid %lu on %.*s, the credential is %s\n", (unsigned long)caller.uid, (int)caller.machinename.count,
+            (const char *)caller.machinename.bytes, form(&reading));
+        if (yugerzat_put_auth_unix(&caller, credential, sizeof credential, 0, &writing) != YUGERZAT_DONE)
+            return refused("credential, written", &writing.refusal);
+        cred->body.bytes = credential;
+        cred->body.count = writing.after;
+    }
+
+    /* The arguments. */
+    if (yugerzat_get_setattr3args(call, sizeof call, at, &arguments, &reading) != YUGERZAT_DONE)
+        return refused("arguments", &reading.refusal);
+    if (arguments.new_attributes.set_size)
+        printf("set the size to %llu, ", (unsigned long long)arguments.new_attributes.size);
+    printf("the arguments are %s\n", form(&reading));
+
+    /* The call as it leaves: the header, and the arguments behind it. */
     if (yugerzat_put_rpc_msg(&header, out, sizeof out, 0, &writing) != YUGERZAT_DONE)
         return refused("header, written", &writing.refusal);
-    at = reading.next;
-    end = writing.after;
-
-    /* The handle of the file. There is nothing to be known of it, so it needs no struct. */
-    if (rewrite(YUGERZAT_KIND_NFS_FH3, &at, &end))
-        return 1;
-
-    /* What is to be changed. */
-    if (yugerzat_get_sattr3(call, sizeof call, at, &change, &reading) != YUGERZAT_DONE)
-        return refused("change", &reading.refusal);
-    if (change.set_size)
-        printf("set the size to %llu\n", (unsigned long long)change.size);
-    printf("the change is %s\n", reading.plain ? "plain" : "loose");
-    if (yugerzat_put_sattr3(&change, out, sizeof out, end, &writing) != YUGERZAT_DONE)
-        return refused("change, written", &writing.refusal);
-    at = reading.next;
-    end = writing.after;
-
-    /* The guard: a flag, and a time if it is true. */
-    if (rewrite(YUGERZAT_KIND_BOOL, &at, &end) || (out[end - 1] && rewrite(YUGERZAT_KIND_NFSTIME3, &at, &end)))
-        return 1;
-
+    if (yugerzat_put_setattr3args(&arguments, out, sizeof out, writing.after, &writing) != YUGERZAT_DONE)
+        return refused("arguments, written", &writing.refusal);
     print("as it came:", call, sizeof call);
-    print("as it leaves:", out, end);
+    print("as it leaves:", out, writing.after);
     return 0;
 }

@@ -6,30 +6,6 @@
 
 /* ---- what is told besides values */
 
-static bool refusal_is(
-    const struct yugerzat_refusal *refusal, enum yugerzat_answer answer, size_t place, uint64_t wanting, size_t needed)
-{
-    return refusal->answer == answer && refusal->place == place && refusal->wanting == wanting &&
-           refusal->needed == needed;
-}
-
-/* A refusal of a reading, by its answer and the two figures that are told. */
-static bool refusal_of(const struct yugerzat_refusal *refusal, enum yugerzat_answer answer, const uint64_t *told)
-{
-    switch (answer) {
-    case YUGERZAT_ENDS: return refusal_is(refusal, answer, (size_t)told[0], told[1], 0);
-    case YUGERZAT_UNDECLARED: return refusal_is(refusal, answer, (size_t)told[0], 0, 0);
-    default: return refusal_is(refusal, answer, YUGERZAT_NO_PLACE, 0, 0);
-    }
-}
-
-static bool reading_of(const struct yugerzat_reading *reading, enum yugerzat_answer answer, const uint64_t *told)
-{
-    bool done = answer == YUGERZAT_DONE;
-    return reading->next == (done ? told[0] : 0) && reading->plain == (done && told[1] == 1) &&
-           refusal_of(&reading->refusal, answer, told);
-}
-
 static bool rewriting_of(const struct yugerzat_rewriting *rewriting, enum yugerzat_answer answer, const uint64_t *told)
 {
     bool done = answer == YUGERZAT_DONE;
@@ -39,11 +15,6 @@ static bool rewriting_of(const struct yugerzat_rewriting *rewriting, enum yugerz
     if (answer == YUGERZAT_NO_ROOM)
         return told[2] > 0 && refusal_is(&rewriting->refusal, answer, YUGERZAT_NO_PLACE, 0, (size_t)told[2]);
     return refusal_of(&rewriting->refusal, answer, told);
-}
-
-static bool writing_is(const struct yugerzat_writing *writing, enum yugerzat_answer answer, size_t after, size_t needed)
-{
-    return writing->after == after && refusal_is(&writing->refusal, answer, YUGERZAT_NO_PLACE, 0, needed);
 }
 
 /* ---- names */
@@ -481,22 +452,6 @@ static void test_values(void)
 }
 
 /* ---- values that were never read */
-
-/* Numbers that come out the same on every machine. */
-static uint64_t any_number(void)
-{
-    static uint64_t last = 42;
-    last = last * 6364136223846793005u + 1442695040888963407u;
-    return last >> 11;
-}
-
-static struct yugerzat_nfstime3 any_time(void)
-{
-    struct yugerzat_nfstime3 moment;
-    moment.seconds = (uint32_t)any_number();
-    moment.nseconds = (uint32_t)any_number();
-    return moment;
-}
 
 static void test_any_values(void)
 {

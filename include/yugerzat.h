@@ -13,12 +13,14 @@
  *
  * THE FUNCTIONS that programs call:
  *
- *     yugerzat_get_KIND         reads a message into a struct: rpc_msg, auth_unix, fattr3, sattr3, diropargs3
+ *     yugerzat_get_KIND         reads a message into a struct: rpc_msg, auth_unix, fattr3, sattr3, diropargs3, and the
+ *                               arguments and results of procedures, which stand in yugerzat_nfs.h
  *     yugerzat_put_KIND         writes a struct in published form: the same kinds; and yugerzat_put_fragment
  *     yugerzat_judge_kind       reads a message of any kind: is it plain, and how long is its rewriting?
  *     yugerzat_rewrite_kind     reads a message of any kind, and writes it in published form
  *     yugerzat_feed_run         assembles records from a stream
  *     yugerzat_choose_program   says what to do with a message that came in
+ *     yugerzat_procedure_kinds  says of which kinds the arguments and results of a procedure are
  *     yugerzat_strerror, yugerzat_kind_name, yugerzat_kind_by_name
  *
  * They are inline, over the library's own functions, which put numbers into lists where these fill structs. Those are
@@ -81,7 +83,7 @@
 #endif
 
 /* made by tools/generate: version */
-#define YUGERZAT_VERSION "0.2.0"
+#define YUGERZAT_VERSION "0.3.0"
 /* end of version */
 
 /* The compiler warns where an answer is not looked at. */
@@ -216,8 +218,20 @@ enum yugerzat_kind YUGERZAT_32_BITS {
     YUGERZAT_KIND_SATTR3 = 44,
     YUGERZAT_KIND_DIROPARGS3 = 45,
     YUGERZAT_KIND_SYMLINKDATA3 = 46,
+    YUGERZAT_KIND_STABLE_HOW = 47,
+    YUGERZAT_KIND_SATTRGUARD3 = 48,
+    YUGERZAT_KIND_GETATTR3ARGS = 49,
+    YUGERZAT_KIND_GETATTR3RES = 50,
+    YUGERZAT_KIND_SETATTR3ARGS = 51,
+    YUGERZAT_KIND_SETATTR3RES = 52,
+    YUGERZAT_KIND_LOOKUP3ARGS = 53,
+    YUGERZAT_KIND_LOOKUP3RES = 54,
+    YUGERZAT_KIND_READ3ARGS = 55,
+    YUGERZAT_KIND_READ3RES = 56,
+    YUGERZAT_KIND_WRITE3ARGS = 57,
+    YUGERZAT_KIND_WRITE3RES = 58,
 };
-#define YUGERZAT_KINDS 47 /* how many there are: their numbers are below this */
+#define YUGERZAT_KINDS 59 /* how many there are: their numbers are below this */
 /* end of kinds */
 
 typedef char yugerzat_kind_has_32_bits[sizeof(enum yugerzat_kind) == 4 ? 1 : -1];
@@ -275,6 +289,18 @@ static inline const char *yugerzat_kind_name(enum yugerzat_kind kind)
         "sattr3",
         "diropargs3",
         "symlinkdata3",
+        "stable_how",
+        "sattrguard3",
+        "getattr3args",
+        "getattr3res",
+        "setattr3args",
+        "setattr3res",
+        "lookup3args",
+        "lookup3res",
+        "read3args",
+        "read3res",
+        "write3args",
+        "write3res",
         /* end of kind names */
         /* clang-format on */
     };
@@ -292,6 +318,53 @@ YUGERZAT_MUST_USE static inline bool yugerzat_kind_by_name(const char *name, enu
         }
     }
     return false;
+}
+
+/* ------------------------------------------------------------------ procedures */
+
+/*
+ * The procedures of NFS version 3 (RFC 1813, section 3) whose arguments and results are kinds here, by the numbers that
+ * calls have for them. A later version of the library may know more.
+ */
+/* made by tools/generate: procedures */
+enum yugerzat_procedure YUGERZAT_32_BITS {
+    YUGERZAT_PROCEDURE_GETATTR = 1,
+    YUGERZAT_PROCEDURE_SETATTR = 2,
+    YUGERZAT_PROCEDURE_LOOKUP = 3,
+    YUGERZAT_PROCEDURE_READ = 6,
+    YUGERZAT_PROCEDURE_WRITE = 7,
+};
+/* end of procedures */
+
+/* The kinds of a procedure's arguments and results. False, and both are untouched, where it is another procedure. */
+YUGERZAT_MUST_USE static inline bool yugerzat_procedure_kinds(
+    uint32_t procedure, enum yugerzat_kind *arguments, enum yugerzat_kind *results)
+{
+    switch (procedure) {
+        /* made by tools/generate: procedure kinds */
+    case YUGERZAT_PROCEDURE_GETATTR:
+        *arguments = YUGERZAT_KIND_GETATTR3ARGS;
+        *results = YUGERZAT_KIND_GETATTR3RES;
+        return true;
+    case YUGERZAT_PROCEDURE_SETATTR:
+        *arguments = YUGERZAT_KIND_SETATTR3ARGS;
+        *results = YUGERZAT_KIND_SETATTR3RES;
+        return true;
+    case YUGERZAT_PROCEDURE_LOOKUP:
+        *arguments = YUGERZAT_KIND_LOOKUP3ARGS;
+        *results = YUGERZAT_KIND_LOOKUP3RES;
+        return true;
+    case YUGERZAT_PROCEDURE_READ:
+        *arguments = YUGERZAT_KIND_READ3ARGS;
+        *results = YUGERZAT_KIND_READ3RES;
+        return true;
+    case YUGERZAT_PROCEDURE_WRITE:
+        *arguments = YUGERZAT_KIND_WRITE3ARGS;
+        *results = YUGERZAT_KIND_WRITE3RES;
+        return true;
+        /* end of procedure kinds */
+    default: return false;
+    }
 }
 
 /* ------------------------------------------------------------------ the library's own functions */
@@ -1040,5 +1113,9 @@ YUGERZAT_MUST_USE static inline enum yugerzat_answer yugerzat_choose_program(
         chosen->refusal.needed = YUGERZAT_REPLY_BYTES;
     return answer;
 }
+
+/* ------------------------------------------------------------------ arguments and results of procedures */
+
+#include "yugerzat_nfs.h"
 
 #endif

@@ -59,6 +59,18 @@ const BODIES: &[Body] = &[
     ([100_005, 3, 2], &[&[]], &[&["bool"]]),
 ];
 
+/// The kinds that the arguments and the results of a procedure are as a whole, where there are such. The crate lacks these,
+/// but it has the kinds of the forms, which must end at the same place.
+const WHOLE: &[([u32; 3], [&str; 2])] = &[
+    ([100_003, 3, 1], ["getattr3args", "getattr3res"]),
+    ([100_003, 3, 2], ["setattr3args", "setattr3res"]),
+    ([100_003, 3, 3], ["lookup3args", "lookup3res"]),
+    ([100_003, 3, 6], ["read3args", "read3res"]),
+    ([100_003, 3, 7], ["write3args", "write3res"]),
+];
+const ARGUMENTS: usize = 0;
+const RESULTS: usize = 1;
+
 /// The lines of all captures below a folder.
 pub fn lines(folder: &Path) -> io::Result<Vec<String>> {
     let mut list = Vec::new();
@@ -89,7 +101,9 @@ fn connection(sent: &[u8], answered: &[u8], list: &mut Vec<String>) {
         if let Choice::HandOver { program, version, procedure, .. } = truth.choose(&call, false, &mut [0; 24]) {
             if let Some(body) = BODIES.iter().find(|body| body.0 == [program, version, procedure]) {
                 all_of(&mut truth, &call, arguments, body.1, list);
-                calls.insert(call[..4].to_vec(), body);
+                as_one(&mut truth, &call, arguments, body.0, ARGUMENTS, list);
+                let before = calls.insert(call[..4].to_vec(), body);
+                assert!(before.is_none(), "no two calls of a captured connection have one xid");
             }
         }
     }
@@ -98,6 +112,7 @@ fn connection(sent: &[u8], answered: &[u8], list: &mut Vec<String>) {
         list.push(Question::Choose { seen: false, room: 24, message: reply.clone() }.line());
         if let Some(body) = calls.get(&reply[..4]) {
             all_of(&mut truth, &reply, results, body.2, list);
+            as_one(&mut truth, &reply, results, body.0, RESULTS, list);
         }
     }
 }
@@ -143,6 +158,14 @@ fn all_of(truth: &mut Truth, record: &[u8], place: usize, forms: &[Form], list: 
     let mut at = place;
     for name in *form.expect("what a captured call or reply says has a form, and nothing stands behind it") {
         at = read(truth, record, at, name, list);
+    }
+}
+
+/// The rest of the record as one kind, where there is one for it.
+fn as_one(truth: &mut Truth, record: &[u8], place: usize, procedure: [u32; 3], which: usize, list: &mut Vec<String>) {
+    if let Some((_, kinds)) = WHOLE.iter().find(|(of, _)| *of == procedure) {
+        let next = read(truth, record, place, kinds[which], list);
+        assert_eq!(next, record.len(), "nothing stands behind what a captured call or reply says");
     }
 }
 

@@ -1,7 +1,7 @@
 //! One case asked of both sides.
 use crate::answers::{
     Fed, Refusal, State, Told, Took, CHOOSE_FIGURES, FEED_FIGURES, PART_FIGURES, READ_FIGURES, REPLY, STATE_FIGURES,
-    WRITE_FIGURES,
+    UNKNOWN_KIND, WRITE_FIGURES,
 };
 use crate::cases::{call_with, Case, Cut, Lending, Question, Room, BODY};
 use crate::lent::{bytes, list, Left};
@@ -33,10 +33,16 @@ impl Sides {
         Sides { truth: Truth::new(), proved: Proved::new(), tally: Tally::default(), said: Said::default() }
     }
 
+    /// Whether the proved side has as many kinds as there are shapes.
+    pub fn has_all_kinds(&self) -> bool {
+        let is_known = |kind: usize| self.proved.judge(kind as u32, &[], 0, &mut [0; READ_FIGURES]) != UNKNOWN_KIND;
+        is_known(KINDS.len() - 1) && !is_known(KINDS.len())
+    }
+
     /// What was due so far.
     pub fn tally(&self) -> Tally {
         let mut tally = self.tally.clone();
-        tally.unasked = self.truth.unasked;
+        tally.judged = self.truth.judged;
         tally
     }
 

@@ -26,13 +26,19 @@ fn ruled(length: usize) -> Vec<u8> {
     (0..length).map(|place| (place % 251) as u8).collect()
 }
 
-/// Such bytes, with words in front of them.
-fn headed(words: &[u32], length: usize) -> Vec<u8> {
+/// Such bytes, with words at some places.
+fn with(words: &[(usize, u32)], length: usize) -> Vec<u8> {
     let mut bytes = ruled(length);
-    for (place, word) in words.iter().enumerate() {
-        bytes[4 * place..4 * place + 4].copy_from_slice(&word.to_be_bytes());
+    for (place, word) in words {
+        bytes[*place..place + 4].copy_from_slice(&word.to_be_bytes());
     }
     bytes
+}
+
+/// Such bytes, with words in front of them.
+fn headed(words: &[u32], length: usize) -> Vec<u8> {
+    let words: Vec<_> = words.iter().enumerate().map(|(index, word)| (4 * index, *word)).collect();
+    with(&words, length)
 }
 
 fn digest(bytes: &[u8]) -> u64 {
@@ -97,6 +103,14 @@ impl Asked {
         }
         for length in [BOUND - 1, BOUND, BOUND + 1] {
             self.read("rpc_msg", &call(0, length), 0);
+        }
+        // READ's data behind success, no attributes, a count and the end of the file.
+        for length in [BOUND - 1, BOUND, BOUND + 1] {
+            self.read("read3res", &with(&[(0, 0), (4, 0), (12, 1), (16, BOUND as u32 - 20)], length), 0);
+        }
+        // WRITE's data behind a handle of four bytes, an offset, a count and FILE_SYNC.
+        for length in [BOUND - 1, BOUND, BOUND + 1] {
+            self.read("write3args", &with(&[(0, 4), (20, 2), (24, BOUND as u32 - 28)], length), 0);
         }
     }
 

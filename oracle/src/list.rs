@@ -10,10 +10,14 @@ use crate::cases::{
 };
 use crate::lines::hex;
 use crate::random::Random;
-use crate::shapes::{Shape, AUTH_UNIX, KINDS};
+use crate::shapes::{Shape, AUTH_UNIX, KINDS, NFSSTAT3};
 
 /// The list is the same each time.
 const SEED: u64 = 4506;
+
+/// The kinds that were there first share one row of random numbers. Each later one has its own, so that the lines
+/// before stay as they are.
+const FIRST_KINDS: usize = 47;
 
 /// Most messages of the list are short, so that a person can read them.
 const SHORT: usize = 160;
@@ -26,9 +30,12 @@ pub fn lines(captures: &Path) -> io::Result<Vec<String>> {
     let random = &mut Random::of(SEED, 0);
     let mut list: Vec<String> = WORKED.iter().chain(ODD_LINES).map(|line| String::from(*line)).collect();
     for kind in 0..KINDS.len() {
+        let mut own = Random::of(SEED, kind as u64);
+        let random = if kind < FIRST_KINDS { &mut *random } else { &mut own };
         readings(random, kind, &mut list);
         writings(random, kind, &mut list);
     }
+    list.extend(CALLS_AND_RESULTS.iter().map(|line| String::from(*line)));
     lengths(&mut list);
     choices(random, &mut list);
     streams(random, &mut list);
@@ -77,6 +84,25 @@ const WORKED: &[&str] = &[
     "choose 0 0 0000002A0000000000000002000186A3000000030000000000000000000000000000000000000000",
     "part 0011223344 1 3",
     "part 0011223344 3 3",
+];
+
+/// What is easily misread of the kinds that nfsserve lacks.
+const CALLS_AND_RESULTS: &[&str] = &[
+    // A guard whose flag is neither 0 nor 1, and one that is cut.
+    "read sattrguard3 0 800000000000000700000008",
+    "read sattrguard3 0 0000000100000007",
+    // Nothing stands behind a failure of GETATTR; 29 is no status.
+    "read getattr3res 0 00000001",
+    "read getattr3res 0 0000001D",
+    "read getattr3res 0 00000000",
+    // READ's count is not the length of its data, its eof is 2, and its padding is dirty.
+    "read read3res 0 0000000000000000000000050000000200000001AA000001",
+    // WRITE's stable is 3.
+    "read write3args 0 000000000000000000000007000000010000000300000000",
+    // WRITE's committed is 2, and 3; and what a success has stands behind a failure.
+    "read write3res 0 000000000000000000000000000000050000000201020304FFFFFFFF",
+    "read write3res 0 000000000000000000000000000000050000000301020304FFFFFFFF",
+    "read write3res 0 000000050000000000000000000000050000000201020304FFFFFFFF",
 ];
 
 /// Lines that have not the form of any, for every reason but two: no line here is too long, and none can spell too many
@@ -129,10 +155,10 @@ const ODD_LINES: &[&str] = &[
     "words 00 0 1048577x",
 ];
 
-fn made(random: &mut Random, kind: usize, style: Style) -> Vec<u8> {
+fn made(random: &mut Random, shape: &Shape, style: Style) -> Vec<u8> {
     loop {
         let mut bytes = Vec::new();
-        append_message(random, &KINDS[kind].1, style, &mut bytes, &mut Vec::new());
+        append_message(random, shape, style, &mut bytes, &mut Vec::new());
         if bytes.len() <= SHORT {
             return bytes;
         }
@@ -144,20 +170,21 @@ fn read_line(kind: usize, at: usize, message: &[u8]) -> String {
 }
 
 fn readings(random: &mut Random, kind: usize, list: &mut Vec<String>) {
+    let shape = &KINDS[kind].1;
     for style in [Style::Plain, Style::Loose] {
         for _ in 0..4 {
-            list.push(read_line(kind, 0, &made(random, kind, style)));
+            list.push(read_line(kind, 0, &made(random, shape, style)));
         }
         let mut behind = vec![0xA5; random.between(1, 9)];
         let at = behind.len();
-        behind.extend(made(random, kind, style));
+        behind.extend(made(random, shape, style));
         list.push(read_line(kind, at, &behind));
         behind.extend([0x5A; 3]);
         list.push(read_line(kind, at, &behind));
         list.push(read_line(kind, behind.len(), &behind));
         list.push(read_line(kind, behind.len() + 1, &behind));
     }
-    let whole = made(random, kind, Style::Loose);
+    let whole = made(random, shape, Style::Loose);
     let step = whole.len().div_ceil(14).max(1);
     for end in (0..whole.len()).step_by(step) {
         list.push(read_line(kind, 0, &whole[..end]));
@@ -166,21 +193,35 @@ fn readings(random: &mut Random, kind: usize, list: &mut Vec<String>) {
     for _ in 0..14 {
         let (mut bytes, mut words) = (Vec::new(), Vec::new());
         let style = Style::any(random);
-        append_message(random, &KINDS[kind].1, style, &mut bytes, &mut words);
+        append_message(random, shape, style, &mut bytes, &mut words);
         damage(random, 0, &mut bytes, &mut words);
         bytes.truncate(2 * SHORT);
         list.push(read_line(kind, 0, &bytes));
     }
-    if let Shape::Closed(declared) = KINDS[kind].1 {
-        // Every number that is declared, those beside it, and the sign bit.
-        for number in declared.iter().flat_map(|n| [n.wrapping_sub(1), *n, n + 1, n | 1 << 31]) {
-            list.push(read_line(kind, 0, &number.to_be_bytes()));
-        }
+    match shape {
+        Shape::Closed(declared) => {
+            list.extend(about(declared).map(|number| read_line(kind, 0, &number.to_be_bytes())));
+        },
+        Shape::Status { ok, .. } => {
+            // Before two words of zeros: so much any failure may have.
+            list.extend(about(NFSSTAT3).map(|number| read_line(kind, 0, &[number, 0, 0].map(u32::to_be_bytes).concat())));
+            // Failures, and numbers that are no status, before what a success has.
+            let success = made(random, ok, Style::Plain);
+            for number in [1_u32, 3, 70, 10_008, 10_009] {
+                list.push(read_line(kind, 0, &[&number.to_be_bytes(), &success[..]].concat()));
+            }
+        },
+        _ => {},
     }
 }
 
+/// Every number that is declared, those beside it, and the sign bit.
+fn about(declared: &[u32]) -> impl Iterator<Item = u32> + '_ {
+    declared.iter().flat_map(|n| [n.wrapping_sub(1), *n, n + 1, n | 1 << 31])
+}
+
 fn writings(random: &mut Random, kind: usize, list: &mut Vec<String>) {
-    let source = made(random, kind, Style::Loose);
+    let source = made(random, &KINDS[kind].1, Style::Loose);
     let mut line = |room: usize, start: usize| {
         list.push(format!("write {} 0 {} {room} {start}", KINDS[kind].0, hex(&source)));
     };
@@ -195,10 +236,11 @@ fn writings(random: &mut Random, kind: usize, list: &mut Vec<String>) {
 
 /// Lengths and counts about the bounds of the RFCs, about 2^31 and 2^32, and some long ones.
 fn lengths(list: &mut Vec<String>) {
-    let bodies: [(&str, &[usize]); 3] = [
+    let bodies: [(&str, &[usize]); 4] = [
         ("opaque", &[3, 4, 5, 255, 256, 399, 400, 401, 32_000]),
         ("nfs_fh3", &[63, 64, 65]),
         ("words", &[15, 16, 17, 8_000]),
+        ("getattr3args", &[63, 64, 65]),
     ];
     for (name, lengths) in bodies {
         for length in lengths {
@@ -208,12 +250,22 @@ fn lengths(list: &mut Vec<String>) {
             list.push(format!("read {name} 0 {length:08x}{}", &content[2..]));
         }
     }
-    for name in ["opaque", "nfsstring", "nfs_fh3", "words", "diropargs3"] {
+    // What stands before the length: of READ's and WRITE's data all other fields do.
+    for (name, before) in [
+        ("opaque", ""),
+        ("nfsstring", ""),
+        ("nfs_fh3", ""),
+        ("words", ""),
+        ("diropargs3", ""),
+        ("getattr3args", ""),
+        ("read3res", "00000000000000000000000500000001"),
+        ("write3args", "0000000000000000000000070000000500000002"),
+    ] {
         for length in
             [0x3FFF_FFFF_u32, 0x4000_0000, 0x7FFF_FFFF, 0x8000_0000, 0xFFFF_FFFB, 0xFFFF_FFFC, 0xFFFF_FFFD, u32::MAX]
         {
-            list.push(format!("read {name} 0 {length:08x}"));
-            list.push(format!("read {name} 2 abcd{length:08x}00000000"));
+            list.push(format!("read {name} 0 {before}{length:08x}"));
+            list.push(format!("read {name} 2 abcd{before}{length:08x}00000000"));
         }
     }
 }
@@ -297,21 +349,36 @@ fn example(list: &mut Vec<String>) {
     }
 }
 
-/// A message of each kind, plain and with pieces where it may have them, cut at every byte: the longest of a few, which has
-/// most of what it may have. A `write` line refuses what is cut likewise. Then the body of a call's credential: what is
-/// wanting there is wanting in the body.
+/// A message of each kind, plain and with pieces where it may have them, cut at every byte; of a result a success and a
+/// failure. A `write` line refuses what is cut likewise. Then the body of a call's credential: what is wanting there is
+/// wanting in the body.
 fn cut_everywhere(list: &mut Vec<String>) {
     // Numbers of their own, so that the lines before stay as they are.
     let random = &mut Random::of(SEED, 1);
     for (kind, (name, shape)) in KINDS.iter().enumerate() {
-        let few = (0..4).map(|_| with_pieces(random, shape, Style::Plain, CUT));
-        let message = few.max_by_key(Vec::len).expect("there are a few");
-        list.extend((0..=message.len()).map(|end| read_line(kind, 0, &message[..end])));
-        let (room, cut) = (message.len(), &message[..message.len() - 1]);
-        list.push(format!("write {name} 0 {} {room} 0", hex(cut)));
+        let mut own = Random::of(!SEED, kind as u64);
+        let random = if kind < FIRST_KINDS { &mut *random } else { &mut own };
+        let messages = match shape {
+            Shape::Status { ok, fail } => {
+                let mut result = |status: u32, arm| [&status.to_be_bytes(), &longest(random, arm)[..]].concat();
+                vec![result(0, ok), result(1, fail)]
+            },
+            _ => vec![longest(random, shape)],
+        };
+        for message in messages {
+            list.extend((0..=message.len()).map(|end| read_line(kind, 0, &message[..end])));
+            let (room, cut) = (message.len(), &message[..message.len() - 1]);
+            list.push(format!("write {name} 0 {} {room} 0", hex(cut)));
+        }
     }
     let body = with_pieces(random, &AUTH_UNIX, Style::Plain, CUT);
     for end in 0..=body.len() {
         list.push(Question::Choose { seen: false, room: 24, message: call_with(&body[..end]) }.line());
     }
+}
+
+/// The longest of a few messages, which has most of what it may have.
+fn longest(random: &mut Random, shape: &Shape) -> Vec<u8> {
+    let few = (0..4).map(|_| with_pieces(random, shape, Style::Plain, CUT));
+    few.max_by_key(Vec::len).expect("there are a few")
 }

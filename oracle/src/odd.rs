@@ -77,6 +77,12 @@ const THOUGHT_OF: &[&[u8]] = &[
     b"read bool i32 0 00000000",
     b"read symlinkdata3 0 -",
     b"read symlinkdata 0 -",
+    b"read stable_how 0 00000003",
+    b"read getattr3 0 00000001",
+    b"read write3res 0 -",
+    b"read write3re 0 -",
+    b"read write3res3 0 -",
+    b"read read3args read3res 0 -",
     b"read opaque 0 FfFfFfFf",
     b"feed 1",
     b"feed 1 ",
@@ -195,6 +201,10 @@ fn whole() -> Vec<Vec<u8>> {
         lines.push(format!("choose 0 24 0000002a00000000{}", &bytes[16..]));
         lines.push(format!("feed {BOUND} 80{}", &bytes[2..]));
         lines.push(format!("state {BOUND} 0 0 0 {BOUND} 1 0 {BOUND} {bytes}"));
+        // READ's and WRITE's data, which end what is read.
+        let (read, write) = (length - 20, length - 24);
+        lines.push(format!("read read3res 0 {}{read:08x}{}", "00000000".repeat(4), "5a".repeat(read)));
+        lines.push(format!("write write3args 0 {}{write:08x}{} {BOUND} 0", "00000000".repeat(5), "5a".repeat(write)));
     }
     lines.into_iter().map(String::into_bytes).collect()
 }

@@ -264,6 +264,55 @@ mod tests {
         ("part 0011223344 3 3", "outside -"),
     ];
 
+    /// Kinds that the crate lacks, as RFC 1813 has them.
+    const CALLS_AND_RESULTS: &[(&str, &str)] = &[
+        ("read stable_how 0 00000002", "took 4 plain 00000002"),
+        ("read stable_how 0 00000003", "refused 2 0"),
+        ("read sattrguard3 0 0000000000000007", "took 4 plain 00000000"),
+        ("read sattrguard3 0 800000000000000700000008", "took 12 loose 000000010000000700000008"),
+        ("read sattrguard3 0 0000000100000007", "refused 1 8 4"),
+        ("read getattr3args 0 00000001AA0000FF", "took 8 loose 00000001aa000000"),
+        // Nothing stands behind a failure of GETATTR.
+        ("read getattr3res 0 0000000100000000", "took 4 plain 00000001"),
+        ("read getattr3res 0 0000001D", "refused 2 0"),
+        ("read getattr3res 0 00000000", "refused 1 4 4"),
+        (
+            "read setattr3args 0 00000000000000000000000000000000000000000000000000000000FFFFFFFF0000000700000008",
+            "took 40 loose 00000000000000000000000000000000000000000000000000000000000000010000000700000008",
+        ),
+        ("read setattr3res 2 ABCD000027120000000000000000", "took 14 plain 000027120000000000000000"),
+        ("read lookup3args 0 00000001AA000000000000024142", "refused 1 8 2"),
+        (
+            "read lookup3res 0 0000000000000001AA0000000000000000000000",
+            "took 20 plain 0000000000000001aa0000000000000000000000",
+        ),
+        ("read lookup3res 0 0000000200000000", "took 8 plain 0000000200000000"),
+        ("read lookup3res 0 0000000300000000", "refused 2 0"),
+        ("read read3args 0 00000000000000000000000700000005", "took 16 plain 00000000000000000000000700000005"),
+        // READ's count is not the length of its data, its eof is 2, and its padding is dirty.
+        (
+            "read read3res 0 0000000000000000000000050000000200000001AA000001",
+            "took 24 loose 0000000000000000000000050000000100000001aa000000",
+        ),
+        ("read write3args 0 000000000000000000000007000000010000000300000000", "refused 2 16"),
+        (
+            "read write3args 0 000000000000000000000007000000010000000200000000",
+            "took 24 plain 000000000000000000000007000000010000000200000000",
+        ),
+        (
+            "read write3res 0 000000000000000000000000000000050000000201020304FFFFFFFF",
+            "took 28 plain 000000000000000000000000000000050000000201020304ffffffff",
+        ),
+        ("read write3res 0 000000000000000000000000000000050000000301020304FFFFFFFF", "refused 2 16"),
+        ("read write3res 0 0000000000000000000000000000000500000002010203", "refused 1 20 5"),
+        // What a success has, behind a failure: it is not looked at.
+        (
+            "read write3res 0 000000050000000000000000000000050000000301020304FFFFFFFF",
+            "took 12 plain 000000050000000000000000",
+        ),
+        ("write lookup3res 0 0000000200000000 9 1", "wrote 9 ee0000000200000000"),
+    ];
+
     /// What docs/SCOPE.md leaves to the program: docs/DECISIONS.md says how it was decided.
     const DECIDED: &[(&[u8], &str)] = &[
         (b"feed 1 -", "more 0; state 1 0 0 0 0 0 0; buffer ee"),
@@ -332,7 +381,7 @@ mod tests {
     #[test]
     fn worked_bytes() {
         let mut truth = Truth::new();
-        for (line, expected) in WORKED {
+        for (line, expected) in WORKED.iter().chain(CALLS_AND_RESULTS) {
             assert_eq!(answer(&mut truth, line.as_bytes()), *expected, "{line}");
         }
     }

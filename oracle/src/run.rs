@@ -7,6 +7,7 @@ use std::time::{Duration, Instant};
 
 use crate::cases::case;
 use crate::compare::{Difference, Sides};
+use crate::shapes::KINDS;
 use crate::tally::Tally;
 
 /// How many differences are shown, and how many characters of each of their parts.
@@ -30,6 +31,7 @@ struct Progress {
 
 /// Compares `count` cases and tells how many differ.
 pub fn run(count: u64, seed: u64) -> u64 {
+    assert!(Sides::new().has_all_kinds(), "the proved side has more or fewer kinds than {}", KINDS.len());
     let progress = Progress {
         count,
         next: AtomicU64::new(0),

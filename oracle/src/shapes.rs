@@ -23,6 +23,8 @@ pub enum Shape {
     Optional(&'static Shape),
     /// A tag, then the value of its arm.
     Union { arms: &'static [(u32, &'static Shape)], undeclared: Undeclared },
+    /// An `nfsstat3`, then the one value if it is 0, and the other if it is a failure.
+    Status { ok: &'static Shape, fail: &'static Shape },
 }
 
 impl Shape {
@@ -33,6 +35,7 @@ impl Shape {
             Shape::Record(fields) => fields.iter().any(|field| field.has_pieces()),
             Shape::Optional(value) => value.has_pieces(),
             Shape::Union { arms, .. } => arms.iter().any(|(_, arm)| arm.has_pieces()),
+            Shape::Status { ok, fail } => ok.has_pieces() || fail.has_pieces(),
             Shape::Word | Shape::Hyper | Shape::Eight | Shape::Flag | Shape::Closed(_) => false,
         }
     }
@@ -46,10 +49,11 @@ pub enum Undeclared {
     WrittenAs(&'static [u32]),
 }
 
-use Shape::{Closed, Eight, Flag, Hyper, Opaque, Optional, Record, Union, Word, WordList};
+use Shape::{Closed, Eight, Flag, Hyper, Opaque, Optional, Record, Status, Union, Word, WordList};
 
 const TWO: &[u32] = &[0, 1];
-const NFSSTAT3: &[u32] = &[
+/// The success comes first.
+pub const NFSSTAT3: &[u32] = &[
     0, 1, 2, 5, 6, 13, 17, 18, 19, 20, 21, 22, 27, 28, 30, 31, 63, 66, 69, 70, 71, 10001, 10002, 10003, 10004, 10005, 10006,
     10007, 10008,
 ];
@@ -85,9 +89,16 @@ const SET_WORD: Shape = Optional(&Word);
 const SET_SIZE3: Shape = Optional(&Hyper);
 const SET_TIME: Shape = Union { arms: &[(0, &NOTHING), (1, &NOTHING), (2, &TWO_WORDS)], undeclared: Undeclared::Refused };
 const SATTR3: Shape = Record(&[&SET_WORD, &SET_WORD, &SET_WORD, &SET_SIZE3, &SET_TIME, &SET_TIME]);
+const DIROPARGS3: Shape = Record(&[&Opaque, &Opaque]);
+const WCC_DATA: Shape = Record(&[&PRE_OP_ATTR, &POST_OP_ATTR]);
+const STABLE_HOW: Shape = Closed(&[0, 1, 2]);
+const SATTRGUARD3: Shape = Optional(&TWO_WORDS);
+const LOOKUP3RESOK: Shape = Record(&[&Opaque, &POST_OP_ATTR, &POST_OP_ATTR]);
+const READ3RESOK: Shape = Record(&[&POST_OP_ATTR, &Word, &Flag, &Opaque]);
+const WRITE3RESOK: Shape = Record(&[&WCC_DATA, &Word, &STABLE_HOW, &Eight]);
 
 /// The kinds in the order of kinds.txt; a kind's number is its index.
-pub static KINDS: [(&str, Shape); 47] = [
+pub static KINDS: [(&str, Shape); 59] = [
     ("bool", Flag),
     ("i32", Word),
     ("i64", Hyper),
@@ -124,7 +135,7 @@ pub static KINDS: [(&str, Shape); 47] = [
     ("wcc_attr", WCC_ATTR),
     ("pre_op_attr", PRE_OP_ATTR),
     ("post_op_attr", POST_OP_ATTR),
-    ("wcc_data", Record(&[&PRE_OP_ATTR, &POST_OP_ATTR])),
+    ("wcc_data", WCC_DATA),
     ("post_op_fh3", Optional(&Opaque)),
     ("set_mode3", SET_WORD),
     ("set_uid3", SET_WORD),
@@ -133,8 +144,36 @@ pub static KINDS: [(&str, Shape); 47] = [
     ("set_atime", SET_TIME),
     ("set_mtime", SET_TIME),
     ("sattr3", SATTR3),
-    ("diropargs3", Record(&[&Opaque, &Opaque])),
+    ("diropargs3", DIROPARGS3),
     ("symlinkdata3", Record(&[&SATTR3, &Opaque])),
+    ("stable_how", STABLE_HOW),
+    ("sattrguard3", SATTRGUARD3),
+    ("getattr3args", Opaque),
+    ("getattr3res", Status { ok: &FATTR3, fail: &NOTHING }),
+    ("setattr3args", Record(&[&Opaque, &SATTR3, &SATTRGUARD3])),
+    ("setattr3res", Status { ok: &WCC_DATA, fail: &WCC_DATA }),
+    ("lookup3args", DIROPARGS3),
+    ("lookup3res", Status { ok: &LOOKUP3RESOK, fail: &POST_OP_ATTR }),
+    ("read3args", Record(&[&Opaque, &Hyper, &Word])),
+    ("read3res", Status { ok: &READ3RESOK, fail: &POST_OP_ATTR }),
+    ("write3args", Record(&[&Opaque, &Hyper, &Word, &STABLE_HOW, &Opaque])),
+    ("write3res", Status { ok: &WRITE3RESOK, fail: &WCC_DATA }),
+];
+
+/// The kinds that nfsserve has no type for. The RFC decides what they are, and the model is their only judge.
+pub const LACKED: [&str; 12] = [
+    "stable_how",
+    "sattrguard3",
+    "getattr3args",
+    "getattr3res",
+    "setattr3args",
+    "setattr3res",
+    "lookup3args",
+    "lookup3res",
+    "read3args",
+    "read3res",
+    "write3args",
+    "write3res",
 ];
 
 /// The number of a kind.

@@ -1,7 +1,17 @@
-//! How often each answer of each function was due: it shows that the cases reach all of them.
+//! How often each answer of each function was due: it shows that the cases reach all of them. And who was the judge.
 use std::collections::{BTreeMap, BTreeSet};
 use std::fmt::{Display, Formatter, Result};
 use std::ops::AddAssign;
+
+/// Who judged the messages that were read or chosen for.
+#[derive(Clone, Copy, Default)]
+pub struct Judged {
+    pub by_crate: u64,
+    /// The crate was not asked, because it would have allocated too much: refusal 1 was due.
+    pub unasked: u64,
+    /// The crate lacks the kind: the model alone judged.
+    pub by_model: u64,
+}
 
 #[derive(Clone, Default)]
 pub struct Tally {
@@ -9,8 +19,7 @@ pub struct Tally {
     due: BTreeMap<(&'static str, u32), u64>,
     plain: u64,
     loose: u64,
-    /// How often the crate was not asked, because it would have allocated too much.
-    pub unasked: u64,
+    pub judged: Judged,
     /// What was cut at every byte, and how many counts of wanting bytes held in all.
     cut: BTreeSet<&'static str>,
     held: u64,
@@ -40,7 +49,9 @@ impl AddAssign for Tally {
         }
         self.plain += other.plain;
         self.loose += other.loose;
-        self.unasked += other.unasked;
+        self.judged.by_crate += other.judged.by_crate;
+        self.judged.unasked += other.judged.unasked;
+        self.judged.by_model += other.judged.by_model;
         self.cut.extend(other.cut);
         self.held += other.held;
     }
@@ -57,7 +68,10 @@ impl Display for Tally {
             }
             write!(f, " {answer}: {count}")?;
         }
-        write!(f, "\ntaken: plain {}, loose {}; the crate not asked: {}", self.plain, self.loose, self.unasked)?;
+        write!(f, "\ntaken: plain {}, loose {}", self.plain, self.loose)?;
+        let Judged { by_crate, unasked, by_model } = self.judged;
+        write!(f, "\nread: by the crate {by_crate}; the crate not asked, for a large claim: {unasked}")?;
+        write!(f, "; of kinds that it lacks, by the model alone: {by_model}")?;
         write!(f, "\ncut at every byte: {} sorts of message; counts that held: {}", self.cut.len(), self.held)
     }
 }

@@ -1,6 +1,6 @@
 """The text that every declared kind has: its answer, its public functions, and what follows from them."""
 
-from generator.known import camel, escaped
+from generator.known import camel, escaped, stem
 
 NEEDS = "(search needs)"
 
@@ -50,18 +50,36 @@ def most_of(field):
 
 
 class Kind:
-    """A kind that a topic declares. Its shape (record, optional value, enumeration) adds the text of its own."""
+    """A kind that a topic declares. Its shape (record, optional value, enumeration, result) adds the text of its own."""
+
+    # Whether kinds.txt has it. If not, it is a part of others: it has no public reader and writer.
+    public = True
 
     def __init__(self, declared, meaning, topic):
         self.declared = declared
-        self.name = declared.name
+        self.code_type = declared.name
+        self.name = stem(declared.name)  # as the functions and kinds.txt have it
         self.meaning = meaning
         self.topic = topic
-        self.camel = camel(declared.name)
+        self.camel = camel(self.name)
         self.answer = f"{self.camel}Read"
         self.type = escaped(declared.name)
         self.alias = self.camel
-        self.dashed = declared.name.replace("_", "-")
+        self.dashed = self.name.replace("_", "-")
+
+    # ------------------------------------------------ what others see
+
+    def passed_on(self):
+        """The names that the crate passes on."""
+        return [self.code_type, self.answer, f"read_{self.name}", f"write_{self.name}"] if self.public else [self.code_type]
+
+    def aliased(self):
+        """Short names for types whose cases the specifications name."""
+        return {self.alias: self.answer}
+
+    def goods(self):
+        """The laws that every value is in range."""
+        return [self.known.good]
 
     # ------------------------------------------------ the code that all have
 
@@ -80,7 +98,7 @@ class Kind:
     def answer_code(self):
         return f"""pub enum {self.answer} {{
     Refused(Refusal),
-    Took {{ {self.took(value=self.name, next="usize", plain="bool")} }},
+    Took {{ {self.took(value=self.code_type, next="usize", plain="bool")} }},
 }}
 
 impl {self.answer} {{
@@ -98,6 +116,9 @@ impl {self.answer} {{
         return f"""pub fn {self.name}_at(src: &[u8], at: usize) -> {self.answer}
     ensures {{ λ r. ⌜ view{self.camel} r ≡ {self.read_by} (now (src .entry)) at ⌝ }}"""
 
+    def public_code(self):
+        return [self.read_code(), self.write_code()] if self.public else []
+
     def read_code(self):
         return f"""pub fn read_{self.name}(src: &[u8], at: usize) -> {self.answer}
     ensures {{ λ r. ⌜ Answers {bracket(self.format)} (now (src .entry)) at (view{self.camel} r) ⌝ }}
@@ -111,7 +132,7 @@ impl {self.answer} {{
     def write_code(self):
         """Behind the tests of the order of refusals, the inner writer."""
         if self.known.codec:
-            return f"""pub fn write_{self.name}(v: {self.name}, out: &mut [u8], at: usize) -> Wrote
+            return f"""pub fn write_{self.name}(v: {self.code_type}, out: &mut [u8], at: usize) -> Wrote
     ensures {{ λ r. ⌜ Writes (exactly {self.meaning}) [] v at (now (out .entry)) (viewWrote r) (now (out .exit)) ⌝ }}
 {{
     let w = room(out.len(), at, {self.known.size_of("v")});
@@ -121,7 +142,7 @@ impl {self.answer} {{
     put_{self.name}(v, &mut out[at..]);
     w
 }}"""
-        return f"""pub fn write_{self.name}(src: &[u8], x: {self.name}, out: &mut [u8], at: usize) -> Wrote
+        return f"""pub fn write_{self.name}(src: &[u8], x: {self.code_type}, out: &mut [u8], at: usize) -> Wrote
     ensures {{ λ r. ⌜ Writes {self.meaning} (now (src .entry)) x at (now (out .entry)) (viewWrote r) (now (out .exit)) ⌝ }}
 {{
     let w = place(src.len(), {self.name}_inside(src, x), {self.name}_size(x), out.len(), at);
@@ -134,21 +155,21 @@ impl {self.answer} {{
 
     def size_code(self):
         """The constant of a fixed kind, and the contract that holds it to the kind."""
-        return f"""impl {self.name} {{
+        return f"""impl {self.code_type} {{
     pub const SIZE: usize = {self.known.fixed};
 
     pub fn size() -> usize
         ensures {{ λ r. ⌜ OfSize r {self.meaning} ⌝ }}
     {{
-        {self.name}::SIZE
+        {self.code_type}::SIZE
     }}
 }}"""
 
     def put_head(self):
         if self.known.codec:
-            return f"""pub fn put_{self.name}(v: {self.name}, out: &mut [u8])
+            return f"""pub fn put_{self.name}(v: {self.code_type}, out: &mut [u8])
     ensures {{ λ _. ⌜ now (out .exit) ≡ laid ({self.meaning} .kind .write v) (now (out .entry)) ⌝ }}"""
-        return f"""pub fn put_{self.name}(src: &[u8], x: {self.name}, out: &mut [u8])
+        return f"""pub fn put_{self.name}(src: &[u8], x: {self.code_type}, out: &mut [u8])
     ensures {{ λ _. ⌜ now (out .exit) ≡ laidOf {self.meaning} (now (src .entry)) x (now (out .entry)) ⌝ }}"""
 
     def tests_code(self):
@@ -168,13 +189,13 @@ impl {self.answer} {{
 
     def size_head(self):
         if self.known.codec:
-            return f"""pub fn {self.name}_size(v: {self.name}) -> usize
+            return f"""pub fn {self.name}_size(v: {self.code_type}) -> usize
     ensures {{ λ r. ⌜ r ≡ length ({self.meaning} .kind .write v) ⌝ }}"""
-        return f"""pub fn {self.name}_size(x: {self.name}) -> usize
+        return f"""pub fn {self.name}_size(x: {self.code_type}) -> usize
     ensures {{ λ r. ⌜ r ≡ {lower(self.meaning)}Size x ⌝ }}"""
 
     def inside_head(self):
-        return f"""pub fn {self.name}_inside(src: &[u8], x: {self.name}) -> bool
+        return f"""pub fn {self.name}_inside(src: &[u8], x: {self.code_type}) -> bool
     ensures {{ λ r. ⌜ r ≡ {self.meaning} .held .inside (now (src .entry)) x ⌝ }}"""
 
     # ------------------------------------------------ the specifications that all have
@@ -215,7 +236,7 @@ lost-{self.meaning} A = lost-at lost{self.camel}"""
 
     def good_of(self, field):
         """The law of a field's range. That of a kind with pieces has the source, unless it stands in the same module."""
-        own = field.name in {declared.name for declared in self.topic.declared}
+        own = field.type in {declared.name for declared in self.topic.declared}
         return field.good if field.codec or own else f"({field.good} s h k)"
 
     def small_law(self):
@@ -230,6 +251,12 @@ lost-{self.meaning} A = lost-at lost{self.camel}"""
     # ------------------------------------------------ the proofs that all have
 
     def common_proofs(self):
+        proofs = self.public_proofs() if self.public else {}
+        if self.known.fixed:
+            proofs[f"{self.code_type}/size"] = Proof([f"(λ c. of-size {self.meaning}-fixed)"], name="size")
+        return proofs
+
+    def public_proofs(self):
         proofs = {f"read_{self.name}": Proof("tie.spec " + " ".join(["(search reads)"] * 4 + ["(λ c. search reads)"] * 2))}
         m, good = self.meaning, self.known.good
         if not self.known.codec:
@@ -247,8 +274,6 @@ lost-{self.meaning} A = lost-at lost{self.camel}"""
                 needs(4) + [f"(λ c. search (plain-off {m} {m}-small))"] + ["(λ c. search rooms)"] * 2 + needs(3)
                 + [f"(λ c. search (plain-on {m} {m}-small, {good}))"]
             )  # fmt: skip
-        if self.known.fixed:
-            proofs[f"{self.name}/size"] = Proof([f"(λ c. of-size {m}-fixed)"], name="size")
         return proofs
 
 

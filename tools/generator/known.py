@@ -1,7 +1,7 @@
 """What the text of a kind says of the kinds of its fields, and where each name that it uses is declared."""
 
 import re
-from dataclasses import dataclass
+from dataclasses import dataclass, replace
 
 # Words of the specifications' language, which a name there may not be.
 RESERVED = {"abbrev", "as", "data", "in", "let", "mod", "module", "pub", "record", "ruleset", "use", "where"}
@@ -14,6 +14,11 @@ def escaped(name):
 
 def camel(name):
     return "".join(part[:1].upper() + part[1:] for part in re.split("[_-]", name))
+
+
+def stem(name):
+    """The name of a type as functions and kinds.txt have it: that of READ3res is read3res."""
+    return name.lower()
 
 
 @dataclass(frozen=True)
@@ -32,6 +37,7 @@ class Known:
     good: str  # the law that every value of the type is in range
     least: int = 0  # if the bytes vary: from how many
     most: int = 0  # to how many
+    defined: str = ""  # what definitions call the meaning, if they have another name for it
 
     @property
     def format(self):
@@ -88,6 +94,9 @@ ITEMS = {
     "opaque": Known("opaque", "Piece", "PieceRead", True, False, "bytes", "List ℕ", "Piece", 0, "piece-good", 4, 1 << 21),
 }
 
+# Read, written and proved as a hyper.
+VERIFIER = replace(ITEMS["u64"], defined="verifier")
+
 # Where the names stand that every text may use.
 XDR = "Rattle.xdr.specs."
 SPECS = {
@@ -105,11 +114,13 @@ SPECS = {
     XDR + "Meaning.Bytes": "Bytes",
     XDR + "Meaning.Kind": "Codec",
     XDR + "Meaning.Combinators": "Seen means undeclared among",
-    XDR + "Meaning.Codecs": "⨾ mapped",
-    XDR + "Meaning.Items": "word hyper flag closed",
+    XDR + "Meaning.Codecs": "⨾ mapped void",
+    XDR + "Meaning.Items": "word hyper verifier flag closed",
     XDR + "Meaning.Format": "Format Renaming exactly ⨟ named optional flagged ifFormat",
     XDR + "Meaning.Formats": "bytes pieceHeld",
     XDR + "Meaning.Cases": "Cases maybe maybeHeld caseNames",
+    XDR + "Meaning.Status": "Result ok failed Arms onStatus",
+    XDR + "Meaning.Programs": "Procedure procedure AnswersFor AnswersBy",
     XDR + "Meaning.Pieces": "isInside sizeUpTo",
     XDR + "Meaning.Sizes": "OfSize",
     XDR + "Meaning.Public": "Answers Writes output laid laidOf",
@@ -130,6 +141,9 @@ SPECS = {
     XDR + "Laws.Lays": "sums lays rooms size-is fixed-off fixed-on",
     XDR + "Laws.Fields": "fixed-writer codec-writer pair-writer pair-sized named-sized Lays lays-of lays-codec lays-none lays-both lays-named lays-all lays-plain marked",
     XDR + "Laws.Optional": "Between maybe-plan maybe-between maybe-within held-within Optional OptionalHeld lays-void lays-value none-bytes none-size some-word some-hyper some-size option-writer optionSize void-inside value-inside held-void held-value held-sized void-size value-size",
+    XDR + "Laws.Status": "OnStatus ok-inside failed-inside alone-inside ok-lays failed-lays alone-lays resultSize status-sized ok-size failed-size alone-size ok-fixed failed-fixed status-within",
+    XDR + "Laws.Programs": "for-lost for-took by-procedure by-none",
+    "Rattle.nfsattr.specs.Laws.Status": "nfsstat-lost nfsstat-took",
     XDR + "declared.piece.Piece": "Piece",
     XDR + "declared.refusal.Refusal": "Refusal",
     XDR + "declared.refusal.Refusal.the-variants": "PastEnd",
@@ -165,7 +179,7 @@ class Words:
 
 
 # What the contracts call the parameters of a function.
-PARAMETERS = {"at", "out", "src", "self", "f", "r", "v", "x"}
+PARAMETERS = {"at", "out", "procedure", "src", "self", "f", "r", "v", "x"}
 
 
 def operator(name):
@@ -173,7 +187,8 @@ def operator(name):
 
 
 def spec_names(text):
-    """The names that a text of the specifications uses, in order: not the fields and cases that stand behind a dot."""
+    """The names that a text of the specifications uses, in order: not the fields and cases that stand behind a dot, or are set."""
     text = re.sub(r"--.*", "", text)
+    text = re.sub(r"([{;]\s*)[«\w′·-]+»?(?= = )", r"\1", text)
     text = re.sub(r"\.(?=[«\w])[«\w′·-]+»?", " ", text)
     return list(dict.fromkeys(re.findall(r"[^\s(){};,.]+", text)))

@@ -25,12 +25,29 @@ class Field:
 
 @dataclass(frozen=True)
 class Declared:
-    """What a file declares: an alias, an enumeration, a record, or a value that a flag says is there."""
+    """What a file declares: an alias, an enumeration, a record, a value that a flag says is there, a union on a status, or a program."""
 
-    shape: str  # alias, enum, struct or optional
+    shape: str  # alias, enum, struct, optional, status or program
     name: str
-    parts: tuple  # of an enumeration: (name, number); otherwise fields
+    parts: tuple  # of an enumeration: (name, number); of a program: its procedures; otherwise fields, of a union on a status those behind success and a failure
     comment: str
+
+
+@dataclass(frozen=True)
+class Procedure:
+    name: str
+    number: int
+    arguments: str  # a type
+    results: str
+
+
+def types_of(declared):
+    """The types that a declaration speaks of."""
+    if declared.shape == "enum":
+        return []
+    if declared.shape == "program":
+        return [type for part in declared.parts for type in (part.arguments, part.results)]
+    return [part.type for part in declared.parts]
 
 
 @dataclass(frozen=True)
@@ -104,7 +121,7 @@ def read_topic(root, path):
 
 
 def declaration(reader):
-    kind = reader.take("typedef", "enum", "struct", "union")
+    kind = reader.take("typedef", "enum", "struct", "union", "program")
     comment = reader.comment
     if kind == "typedef":
         field = read_field(reader)
@@ -114,10 +131,12 @@ def declaration(reader):
         parts = read_cases(reader)
     elif kind == "struct":
         parts = read_fields(reader)
+    elif kind == "program":
+        parts = read_program(reader)
     else:
-        parts = (read_optional(reader),)
+        kind, parts = read_union(reader)
     reader.take(";")
-    return Declared({"union": "optional"}.get(kind, kind), name, tuple(parts), comment)
+    return Declared(kind, name, tuple(parts), comment)
 
 
 def read_cases(reader):
@@ -140,19 +159,55 @@ def read_fields(reader):
     return fields
 
 
-def read_optional(reader):
-    """A union on a flag whose FALSE has nothing: the only union so far."""
-    for token in ("switch", "(", "bool"):
+def read_program(reader):
+    """The procedures of a program (RFC 5531, section 12), which has one version."""
+    for token in ("{", "version"):
         reader.take(token)
     reader.word()
-    for token in (")", "{", "case", "TRUE", ":"):
+    reader.take("{")
+    parts = []
+    while reader.peek() != "}":
+        results, name = reader.word(), reader.word()
+        reader.take("(")
+        arguments = reader.word()
+        for token in (")", "="):
+            reader.take(token)
+        parts.append(Procedure(name, reader.number(), arguments, results))
+        reader.take(";")
+    for token in ("}", "="):
         reader.take(token)
-    field = read_field(reader)
-    if reader.take("case", "default") == "case":
-        reader.take("FALSE")
-    for token in (":", "void", ";", "}"):
+    reader.number()
+    for token in (";", "}", "="):
         reader.take(token)
-    return field
+    reader.number()
+    return parts
+
+
+def read_union(reader):
+    """A union on a flag whose FALSE has nothing, or on the status of a result. There is no other so far."""
+    for token in ("switch", "("):
+        reader.take(token)
+    tag = reader.take("bool", "nfsstat3")
+    reader.word()
+    for token in (")", "{", "case", "TRUE" if tag == "bool" else "NFS3_OK", ":"):
+        reader.take(token)
+    parts = [read_field(reader)]
+    if tag == "bool":
+        shape = "optional"
+        if reader.take("case", "default") == "case":
+            reader.take("FALSE")
+        reader.take(":")
+    else:
+        shape = "status"
+        for token in ("default", ":"):
+            reader.take(token)
+        if reader.peek() != "void":
+            parts.append(read_field(reader))
+    if shape == "optional" or len(parts) == 1:
+        for token in ("void", ";"):
+            reader.take(token)
+    reader.take("}")
+    return shape, parts
 
 
 def read_field(reader):

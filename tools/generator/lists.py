@@ -8,6 +8,7 @@ import re
 import textwrap
 
 from generator.crates import Crates
+from generator.known import stem
 from generator.language import read_topic
 from generator.table import Trouble, read_table, read_text
 
@@ -18,6 +19,7 @@ COPIERS = (
     ("items", "Each item, copied.", ("xdr",)),
     ("messages", "Each kind of RFC 5531, copied.", ("rpc",)),
     ("files", "Each kind of RFC 1813, copied.", ("nfsattr", "nfs")),
+    ("procedures", "The arguments and results of procedures of RFC 1813, copied.", ("nfsfile", "nfsdata")),
 )
 
 # The kinds that take no word 00000002, so that their second message is of zeros: bool, and the closed enumerations without a 2. Those of
@@ -65,6 +67,7 @@ def outputs(root):
     made += worked_answers(facts, order)
     made += worked_kinds(facts, order, BY_ZERO | without_two(root))
     made += header_lists(kinds)
+    made += procedure_lists(root)
     made += versions(root)
     made.append(("rust/yugerzat/src/kind.rs", "kinds", rust_list(kinds)))
     made.append(("crates/answers/src/kinds.rt", "kinds", words_list(kinds)))
@@ -410,6 +413,28 @@ def header_lists(kinds):
     return [
         (C_HEADER, "kinds", lines("enum yugerzat_kind YUGERZAT_32_BITS {", *rows, "};", count)),
         (C_HEADER, "kind names", lines(*names)),
+    ]
+
+
+def procedure_lists(root):
+    """The procedures by their numbers, and the kinds of their arguments and results."""
+    declared = [one for path in sorted(root.glob("crates/*/rfc/*.x")) for one in read_topic(root, path).declared if one.shape == "program"]
+    numbers, cases, rows = [], [], []
+    for part in (part for one in declared for part in one.parts):
+        name = part.name.split("_", 1)[-1]
+        arguments, results = stem(part.arguments), stem(part.results)
+        numbers.append(f"    YUGERZAT_PROCEDURE_{name} = {part.number},")
+        cases += [
+            f"    case YUGERZAT_PROCEDURE_{name}:",
+            f"        *arguments = YUGERZAT_KIND_{arguments.upper()};",
+            f"        *results = YUGERZAT_KIND_{results.upper()};",
+            "        return true;",
+        ]
+        rows.append(f'    {name.capitalize()} "{name}" {part.number} {camel_case(arguments)} {camel_case(results)},')
+    return [
+        (C_HEADER, "procedures", lines("enum yugerzat_procedure YUGERZAT_32_BITS {", *numbers, "};")),
+        (C_HEADER, "procedure kinds", lines(*cases)),
+        ("rust/yugerzat/src/procedure.rs", "procedures", lines("procedures! {", *rows, "}")),
     ]
 
 

@@ -15,17 +15,20 @@ class Optional(Kind):
         self.value = declared.parts[0].name
         self.value_type = type
         message = self.type if field.codec else f"Option {bracket(field.message)}"
-        self.known = Known(self.name, self.name, self.answer, True, field.codec, meaning, message, self.type, 0, f"{meaning}-good", 4, 4 + most_of(field))
+        self.known = Known(self.name, self.code_type, self.answer, True, field.codec, meaning, message, self.type, 0, f"{meaning}-good", 4, 4 + most_of(field))
         self.variable = "v" if field.codec else "x"
         self.cases = lower(meaning) + "Cases"
         self.variants = f"{lower(meaning)}Is"
+
+    def aliased(self):
+        return {**super().aliased(), self.variants: self.code_type}
 
     def code(self):
         parts = [self.enum_code(), self.answer_code(), self.at_code()]
         if not self.known.codec:
             parts.append(self.inside_code())
         links = [] if self.number else [self.link_code()]
-        return parts + [self.sum_code(), *links, self.put_code(), self.read_code(), self.write_code()]
+        return parts + [self.sum_code(), *links, self.put_code(), *self.public_code()]
 
     @property
     def number(self):
@@ -33,7 +36,7 @@ class Optional(Kind):
 
     def enum_code(self):
         comment = f"// {self.declared.comment}\n" if self.declared.comment else ""
-        return f"{comment}pub enum {self.name} {{\n    Void,\n    {self.value}({self.value_type}),\n}}"
+        return f"{comment}pub enum {self.code_type} {{\n    Void,\n    {self.value}({self.value_type}),\n}}"
 
     def at_code(self):
         field = self.field
@@ -45,19 +48,19 @@ class Optional(Kind):
         return {self.answer}::Refused(r1.refusal());
     }};
     if !follows {{
-        return {self.answer}::Took {{ value: {self.name}::Void, next: n1, plain: p1 }};
+        return {self.answer}::Took {{ value: {self.code_type}::Void, next: n1, plain: p1 }};
     }}
     let r2 = {field.reader}(src, n1);
     let {field.answer}::Took {{ value: v, next: n2{plain} }} = r2 else {{
         return {self.answer}::Refused(r2.refusal());
     }};
-    {self.answer}::Took {{ value: {self.name}::{self.value}(v), next: n2, plain: {mark} }}
+    {self.answer}::Took {{ value: {self.code_type}::{self.value}(v), next: n2, plain: {mark} }}
 }}"""
 
     def match_code(self, void, some, binder="f"):
         return f"""    match {self.variable} {{
-        {self.name}::Void => {void},
-        {self.name}::{self.value}({binder}) => {some},
+        {self.code_type}::Void => {void},
+        {self.code_type}::{self.value}({binder}) => {some},
     }}"""
 
     def inside_code(self):
@@ -94,7 +97,7 @@ class Optional(Kind):
         made = "Codec" if self.known.codec else f"Format (Option {bracket(self.field.message)})"
         how = "maybe" if self.known.codec else "maybeHeld"
         return [
-            f"-- {self.name}\nabbrev pub {start}To : Option {bracket(held)} → {T}\n{start}To none = {case}\n{start}To (some f) = {some[1:-1]}",
+            f"-- {self.code_type}\nabbrev pub {start}To : Option {bracket(held)} → {T}\n{start}To none = {case}\n{start}To (some f) = {some[1:-1]}",
             f"abbrev pub {start}From : {T} → Option {bracket(held)}\n{start}From {case} = none\n{start}From {some} = some f",
             f"pub {m}-from-to : (x : Option {bracket(held)}) → {start}From ({start}To x) ≡ x\n{m}-from-to none = refl\n{m}-from-to (some f) = refl",
             f"pub {m}-to-from : (y : {T}) → {start}To ({start}From y) ≡ y\n{m}-to-from {case} = refl\n{m}-to-from {some} = refl",
@@ -107,7 +110,7 @@ class Optional(Kind):
     def laws(self):
         m, T, field = self.meaning, self.type, self.field
         if self.known.codec:
-            plan = f"-- {self.name}\nabbrev pub {m}-plan : ByPlan {m}\nunfolding {m}\n{m}-plan = maybe-plan {field.meaning} {self.cases}"
+            plan = f"-- {self.code_type}\nabbrev pub {m}-plan : ByPlan {m}\nunfolding {m}\n{m}-plan = maybe-plan {field.meaning} {self.cases}"
             within = f"pub {m}-within : Within 0 ({m} .kind)\nunfolding {m}\n{m}-within = maybe-within {field.meaning} {self.cases} {field.within}"
             own = [
                 f"pub {m}-optional : Optional {field.meaning} {self.cases} {m}\nunfolding {m}\n{m}-optional = record {{ is = refl }}",
@@ -117,7 +120,7 @@ unfolding {m}
                 self.small_law(),
             ]
         else:
-            plan = f"-- {self.name}\nabbrev pub {m}-plan : Planned ({m} .held .read)\nunfolding {m}\n{m}-plan = plan (optionally (at {bracket(field.format)})) _"
+            plan = f"-- {self.code_type}\nabbrev pub {m}-plan : Planned ({m} .held .read)\nunfolding {m}\n{m}-plan = plan (optionally (at {bracket(field.format)})) _"
             within = f"""pub {m}-within : Within 0 ({m} .codec .kind)
 unfolding {m}
 {m}-within = held-within {field.meaning} {self.cases} {field.within}"""

@@ -23,13 +23,20 @@ class Record(Kind):
         plain = any(field.plain for field in fields)
         message = self.type if codec else camel(meaning)
         least, most = sum(map(least_of, fields)), sum(map(most_of, fields))
-        self.known = Known(self.name, self.name, self.answer, plain, codec, meaning, message, self.type, fixed, f"{meaning}-good", least, most)
+        self.known = Known(self.name, self.code_type, self.answer, plain, codec, meaning, message, self.type, fixed, f"{meaning}-good", least, most)
         self.variable = "v" if codec else "x"
         self.locals = [f"f{at}" for at in range(1, len(fields) + 1)]
 
     @property
     def formats(self):
         return " ⨟ ".join(field.format for field in self.fields)
+
+    @property
+    def defined(self):
+        """The fields as the definition names them."""
+        if self.known.codec:
+            return " ⨾ ".join(field.defined or field.meaning for field in self.fields)
+        return " ⨟ ".join(f"exactly {field.defined}" if field.defined else field.format for field in self.fields)
 
     def tail(self, at):
         """The formats of the fields from one on."""
@@ -51,13 +58,13 @@ class Record(Kind):
         if not self.known.fixed:
             parts.append(self.sum_code())
         parts += [self.link_code(at) for at in reversed(range(len(self.fields) - 1))]
-        parts += [self.put_code(), self.read_code(), self.write_code()]
+        parts += [self.put_code(), *self.public_code()]
         return parts
 
     def struct_code(self):
         lines = "".join(f"    pub {name}: {type},\n" for name, type in zip(self.names, self.types))
         comment = f"// {self.declared.comment}\n" if self.declared.comment else ""
-        return f"{comment}pub struct {self.name} {{\n{lines}}}"
+        return f"{comment}pub struct {self.code_type} {{\n{lines}}}"
 
     def at_code(self):
         steps = ""
@@ -72,7 +79,7 @@ class Record(Kind):
     }};
 """
             place = f"n{at}"
-        took = self.took(value=f"{self.name} {{ {', '.join(self.names)} }}", next=place, plain=" & ".join(marks))
+        took = self.took(value=f"{self.code_type} {{ {', '.join(self.names)} }}", next=place, plain=" & ".join(marks))
         return f"{self.at_head()}\n{{\n{steps}    {self.answer}::Took {{ {took} }}\n}}"
 
     def lets(self, wanted):
@@ -138,15 +145,15 @@ class Record(Kind):
         to = f"λ x. record {{ {'; '.join(fields)} }}"
         back = f"λ m. {nested([f'm .{name}' for name in names])}"
         if self.known.codec:
-            return [f"""-- {self.name}
+            return [f"""-- {self.code_type}
 unfoldable pub {m} : Codec {self.type}
-{m} = mapped ({self.codecs}) ({to}) ({back}) (λ x. refl) (λ m. refl)""", self.views()]  # fmt: skip
+{m} = mapped ({self.defined}) ({to}) ({back}) (λ x. refl) (λ m. refl)""", self.views()]  # fmt: skip
         messages = [field.message for field in self.fields]
         record = "".join(f"  pub {name} : {message}\n" for name, message in zip(names, messages))
         hold = to.replace("x .", "y .").replace("λ x.", "λ y.").replace("= x", "= y")
         held = product([field.held for field in self.fields])
         return [
-            f"-- {self.name}\npub record {self.known.message} : Type 0 where\n{record.rstrip()}",
+            f"-- {self.code_type}\npub record {self.known.message} : Type 0 where\n{record.rstrip()}",
             f"""abbrev pub {lower(m)}Names : Renaming {bracket(product(messages))} {self.known.message} {bracket(held)} {self.type}
 {lower(m)}Names =
     record {{
@@ -158,7 +165,7 @@ unfoldable pub {m} : Codec {self.type}
       pieces = {back.replace("m .", "y .").replace("λ m.", "λ y.")};
       pieces-hold = λ y. refl;
     }}""",
-            f"unfoldable pub {m} : Format {self.known.message} {self.type}\n{m} = named {bracket(self.formats)} {lower(m)}Names",
+            f"unfoldable pub {m} : Format {self.known.message} {self.type}\n{m} = named {bracket(self.defined)} {lower(m)}Names",
             self.views(),
         ]
 
@@ -171,9 +178,9 @@ unfoldable pub {m} : Codec {self.type}
         m = self.meaning
         if self.known.codec:
             plan = " next ".join(f"one {field.meaning}" for field in self.fields)
-            return f"-- {self.name}\nabbrev pub {m}-plan : ByPlan {m}\nunfolding {m}\n{m}-plan = fields ({plan}) _ _ _ _"
+            return f"-- {self.code_type}\nabbrev pub {m}-plan : ByPlan {m}\nunfolding {m}\n{m}-plan = fields ({plan}) _ _ _ _"
         plan = " then ".join(f"at {bracket(field.format)}" for field in self.fields)
-        return f"-- {self.name}\nabbrev pub {m}-plan : Planned ({m} .held .read)\nunfolding {m}\n{m}-plan = plan ({plan}) _"
+        return f"-- {self.code_type}\nabbrev pub {m}-plan : Planned ({m} .held .read)\nunfolding {m}\n{m}-plan = plan ({plan}) _"
 
     def within_law(self):
         m = self.meaning

@@ -6,16 +6,17 @@ import tempfile
 from pathlib import Path
 
 from generator.enumeration import Enumeration
-from generator.kind import lower
-from generator.known import ITEMS, Known, Words, camel, escaped
-from generator.language import read_topic
+from generator.known import ITEMS, VERIFIER, Known, Words, camel, escaped, stem
+from generator.language import read_topic, types_of
 from generator.optional import Optional
+from generator.program import Program
 from generator.record import MOST_FIELDS, Record
+from generator.status import Result
 from generator.table import Trouble, read_table, read_text
 
 HEADER = "made by tools/generate from "
 
-# Eight fixed bytes, which the code holds as a number. A field of theirs would be taken for a hyper, which the RFC does not say.
+# Eight fixed bytes, which the code holds as the number that they write.
 VERIFIERS = {"cookieverf3", "createverf3", "writeverf3"}
 
 
@@ -67,7 +68,7 @@ def crate_regions(crate, topics):
         (f"{base}/src/lib.rt", "names", "".join(f"{line}\n" for line in sorted(uses))),
         (f"{base}/specs/Meaning.antt", "meanings", titles),
         (f"{base}/specs/Laws.antt", "laws", titles),
-        (f"{base}/proofs/Lib.antt", "ranges", "".join(f"pub mod {camel(name)}Ranges\n" for name in names) + "\n"),
+        (f"{base}/proofs/Lib.antt", "ranges", "".join(f"pub mod {camel(made.topic.name)}Ranges\n" for made in topics if made.has_ranges()) + "\n"),
     ]
 
 
@@ -86,22 +87,21 @@ class Library:
         self.aliases = {}
         self.found = {}
         self.code, self.specs, self.bounds = {}, {}, {}
-        written = {f"{topic.crate}/{topic.name}" for topic in topics}
         for crate in self.below:
-            self.scan(crate, written)
+            self.scan(crate)
         self.made = {}
         for topic in self.ordered(topics):
             self.made[topic.path] = Made(self, topic)
 
-    def scan(self, crate, written):
+    def scan(self, crate):
         """What a crate declares by hand: names of the code by their paths, names of the specifications by their modules."""
         folder = self.root / "crates" / crate
         code, specs = self.code.setdefault(crate, {}), self.specs.setdefault(crate, {})
         for path in sorted((folder / "src").rglob("*.rt")):
             module = path.relative_to(folder / "src").with_suffix("").parts
-            if f"{crate}/{module[0]}" in written and len(module) == 1:
-                continue
             text = read_text(path, self.root)
+            if text.startswith(f"// {HEADER}"):
+                continue
             where = "::".join((crate, *module)) if module != ("lib",) else crate
             for name in re.findall(r"^pub (?:fn|struct|enum|type|const) (\w+)", text, re.M):
                 code.setdefault(name, f"{where}::{name}")
@@ -116,6 +116,8 @@ class Library:
                 if path.name == "Proof.antt":
                     continue
                 text = read_text(path, self.root)
+                if text.startswith(f"-- {HEADER}"):
+                    continue
                 module = f"Rattle.{crate}." + ".".join(path.relative_to(folder).with_suffix("").parts)
                 for name in re.findall(r"^(?:abbrev |unfoldable )?pub (?:record |ruleset )?(\S+)", text, re.M):
                     specs.setdefault(name, module)
@@ -128,7 +130,7 @@ class Library:
         while left:
             for topic in left:
                 names = {one.name for other in left if other is not topic for one in other.declared}
-                if not names & {part.type for one in topic.declared if one.shape != "enum" for part in one.parts}:
+                if not names & {type for one in topic.declared for type in types_of(one)}:
                     yield topic
                     left.remove(topic)
                     break
@@ -138,7 +140,7 @@ class Library:
     def kind_of(self, type, topic):
         """The kind that a field of a type has."""
         if type in VERIFIERS:
-            raise Trouble(f"{topic.path}: {type} is eight fixed bytes, which cannot be declared yet")
+            return VERIFIER
         while type in self.aliases:
             type = self.aliases[type]
         if type not in self.known:
@@ -175,8 +177,10 @@ class Made:
                 self.add_alias(declared)
             else:
                 kind = self.kind(declared)
+                kind.public = stem(declared.name) in library.kinds
                 self.kinds.append(kind)
-                library.known[kind.name] = kind.known
+                if kind.known:
+                    library.known[kind.code_type] = kind.known
         self.register()
 
     def add_alias(self, declared):
@@ -188,6 +192,9 @@ class Made:
         return ITEMS[type].type if type in ITEMS else type
 
     def kind(self, declared):
+        if declared.shape == "program":
+            kinds = [[self.library.kind_of(type, self.topic) for type in (part.arguments, part.results)] for part in declared.parts]
+            return Program(declared, self.topic, kinds)
         meaning = self.meaning(declared.name)
         if declared.shape == "enum":
             return Enumeration(declared, meaning, self.topic)
@@ -197,6 +204,8 @@ class Made:
             if fields[0].codec and not fields[0].fixed:
                 raise Trouble(f"{self.topic.path}: {declared.name}: a value behind a flag has pieces or a fixed size, so far")
             return Optional(declared, meaning, self.topic, fields[0], types[0])
+        if declared.shape == "status":
+            return Result(declared, meaning, self.topic, (fields + [None])[:2], (types + [""])[:2])
         if len(fields) > MOST_FIELDS:
             raise Trouble(f"{self.topic.path}: {declared.name} has {len(fields)} fields, and {MOST_FIELDS} are the most: make groups of them")
         if not fields:
@@ -204,8 +213,8 @@ class Made:
         return Record(declared, meaning, self.topic, fields, types)
 
     def meaning(self, name):
-        row = self.library.kinds.get(name)
-        meaning = row.meaning if row else re.sub("3$", "", name).lower().replace("_", "-")
+        row = self.library.kinds.get(stem(name))
+        meaning = row.meaning if row else re.sub("3(?=[a-z])", "-", re.sub("3$", "", stem(name))).replace("_", "-")
         if meaning in Words().specs:
             raise Trouble(f"{self.topic.path}: {name} cannot be called {meaning}, which is a name of the laws already")
         return meaning
@@ -231,7 +240,8 @@ class Made:
                 code[found] = f"{crate}::{name}::{found}"
             for type in re.findall(r"^pub (?:struct|enum) (\w+)", "\n\n".join(kind.code()), re.M):
                 specs[escaped(type)] = f"Rattle.{crate}.specs.declared.{name}.{type}"
-            specs[kind.known.good] = self.module("proofs", f"{camel(name)}Ranges")
+            for good in kind.goods():
+                specs[good] = self.module("proofs", f"{camel(name)}Ranges")
 
     def words(self):
         """The names, as this crate writes where they are."""
@@ -252,7 +262,7 @@ class Made:
     def passed_on(self):
         names = [declared.name for declared, _ in self.types]
         for kind in self.kinds:
-            names += [kind.name, kind.answer, f"read_{kind.name}", f"write_{kind.name}"]
+            names += kind.passed_on()
         return names
 
     # ------------------------------------------------ the files
@@ -265,8 +275,9 @@ class Made:
             f"{base}/src/{name}.rt": self.code_file(words),
             f"{base}/specs/Meaning/{title}.antt": self.spec_file(words, self.topic.head, self.meaning_parts(), "Meaning"),
             f"{base}/specs/Laws/{title}.antt": self.spec_file(words, f"What follows for the kinds of {self.topic.name}: how they are read, how many bytes they have, and what is laid of them.", self.law_parts(), "Laws"),
-            f"{base}/proofs/{title}Ranges.antt": self.ranges_file(words),
         }
+        if self.has_ranges():
+            files[f"{base}/proofs/{title}Ranges.antt"] = self.ranges_file(words)
         for kind in self.kinds:
             for function, proof in kind.proofs().items():
                 module = f"Rattle.{crate}.proofs.{name}.{function.replace('/', '.')}"
@@ -284,7 +295,7 @@ class Made:
         contracts = " ".join(re.findall(r"⌜(.*?)⌝", text))
         own = set(re.findall(r"^\s*(?:pub )?(?:fn|struct|enum|type) (\w+)", text, re.M))
         ghosts = words.spec_lines(contracts.replace("(now (", "(("), ghost=True)
-        code = re.sub(r"ensures \{.*\}", "", text)
+        code = re.sub(r"ensures \{.*\}|//.*", "", text)
         uses = words.code_lines(code, own)
         head = f"// {HEADER}{self.topic.path}\n// {self.topic.head}\n"
         return head + "\n".join(ghosts + uses) + "\n\n" + text + "\n"
@@ -300,11 +311,7 @@ class Made:
         crate, name = self.topic.crate, self.topic.name
         lines = []
         for kind in self.kinds:
-            types = {kind.alias: kind.answer}
-            if hasattr(kind, "variants"):
-                types[kind.variants] = kind.name
-                types[f"{lower(kind.meaning)}Found"] = getattr(kind, "found", "")
-            for alias, type in types.items():
+            for alias, type in kind.aliased().items():
                 if re.search(rf"(?<![\w·-]){alias}\.[A-Z«a-z]", text):
                     lines.append(f"use Rattle.{crate}.specs.declared.{name}.{type}.the-variants as {alias}")
         return lines
@@ -314,6 +321,9 @@ class Made:
         own = set(re.findall(r"^(?:abbrev |unfoldable )?pub (?:record )?(\S+)", text, re.M))
         lines = words.spec_lines(text, own) + self.aliases(text)
         return f"-- {HEADER}{self.topic.path}\n-- {comment}\n-- Assumes nothing.\n" + "\n".join(lines) + "\n\n" + text + "\n"
+
+    def has_ranges(self):
+        return any(kind.goods() for kind in self.kinds)
 
     def ranges_file(self, words):
         plain, held = [], []
@@ -326,10 +336,10 @@ class Made:
             inner = "\n\n".join(held)
             parts.append("module _ (s : List ℕ) (h : Bytes s) (k : length s ≤ most) where\n" + "\n".join(f"  {line}" if line else "" for line in inner.split("\n")))
         text = "\n\n".join(parts)
-        own = {kind.known.good for kind in self.kinds}
+        own = {good for kind in self.kinds for good in kind.goods()}
         lines = words.spec_lines(text, own) + self.aliases(text)
         for kind in self.kinds:
-            if f"{kind.dashed}·.the-row" in text:
-                lines.append(f"use Rattle.{self.topic.crate}.proofs.{self.topic.name}.{kind.name} as {kind.dashed}·")
+            if kind.known and f"{kind.dashed}·.the-row" in text:
+                lines.append(f"use Rattle.{self.topic.crate}.proofs.{self.topic.name}.{kind.code_type} as {kind.dashed}·")
         head = "Ranges: every value of a declared type means a message in range."
         return f"-- {HEADER}{self.topic.path}\n-- {head}\n-- Assumes nothing.\n" + "\n".join(lines) + "\n\n" + text + "\n"

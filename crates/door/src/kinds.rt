@@ -1,7 +1,7 @@
 // made by tools/generate from kinds.txt
 // A message of a kind that is named by its number.
 ghost use Rattle.door.specs.Meaning.Copy.{viewCopied};
-ghost use Rattle.door.specs.Meaning.Kinds.{itemKinds, closedKinds, messageKinds, attributeKinds, changeKinds, kinds, CopiesOf, CopiesIn};
+ghost use Rattle.door.specs.Meaning.Kinds.{itemKinds, closedKinds, messageKinds, attributeKinds, changeKinds, procedureKinds, kinds, CopiesOf, CopiesIn};
 use crate::copy::Copied;
 use crate::files::copy_diropargs3;
 use crate::files::copy_fattr3;
@@ -49,6 +49,18 @@ use crate::messages::copy_reply_body;
 use crate::messages::copy_reply_stat;
 use crate::messages::copy_rpc_body;
 use crate::messages::copy_rpc_msg;
+use crate::procedures::copy_getattr3args;
+use crate::procedures::copy_getattr3res;
+use crate::procedures::copy_lookup3args;
+use crate::procedures::copy_lookup3res;
+use crate::procedures::copy_read3args;
+use crate::procedures::copy_read3res;
+use crate::procedures::copy_sattrguard3;
+use crate::procedures::copy_setattr3args;
+use crate::procedures::copy_setattr3res;
+use crate::procedures::copy_stable_how;
+use crate::procedures::copy_write3args;
+use crate::procedures::copy_write3res;
 
 // The items.
 fn copy_item(kind: u32, src: &[u8], at: usize, out: &mut [u8], start: usize) -> Copied
@@ -142,6 +154,27 @@ fn copy_change(kind: u32, src: &[u8], at: usize, out: &mut [u8], start: usize) -
     }
 }
 
+// Arguments and results of procedures (RFC 1813).
+fn copy_procedure(kind: u32, src: &[u8], at: usize, out: &mut [u8], start: usize) -> Copied
+    ensures { λ r. ⌜ CopiesIn procedureKinds kind (now (src .entry)) at start (now (out .entry)) (viewCopied r) (now (out .exit)) ⌝ }
+{
+    match kind {
+        0 => copy_stable_how(src, at, out, start),
+        1 => copy_sattrguard3(src, at, out, start),
+        2 => copy_getattr3args(src, at, out, start),
+        3 => copy_getattr3res(src, at, out, start),
+        4 => copy_setattr3args(src, at, out, start),
+        5 => copy_setattr3res(src, at, out, start),
+        6 => copy_lookup3args(src, at, out, start),
+        7 => copy_lookup3res(src, at, out, start),
+        8 => copy_read3args(src, at, out, start),
+        9 => copy_read3res(src, at, out, start),
+        10 => copy_write3args(src, at, out, start),
+        11 => copy_write3res(src, at, out, start),
+        _ => Copied::Unknown,
+    }
+}
+
 // Reads a message of the kind from a place of one buffer and writes it, in published form, from a place of another.
 pub fn copy_kind(kind: u32, src: &[u8], at: usize, out: &mut [u8], start: usize) -> Copied
     ensures { λ r. ⌜ CopiesOf kinds kind (now (src .entry)) at start (now (out .entry)) (viewCopied r) (now (out .exit)) ⌝ }
@@ -158,5 +191,8 @@ pub fn copy_kind(kind: u32, src: &[u8], at: usize, out: &mut [u8], start: usize)
     if kind < 38 {
         return copy_attributes(kind - 28, src, at, out, start);
     }
-    copy_change(kind - 38, src, at, out, start)
+    if kind < 47 {
+        return copy_change(kind - 38, src, at, out, start);
+    }
+    copy_procedure(kind - 47, src, at, out, start)
 }

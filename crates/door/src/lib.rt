@@ -7,6 +7,7 @@ mod files;
 mod items;
 mod kinds;
 mod messages;
+mod procedures;
 // end of copiers
 pub mod replies;
 pub mod values_read;

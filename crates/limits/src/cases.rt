@@ -48,6 +48,10 @@ pub(crate) const WORDS: u32 = 8;
 
 pub(crate) const RPC_MSG: u32 = 20;
 
+pub(crate) const READ3RES: u32 = 56;
+
+pub(crate) const WRITE3ARGS: u32 = 57;
+
 fn read(kind: u32, first: u32, at: usize, length: usize) -> Case {
     Case::Read {
         kind,
@@ -57,7 +61,7 @@ fn read(kind: u32, first: u32, at: usize, length: usize) -> Case {
     }
 }
 
-// Opaques and word lists that fill the message or would pass its end, flags at its end, and calls.
+// Opaques and word lists that fill the message or would pass its end, flags at its end, calls, and the data of READ and WRITE.
 fn reading(i: u32) -> Case {
     match i {
         0 => read(OPAQUE, 1048572, 0, 1048575),
@@ -78,7 +82,13 @@ fn reading(i: u32) -> Case {
         15 => read(BOOL, 66051, 1048578, 1048577),
         16 => read(RPC_MSG, 42, 0, 1048575),
         17 => read(RPC_MSG, 42, 0, 1048576),
-        _ => read(RPC_MSG, 42, 0, 1048577),
+        18 => read(RPC_MSG, 42, 0, 1048577),
+        19 => read(READ3RES, 0, 0, 1048575),
+        20 => read(READ3RES, 0, 0, 1048576),
+        21 => read(READ3RES, 0, 0, 1048577),
+        22 => read(WRITE3ARGS, 4, 0, 1048575),
+        23 => read(WRITE3ARGS, 4, 0, 1048576),
+        _ => read(WRITE3ARGS, 4, 0, 1048577),
     }
 }
 
@@ -173,29 +183,29 @@ fn fragmenting(i: u32) -> Case {
     }
 }
 
-pub(crate) const COUNT: u32 = 55;
+pub(crate) const COUNT: u32 = 61;
 
 pub(crate) fn question(i: u32) -> Case {
-    if i < 19 {
+    if i < 25 {
         return reading(i);
     }
-    if i < 30 {
-        return writing(i - 19);
-    }
     if i < 36 {
-        return choosing(i - 30);
+        return writing(i - 25);
     }
-    if i == 36 {
+    if i < 42 {
+        return choosing(i - 36);
+    }
+    if i == 42 {
         return Case::Fresh { capacity: 1048576 };
     }
-    if i == 37 {
+    if i == 43 {
         return Case::Fresh { capacity: 1048577 };
     }
-    if i < 46 {
-        return feeding(i - 38);
+    if i < 52 {
+        return feeding(i - 44);
     }
-    if i == 46 {
+    if i == 52 {
         return Case::State { capacity: 1048577 };
     }
-    fragmenting(i - 47)
+    fragmenting(i - 53)
 }

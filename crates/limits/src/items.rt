@@ -1,8 +1,10 @@
 // The questions about one message: `read`, `write` and `choose`.
 use crate::cases::BOOL;
 use crate::cases::OPAQUE;
+use crate::cases::READ3RES;
 use crate::cases::RPC_MSG;
 use crate::cases::WORDS;
+use crate::cases::WRITE3ARGS;
 use crate::make;
 use crate::print;
 use door::Copied;
@@ -19,6 +21,8 @@ fn kind_word(out: &mut [u8], at: Out, kind: u32) -> Out {
         OPAQUE => say(out, at, b" opaque"),
         WORDS => say(out, at, b" words"),
         RPC_MSG => say(out, at, b" rpc_msg"),
+        READ3RES => say(out, at, b" read3res"),
+        WRITE3ARGS => say(out, at, b" write3args"),
         _ => say(out, at, b" ?"),
     }
 }
@@ -58,7 +62,7 @@ fn copied(out: &mut [u8], at: Out, c: Copied) -> Out {
     }
 }
 
-// A message whose first word is given; its other bytes go by the rule, or make a call.
+// A message whose first word is given; its other bytes go by the rule, or make a call, its arguments or its results.
 fn prepare(kind: u32, first: u32, message: &mut [u8]) {
     if kind == RPC_MSG {
         make::call(message, 0);
@@ -66,6 +70,12 @@ fn prepare(kind: u32, first: u32, message: &mut [u8]) {
     }
     make::rule(message);
     make::word(message, 0, first);
+    if kind == READ3RES {
+        make::read_words(message);
+    }
+    if kind == WRITE3ARGS {
+        make::write_words(message);
+    }
 }
 
 fn read_words(out: &mut [u8], at: Out, kind: u32, first: u32, place: usize, length: usize) -> Out {

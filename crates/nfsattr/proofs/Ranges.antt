@@ -17,6 +17,10 @@ use Rattle.nfsattr.specs.declared.attr.post_op_attr.{«post_op_attr»}
 use Rattle.nfsattr.specs.declared.attr.wcc_data.{«wcc_data»}
 use Rattle.nfsattr.specs.declared.attr.fsinfo3.{fsinfo3}
 use Rattle.nfsattr.specs.declared.attr.ftype3.the-variants.{NF3REG, NF3DIR, NF3BLK, NF3CHR, NF3LNK, NF3SOCK, NF3FIFO}
+use Rattle.nfsattr.specs.Meaning.Stat.{nfsstat}
+use Rattle.nfsattr.specs.declared.stat.nfsstat3.{nfsstat3}
+use Rattle.nfsattr.specs.declared.stat.nfsstat3.the-variants.{«NFS3_OK», Failed}
+use Rattle.nfsattr.specs.declared.stat.nfsfail3.the-variants.{«NFS3ERR_PERM», «NFS3ERR_NOENT», «NFS3ERR_IO», «NFS3ERR_NXIO», «NFS3ERR_ACCES», «NFS3ERR_EXIST», «NFS3ERR_XDEV», «NFS3ERR_NODEV», «NFS3ERR_NOTDIR», «NFS3ERR_ISDIR», «NFS3ERR_INVAL», «NFS3ERR_FBIG», «NFS3ERR_NOSPC», «NFS3ERR_ROFS», «NFS3ERR_MLINK», «NFS3ERR_NAMETOOLONG», «NFS3ERR_NOTEMPTY», «NFS3ERR_DQUOT», «NFS3ERR_STALE», «NFS3ERR_REMOTE», «NFS3ERR_BADHANDLE», «NFS3ERR_NOT_SYNC», «NFS3ERR_BAD_COOKIE», «NFS3ERR_NOTSUPP», «NFS3ERR_TOOSMALL», «NFS3ERR_SERVERFAULT», «NFS3ERR_BADTYPE», «NFS3ERR_JUKEBOX»}
 use Rattle.nfsattr.specs.declared.attr.pre_op_attr.the-variants as pre
 use Rattle.nfsattr.specs.declared.attr.post_op_attr.the-variants as post
 use Rattle.nfsattr.proofs.attr.specdata3 as specdata3·
@@ -29,6 +33,38 @@ use Rattle.nfsattr.proofs.attr.wcc_data as wcc-data·
 use Rattle.nfsattr.proofs.attr.fsinfo3 as fsinfo3·
 
 -- with no number of the source's in them
+pub nfsstat-good : (a : nfsstat3) → nfsstat .kind .Good a
+unfolding nfsstat
+nfsstat-good «NFS3_OK» = word-good _ (omega arith)
+nfsstat-good (Failed «NFS3ERR_PERM») = word-good _ (omega arith)
+nfsstat-good (Failed «NFS3ERR_NOENT») = word-good _ (omega arith)
+nfsstat-good (Failed «NFS3ERR_IO») = word-good _ (omega arith)
+nfsstat-good (Failed «NFS3ERR_NXIO») = word-good _ (omega arith)
+nfsstat-good (Failed «NFS3ERR_ACCES») = word-good _ (omega arith)
+nfsstat-good (Failed «NFS3ERR_EXIST») = word-good _ (omega arith)
+nfsstat-good (Failed «NFS3ERR_XDEV») = word-good _ (omega arith)
+nfsstat-good (Failed «NFS3ERR_NODEV») = word-good _ (omega arith)
+nfsstat-good (Failed «NFS3ERR_NOTDIR») = word-good _ (omega arith)
+nfsstat-good (Failed «NFS3ERR_ISDIR») = word-good _ (omega arith)
+nfsstat-good (Failed «NFS3ERR_INVAL») = word-good _ (omega arith)
+nfsstat-good (Failed «NFS3ERR_FBIG») = word-good _ (omega arith)
+nfsstat-good (Failed «NFS3ERR_NOSPC») = word-good _ (omega arith)
+nfsstat-good (Failed «NFS3ERR_ROFS») = word-good _ (omega arith)
+nfsstat-good (Failed «NFS3ERR_MLINK») = word-good _ (omega arith)
+nfsstat-good (Failed «NFS3ERR_NAMETOOLONG») = word-good _ (omega arith)
+nfsstat-good (Failed «NFS3ERR_NOTEMPTY») = word-good _ (omega arith)
+nfsstat-good (Failed «NFS3ERR_DQUOT») = word-good _ (omega arith)
+nfsstat-good (Failed «NFS3ERR_STALE») = word-good _ (omega arith)
+nfsstat-good (Failed «NFS3ERR_REMOTE») = word-good _ (omega arith)
+nfsstat-good (Failed «NFS3ERR_BADHANDLE») = word-good _ (omega arith)
+nfsstat-good (Failed «NFS3ERR_NOT_SYNC») = word-good _ (omega arith)
+nfsstat-good (Failed «NFS3ERR_BAD_COOKIE») = word-good _ (omega arith)
+nfsstat-good (Failed «NFS3ERR_NOTSUPP») = word-good _ (omega arith)
+nfsstat-good (Failed «NFS3ERR_TOOSMALL») = word-good _ (omega arith)
+nfsstat-good (Failed «NFS3ERR_SERVERFAULT») = word-good _ (omega arith)
+nfsstat-good (Failed «NFS3ERR_BADTYPE») = word-good _ (omega arith)
+nfsstat-good (Failed «NFS3ERR_JUKEBOX») = word-good _ (omega arith)
+
 pub ftype-good : (a : ftype3) → ftype .kind .Good a
 unfolding ftype
 ftype-good NF3REG = word-good _ (omega arith)

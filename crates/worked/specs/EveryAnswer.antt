@@ -20,18 +20,33 @@ use Rattle.nfsattr.specs.Meaning.Views.{viewNfsstat3, viewFtype3, viewSpecdata3
 use Rattle.nfs.specs.Meaning.Views.{viewTimeHow, viewSetAtime, viewSetMtime, viewSattr3}
 use Rattle.nfs.specs.Meaning.Dir.{viewNfsFh3, viewPostOpFh3, viewDiropargs3, viewSymlinkdata3}
 use Rattle.nfs.specs.Meaning.Change.{viewSetMode3, viewSetUid3, viewSetGid3, viewSetSize3}
+use Rattle.nfsfile.specs.Meaning.Setattr.{viewSattrguard3, viewSetattr3args, viewSetattr3res}
+use Rattle.nfsfile.specs.Meaning.Getattr.{viewGetattr3args, viewGetattr3res}
+use Rattle.nfsfile.specs.Meaning.Lookup.{viewLookup3args, viewLookup3res}
+use Rattle.nfsdata.specs.Meaning.Write.{viewStableHow, viewWrite3args, viewWrite3res}
+use Rattle.nfsdata.specs.Meaning.Read.{viewRead3args, viewRead3res}
 use Rattle.xdr.specs.Laws.One.{bool-told, i32-told, i64-told, u32-told, u64-told, piece-told}
 use Rattle.rpc.specs.Laws.One.{msg-type-told, reply-stat-told, accept-stat-told, reject-stat-told, auth-stat-told, auth-flavor-told, auth-unix-told, opaque-auth-told, rpc-msg-told, rpc-body-told, call-body-told, reply-body-told, accepted-reply-told, accept-body-told, rejected-reply-told, mismatch-info-told}
 use Rattle.nfsattr.specs.Laws.One.{nfsstat3-told, ftype3-told, specdata3-told, nfstime3-told, fattr3-told, fsinfo3-told, wcc-attr-told, pre-op-attr-told, post-op-attr-told, wcc-data-told}
 use Rattle.nfs.specs.Laws.One.{time-how-told, set-atime-told, set-mtime-told, sattr3-told}
 use Rattle.nfs.specs.Laws.Dir.{nfs-fh3-told, post-op-fh3-told, diropargs3-told, symlinkdata3-told}
 use Rattle.nfs.specs.Laws.Change.{set-mode3-told, set-uid3-told, set-gid3-told, set-size3-told}
+use Rattle.nfsfile.specs.Laws.Setattr.{sattrguard3-told, setattr3args-told, setattr3res-told}
+use Rattle.nfsfile.specs.Laws.Getattr.{getattr3args-told, getattr3res-told}
+use Rattle.nfsfile.specs.Laws.Lookup.{lookup3args-told, lookup3res-told}
+use Rattle.nfsdata.specs.Laws.Write.{stable-how-told, write3args-told, write3res-told}
+use Rattle.nfsdata.specs.Laws.Read.{read3args-told, read3res-told}
 use Rattle.xdr.specs.Laws.Lengths.{flag-within, int-within, long-within, word-within, hyper-within, eight-within, opaque-within, words-within}
 use Rattle.rpc.specs.Laws.Lengths.{msg-type-within, reply-stat-within, accept-stat-within, reject-stat-within, auth-stat-within, auth-flavor-within, auth-unix-within, opaque-auth-within, rpc-msg-within, rpc-body-within, call-body-within, reply-body-within, accepted-reply-within, accept-body-within, rejected-reply-within, mismatch-info-within}
 use Rattle.nfsattr.specs.Laws.Lengths.{nfsstat-within, ftype-within, specdata-within, nfstime-within, fattr-within, fsinfo-within, wcc-attr-within, pre-op-attr-within, post-op-attr-within, wcc-data-within}
 use Rattle.nfs.specs.Laws.Lengths.{time-how-within, set-atime-within, set-mtime-within, sattr-within}
 use Rattle.nfs.specs.Laws.Dir.{nfs-fh-within, post-op-fh-within, diropargs-within, symlinkdata-within}
 use Rattle.nfs.specs.Laws.Change.{set-mode-within, set-uid-within, set-gid-within, set-size-within}
+use Rattle.nfsfile.specs.Laws.Setattr.{sattrguard-within, setattr-args-within, setattr-res-within}
+use Rattle.nfsfile.specs.Laws.Getattr.{getattr-args-within, getattr-res-within}
+use Rattle.nfsfile.specs.Laws.Lookup.{lookup-args-within, lookup-res-within}
+use Rattle.nfsdata.specs.Laws.Write.{stable-how-within, write-args-within, write-res-within}
+use Rattle.nfsdata.specs.Laws.Read.{read-args-within, read-res-within}
 -- end of uses
 use Rattle.door.specs.Meaning.Kinds.{kinds}
 
@@ -114,6 +129,18 @@ readers =
     next by viewSattr3 sattr3-told
     next by viewDiropargs3 diropargs3-told
     next by viewSymlinkdata3 symlinkdata3-told
+    next by viewStableHow stable-how-told
+    next by viewSattrguard3 sattrguard3-told
+    next by viewGetattr3args getattr3args-told
+    next by viewGetattr3res getattr3res-told
+    next by viewSetattr3args setattr3args-told
+    next by viewSetattr3res setattr3res-told
+    next by viewLookup3args lookup3args-told
+    next by viewLookup3res lookup3res-told
+    next by viewRead3args read3args-told
+    next by viewRead3res read3res-told
+    next by viewWrite3args write3args-told
+    next by viewWrite3res write3res-told
     next tt
 
 -- end of readers
@@ -190,6 +217,18 @@ every-within =
     also weaken (omega arith) sattr-within
     also weaken (omega arith) diropargs-within
     also weaken (omega arith) symlinkdata-within
+    also weaken (omega arith) stable-how-within
+    also weaken (omega arith) sattrguard-within
+    also weaken (omega arith) getattr-args-within
+    also weaken (omega arith) getattr-res-within
+    also weaken (omega arith) setattr-args-within
+    also weaken (omega arith) setattr-res-within
+    also weaken (omega arith) lookup-args-within
+    also weaken (omega arith) lookup-res-within
+    also weaken (omega arith) read-args-within
+    also weaken (omega arith) read-res-within
+    also weaken (omega arith) write-args-within
+    also weaken (omega arith) write-res-within
     also tt
 
 -- end of every-within

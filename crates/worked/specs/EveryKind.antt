@@ -27,6 +27,11 @@ use Rattle.nfsattr.specs.Meaning.Attr.{ftype, specdata, nfstime, fattr, wcc-att
 use Rattle.nfs.specs.Meaning.Set.{time-how, set-time, set-atime, set-mtime, sattr}
 use Rattle.nfs.specs.Meaning.Dir.{nfs-fh, post-op-fh, diropargs, symlinkdata}
 use Rattle.nfs.specs.Meaning.Change.{set-mode, set-uid, set-gid, set-size}
+use Rattle.nfsfile.specs.Meaning.Setattr.{sattrguard, setattr-args, setattr-resok, setattr-resfail, setattr-res}
+use Rattle.nfsfile.specs.Meaning.Getattr.{getattr-args, getattr-resok, getattr-res}
+use Rattle.nfsfile.specs.Meaning.Lookup.{lookup-args, lookup-resok, lookup-resfail, lookup-res}
+use Rattle.nfsdata.specs.Meaning.Write.{stable-how, write-args, write-resok, write-resfail, write-res}
+use Rattle.nfsdata.specs.Meaning.Read.{read-args, read-resok, read-resfail, read-res}
 -- end of meanings
 use Rattle.door.specs.Meaning.Kinds.{kinds}
 use Rattle.worked.specs.Idle.{Sample, Reads, Refuses, refuses-all, one-for-all, Puts, idles}
@@ -113,9 +118,9 @@ module _ {M S : Type 0} (F : Format M S) where
 
 -- made by tools/generate: every-kind
 pub every-kind : Each kinds
-unfolding opened partOf wordsPartOf number word hyper word-pair hyper-pair flag int long eight opaque words eightHeld pieceHeld wordsHeld msg-type reply-stat accept-stat reject-stat auth-flavor auth-stat time-how set-time set-atime set-mtime sattr nfsstat ftype specdata nfstime fattr wcc-attr pre-op-attr post-op-attr wcc-data fsinfo opaque-auth auth-unix call-body rpc-body rpc-msg mismatch-info accept-body accepted-reply rejected-reply reply-body nfs-fh post-op-fh diropargs symlinkdata set-mode set-uid set-gid set-size
+unfolding opened partOf wordsPartOf number word hyper word-pair hyper-pair flag int long eight opaque words eightHeld pieceHeld wordsHeld msg-type reply-stat accept-stat reject-stat auth-flavor auth-stat time-how set-time set-atime set-mtime sattr nfsstat ftype specdata nfstime fattr wcc-attr pre-op-attr post-op-attr wcc-data fsinfo opaque-auth auth-unix call-body rpc-body rpc-msg mismatch-info accept-body accepted-reply rejected-reply reply-body nfs-fh post-op-fh diropargs symlinkdata set-mode set-uid set-gid set-size stable-how write-args write-resok write-resfail write-res sattrguard setattr-args setattr-resok setattr-resfail setattr-res getattr-args getattr-resok getattr-res lookup-args lookup-resok lookup-resfail lookup-res read-args read-resok read-resfail read-res
 every-kind =
-    (by-zero _ refl refl refl, (by-two _ refl refl refl, (by-two _ refl refl refl, (by-two _ refl refl refl, (by-two _ refl refl refl, (by-two _ refl refl refl, (by-two _ refl refl refl, (by-two _ refl refl refl, (by-two _ refl refl refl, (by-zero _ refl refl refl, (by-zero _ refl refl refl, (by-two _ refl refl refl, (by-zero _ refl refl refl, (by-two _ refl refl refl, (by-two _ refl refl refl, (by-two _ refl refl refl, (by-two _ refl refl refl, (by-two _ refl refl refl, (by-two _ refl refl refl, (by-two _ refl refl refl, (by-two _ refl refl refl, (by-two _ refl refl refl, (by-two _ refl refl refl, (by-two _ refl refl refl, (by-two _ refl refl refl, (by-two _ refl refl refl, (by-two _ refl refl refl, (by-two _ refl refl refl, (by-two _ refl refl refl, (by-two _ refl refl refl, (by-two _ refl refl refl, (by-two _ refl refl refl, (by-two _ refl refl refl, (by-two _ refl refl refl, (by-two _ refl refl refl, (by-two _ refl refl refl, (by-two _ refl refl refl, (by-two _ refl refl refl, (by-two _ refl refl refl, (by-two _ refl refl refl, (by-two _ refl refl refl, (by-two _ refl refl refl, (by-two _ refl refl refl, (by-two _ refl refl refl, (by-two _ refl refl refl, (by-two _ refl refl refl, (by-two _ refl refl refl, tt)))))))))))))))))))))))))))))))))))))))))))))))
+    (by-zero _ refl refl refl, (by-two _ refl refl refl, (by-two _ refl refl refl, (by-two _ refl refl refl, (by-two _ refl refl refl, (by-two _ refl refl refl, (by-two _ refl refl refl, (by-two _ refl refl refl, (by-two _ refl refl refl, (by-zero _ refl refl refl, (by-zero _ refl refl refl, (by-two _ refl refl refl, (by-zero _ refl refl refl, (by-two _ refl refl refl, (by-two _ refl refl refl, (by-two _ refl refl refl, (by-two _ refl refl refl, (by-two _ refl refl refl, (by-two _ refl refl refl, (by-two _ refl refl refl, (by-two _ refl refl refl, (by-two _ refl refl refl, (by-two _ refl refl refl, (by-two _ refl refl refl, (by-two _ refl refl refl, (by-two _ refl refl refl, (by-two _ refl refl refl, (by-two _ refl refl refl, (by-two _ refl refl refl, (by-two _ refl refl refl, (by-two _ refl refl refl, (by-two _ refl refl refl, (by-two _ refl refl refl, (by-two _ refl refl refl, (by-two _ refl refl refl, (by-two _ refl refl refl, (by-two _ refl refl refl, (by-two _ refl refl refl, (by-two _ refl refl refl, (by-two _ refl refl refl, (by-two _ refl refl refl, (by-two _ refl refl refl, (by-two _ refl refl refl, (by-two _ refl refl refl, (by-two _ refl refl refl, (by-two _ refl refl refl, (by-two _ refl refl refl, (by-two _ refl refl refl, (by-two _ refl refl refl, (by-two _ refl refl refl, (by-two _ refl refl refl, (by-two _ refl refl refl, (by-two _ refl refl refl, (by-two _ refl refl refl, (by-two _ refl refl refl, (by-two _ refl refl refl, (by-two _ refl refl refl, (by-two _ refl refl refl, (by-two _ refl refl refl, tt)))))))))))))))))))))))))))))))))))))))))))))))))))))))))))
 
 -- end of every-kind
 

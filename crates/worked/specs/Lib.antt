@@ -3,4 +3,5 @@ pub mod Idle
 pub mod Row
 pub mod Table
 pub mod Worked
+pub mod Procedures
 pub mod EveryAnswer

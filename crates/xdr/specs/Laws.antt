@@ -51,3 +51,5 @@ pub mod Sources
 pub mod ByNumber
 pub mod Fields
 pub mod Optional
+pub mod Status
+pub mod Programs

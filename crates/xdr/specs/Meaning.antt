@@ -12,6 +12,7 @@ pub mod Forms
 pub mod Held
 pub mod Format
 pub mod Cases
+pub mod Status
 pub mod Pieces
 pub mod Formats
 pub mod Sizes
@@ -19,3 +20,4 @@ pub mod Order
 pub mod Public
 pub mod Sources
 pub mod Views
+pub mod Programs

@@ -40,7 +40,7 @@ pub(crate) fn refusal(kind: ErrorKind) -> Reading {
 
 macro_rules! kinds {
     ($($name:literal $fresh:expr;)*) => {
-        /// The kinds in the order of kinds.txt; a kind's number is its index.
+        /// The kinds that the crate has, in the order of kinds.txt.
         pub const KINDS: &[&str] = &[$($name),*];
 
         type ReadOne = fn(&[u8], &mut Vec<u8>) -> Reading;
@@ -48,7 +48,8 @@ macro_rules! kinds {
     };
 }
 
-/// Reads a message of that kind at the start of `source`. Where it is taken, `rewriting` holds what the crate writes for it.
+/// Reads a message of a kind, by its index in `KINDS`, at the start of `source`. Where it is taken, `rewriting` holds what
+/// the crate writes for it.
 pub fn read(kind: usize, source: &[u8], rewriting: &mut Vec<u8>) -> Reading {
     READERS[kind](source, rewriting)
 }

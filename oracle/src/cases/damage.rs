@@ -11,6 +11,15 @@ pub fn damage(random: &mut Random, at: usize, bytes: &mut Vec<u8>, words: &mut V
     }
 }
 
+/// Makes a steering word one more or one less: beside a declared number is the first one that is not.
+pub fn beside(random: &mut Random, bytes: &mut [u8], words: &[Word]) {
+    if !words.is_empty() {
+        let word = place(&random.pick(words));
+        let off = random.pick(&[1, u32::MAX]);
+        set(bytes, word, get(bytes, word).wrapping_add(off));
+    }
+}
+
 fn once(random: &mut Random, at: usize, bytes: &mut Vec<u8>, words: &mut [Word]) {
     let length = bytes.len() - at.min(bytes.len());
     match random.below(12) {

@@ -1,7 +1,7 @@
 //! Messages made by the shape of their kind, so that most of what both sides are asked has meaning.
 use super::numbers::{count, length, telling, word, SERVED, UNSERVED};
 use crate::random::Random;
-use crate::shapes::{Shape, Undeclared, AUTH_UNIX, RPC_MSG};
+use crate::shapes::{Shape, Undeclared, AUTH_UNIX, NFSSTAT3, RPC_MSG};
 
 /// How tidy a message is.
 #[derive(Clone, Copy, Debug, PartialEq, Eq)]
@@ -78,6 +78,13 @@ pub fn append_message(random: &mut Random, shape: &Shape, style: Style, bytes: &
             let (tag, arm) = random.pick(arms);
             put(bytes, tag);
             append_message(random, arm, style, bytes, words);
+        },
+        Shape::Status { ok, fail } => {
+            words.push(Word::Number(bytes.len()));
+            // Half are successes: they have the most to tell.
+            let status = if random.once_in(2) { 0 } else { random.pick(&NFSSTAT3[1..]) };
+            put(bytes, status);
+            append_message(random, if status == 0 { ok } else { fail }, style, bytes, words);
         },
     }
 }

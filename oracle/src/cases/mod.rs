@@ -9,6 +9,9 @@ pub use damage::damage;
 pub use messages::{append_call, append_message, call_with, with_pieces, Style, BODY};
 pub use streams::{cuts, state, stream};
 
+use damage::beside;
+use messages::Word;
+
 use crate::answers::{State, BOUND};
 use crate::random::Random;
 use crate::shapes::{kind, AUTH_UNIX, KINDS};
@@ -256,10 +259,12 @@ fn message(random: &mut Random, kind: usize) -> (Vec<u8>, usize) {
     let style = Style::any(random);
     append_message(random, &KINDS[kind].1, style, &mut message, &mut words);
     if random.once_in(4_000) {
-        return at_the_bound(random, kind, at, message);
+        return at_the_bound(random, kind, at, message, &words);
     }
-    if !random.once_in(3) {
-        damage(random, at, &mut message, &mut words);
+    match random.below(12) {
+        0..=3 => {},
+        4 => beside(random, &mut message, &words),
+        _ => damage(random, at, &mut message, &mut words),
     }
     let at = match random.below(400) {
         0 => message.len(),
@@ -270,16 +275,22 @@ fn message(random: &mut Random, kind: usize) -> (Vec<u8>, usize) {
     (message, at)
 }
 
-/// Messages about as long as refusal 3 allows: with bytes behind the message, before it, or in an opaque that begins it.
-fn at_the_bound(random: &mut Random, asked: usize, at: usize, mut message: Vec<u8>) -> (Vec<u8>, usize) {
+/// Messages about as long as refusal 3 allows: with bytes behind the message, before it, in its last opaque (READ and WRITE
+/// have their data there), or in an opaque that begins it.
+fn at_the_bound(random: &mut Random, asked: usize, at: usize, mut message: Vec<u8>, words: &[Word]) -> (Vec<u8>, usize) {
     let length = random.between(BOUND - 5, BOUND + 4);
     let spare = length - message.len().min(length);
     let opaques = ["opaque", "nfsstring", "nfs_fh3", "diropargs3"].map(|name| kind(name).expect("the kind is known"));
-    match random.below(3) {
-        0 => message.resize(length, 0xA5),
-        1 => {
+    match (random.below(4), words.last()) {
+        (0, _) => message.resize(length, 0xA5),
+        (1, _) => {
             message.splice(0..0, std::iter::repeat_n(0x5A, spare));
             return (message, at + spare);
+        },
+        (2, Some(Word::Length(place))) => {
+            let left = length as u32 - *place as u32 - 4;
+            message[*place..place + 4].copy_from_slice(&(left - random.below(9) as u32).to_be_bytes());
+            message.resize(length, 0);
         },
         _ if opaques.contains(&asked) || random.once_in(2) => {
             message.clear();

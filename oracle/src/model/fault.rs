@@ -33,6 +33,14 @@ faults! {
     CompleteLate "complete-late" "an empty last fragment does not complete the record";
     FragmentNotLast "fragment-not-last" "write_fragment leaves out bit 31";
 
+    StatusOpen "status-open" "an undeclared status of a result is a failure";
+    StatusPlace "status-place" "an undeclared status is refused at the place behind it";
+    FailureAsSuccess "failure-as-success" "a failure has what a success has";
+    FailureBare "failure-bare" "nothing behind the status of a failure is read";
+    StableThree "stable-three" "WRITE's stable and committed may be 3";
+    EofEqualsOne "eof-equals-one" "READ's eof is true only if it is 1";
+    VerifierCounted "verf-counted" "WRITE's verifier begins with its length";
+
     RefusedKept "refused-kept" "after a refusal only the place is written, and the other figures stay as they were";
     RefusedPlain "refused-plain" "after a refusal the second figure is 1";
     RefusedLast "refused-last" "after a refusal the last figure is 1";

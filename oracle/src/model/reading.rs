@@ -1,7 +1,7 @@
 //! Reading a message of any kind, and writing it again.
 use super::{word_at, Fault, Model};
 use crate::answers::{Refusal, Took, BOUND};
-use crate::shapes::{Shape, Undeclared, KINDS};
+use crate::shapes::{Shape, Undeclared, KINDS, NFSSTAT3};
 
 /// How a reading went, and what lengths and counts the message claimed on the way.
 #[derive(Clone, Copy, Debug)]
@@ -57,8 +57,9 @@ impl Reader<'_> {
     fn shape(&mut self, shape: &Shape) -> Result<(), Refusal> {
         match shape {
             Shape::Word => self.bytes(4),
+            Shape::Eight if self.has_inside(Fault::VerifierCounted) => self.opaque(),
             Shape::Hyper | Shape::Eight => self.bytes(8),
-            Shape::Flag => self.flag().map(|_| ()),
+            Shape::Flag => self.flag(self.has_inside(Fault::EofEqualsOne)).map(|_| ()),
             Shape::Opaque => self.opaque(),
             Shape::WordList => self.list(),
             Shape::Closed(declared) => self.closed(declared),
@@ -67,13 +68,19 @@ impl Reader<'_> {
                 answer.map_err(|refusal| self.passed_up(refusal))
             },
             Shape::Optional(value) => {
-                if self.flag()? {
+                if self.flag(false)? {
                     self.shape(value)?;
                 }
                 Ok(())
             },
             Shape::Union { arms, undeclared } => self.union(arms, undeclared),
+            Shape::Status { ok, fail } => self.result(ok, fail),
         }
+    }
+
+    /// Whether a fault is planted that shows only where something stands before: in a field, and not in a kind of its own.
+    fn has_inside(&self, fault: Fault) -> bool {
+        self.model.has(fault) && !self.rewriting.is_empty()
     }
 
     /// The bytes that are there, from a place on.
@@ -146,9 +153,10 @@ impl Reader<'_> {
         self.rewriting.extend_from_slice(&number.to_be_bytes());
     }
 
-    fn flag(&mut self) -> Result<bool, Refusal> {
+    /// A flag; `equals_one` is what a planted fault takes for true.
+    fn flag(&mut self, equals_one: bool) -> Result<bool, Refusal> {
         let number = self.number()?;
-        let flag = if self.model.has(Fault::FlagEqualsOne) { number == 1 } else { number != 0 };
+        let flag = if equals_one || self.model.has(Fault::FlagEqualsOne) { number == 1 } else { number != 0 };
         self.plain &= number == u32::from(flag);
         self.write(u32::from(flag));
         Ok(flag)
@@ -203,7 +211,8 @@ impl Reader<'_> {
     fn closed(&mut self, declared: &[u32]) -> Result<(), Refusal> {
         let number = self.peek()?;
         let gap = self.model.has(Fault::EnumerationGap) && number == 29 && declared.len() == 29;
-        if !declared.contains(&number) && !gap {
+        let above = self.has_inside(Fault::StableThree) && number == 3 && declared == [0, 1, 2];
+        if !declared.contains(&number) && !gap && !above {
             return Err(Refusal::undeclared(self.at));
         }
         self.bytes(4)
@@ -226,5 +235,24 @@ impl Reader<'_> {
         self.plain = false;
         words.iter().for_each(|word| self.write(*word));
         Ok(())
+    }
+
+    /// The results of a call: a status that is declared, and what it announces.
+    fn result(&mut self, ok: &Shape, fail: &Shape) -> Result<(), Refusal> {
+        let model = self.model;
+        let status = self.peek()?;
+        if model.has(Fault::StatusOpen) {
+            self.bytes(4)?;
+        } else {
+            let off = if model.has(Fault::StatusPlace) { 4 } else { 0 };
+            self.closed(NFSSTAT3).map_err(|refusal| Refusal { place: refusal.place + off, ..refusal })?;
+        }
+        if status == 0 || model.has(Fault::FailureAsSuccess) {
+            self.shape(ok)
+        } else if model.has(Fault::FailureBare) {
+            Ok(())
+        } else {
+            self.shape(fail)
+        }
     }
 }

@@ -1,12 +1,14 @@
 //! What the answers must be. The crate is asked wherever it can tell; the rules of docs/SCOPE.md (the bound, places past
 //! the end, room) stand in front of it; and the model fills in what the crate has no word for: the places of refusals and
-//! of pieces, and how many bytes are wanting.
+//! of pieces, how many bytes are wanting, and kinds that it lacks.
 mod values;
 
 use nfsserve::{Handler, Reading, Records, Wire};
 
 use crate::answers::{Choice, Refusal, Took, Unwritten, Wrote, BOUND, REPLY};
 use crate::model::Model;
+use crate::shapes::{kind, KINDS, LACKED};
+use crate::tally::Judged;
 
 /// The crate allocates by the claimed length or count before it looks whether so much is there. Above this (and above
 /// what the message holds) it is not asked, and the answer must be refusal 1.
@@ -17,21 +19,28 @@ const NO_PLACE: usize = usize::MAX;
 
 pub struct Truth {
     wire: Wire,
-    /// What the message last read is written as: by the crate, where it was taken.
+    /// For each kind its number in the crate's list, and none if the crate lacks it.
+    in_crate: Vec<Option<usize>>,
+    /// What the message last read is written as, where it was taken: by the crate, or by the model if the crate lacks the kind.
     pub rewriting: Vec<u8>,
     from_model: Vec<u8>,
     reply: Vec<u8>,
     sent: Vec<u8>,
-    /// How often the crate was not asked because of a claim.
-    pub unasked: u64,
+    /// Who was asked about what was read.
+    pub judged: Judged,
 }
 
 impl Truth {
     pub fn new() -> Truth {
-        let names = crate::shapes::KINDS.iter().map(|(name, _)| *name);
-        assert!(names.eq(nfsserve::KINDS.iter().copied()), "the kinds of both sides are the same, in the same order");
-        let wire = Wire::new().expect("a runtime and a pair of sockets can be made");
-        Truth { wire, rewriting: Vec::new(), from_model: Vec::new(), reply: Vec::new(), sent: Vec::new(), unasked: 0 }
+        Truth {
+            wire: Wire::new().expect("a runtime and a pair of sockets can be made"),
+            in_crate: in_crate(),
+            rewriting: Vec::new(),
+            from_model: Vec::new(),
+            reply: Vec::new(),
+            sent: Vec::new(),
+            judged: Judged::default(),
+        }
     }
 
     /// The answer to reading; `rewriting` then holds the rewriting.
@@ -40,18 +49,26 @@ impl Truth {
         if let Err(Refusal { number: 3 | 9, .. }) = model.answer {
             return model.answer;
         }
+        let Some(number) = self.in_crate[kind] else {
+            self.judged.by_model += 1;
+            std::mem::swap(&mut self.rewriting, &mut self.from_model);
+            return model.answer.map(|took| self.took(source, at, took.next));
+        };
         if too_large(model.claim, source) {
-            self.unasked += 1;
+            self.judged.unasked += 1;
             return Err(placed(Reading::Short, model.answer.err()));
         }
-        match nfsserve::read(kind, &source[at..], &mut self.rewriting) {
-            Reading::Took(used) => {
-                let next = at + used;
-                assert!(self.rewriting.len() <= used.max(40), "a rewriting is not longer than that");
-                Ok(Took { next, plain: source[at..next] == self.rewriting, length: self.rewriting.len() })
-            },
+        self.judged.by_crate += 1;
+        match nfsserve::read(number, &source[at..], &mut self.rewriting) {
+            Reading::Took(used) => Ok(self.took(source, at, at + used)),
             refused => Err(placed(refused, model.answer.err())),
         }
+    }
+
+    /// What was taken, from one place to the next; `rewriting` holds what it is written as.
+    fn took(&self, source: &[u8], at: usize, next: usize) -> Took {
+        assert!(self.rewriting.len() <= (next - at).max(40), "a rewriting is not longer than that");
+        Took { next, plain: source[at..next] == self.rewriting, length: self.rewriting.len() }
     }
 
     /// The answer of the choice of program, and what it leaves in `out`.
@@ -65,9 +82,10 @@ impl Truth {
             return model.choice;
         }
         if too_large(model.claim, message) {
-            self.unasked += 1;
+            self.judged.unasked += 1;
             return Choice::Refused(placed(Reading::Short, refusal));
         }
+        self.judged.by_crate += 1;
         let choice = self.wire.choose(message, seen, &mut self.reply);
         let replied = matches!(choice, nfsserve::Choice::Replied);
         assert_eq!(replied, !self.reply.is_empty(), "the crate writes exactly if it replies");
@@ -116,6 +134,16 @@ impl Truth {
         let too_long = first_too_long(stream, capacity);
         (self.wire.records(&stream[..too_long.unwrap_or(stream.len())]), too_long)
     }
+}
+
+/// For each kind its number in the crate's list. The crate must have all kinds, in the same order, but for those that it is
+/// known to lack: none of the others may pass without it.
+fn in_crate() -> Vec<Option<usize>> {
+    let names = || KINDS.iter().map(|(name, _)| *name);
+    let had = names().filter(|name| !LACKED.contains(name));
+    assert!(had.eq(nfsserve::KINDS.iter().copied()), "the crate has the kinds that it does not lack, in the same order");
+    assert!(LACKED.iter().all(|name| kind(name).is_some()), "what the crate lacks are kinds");
+    names().map(|name| nfsserve::KINDS.iter().position(|had| *had == name)).collect()
 }
 
 /// Bytes of the crate, put into a buffer from a place inside it on, if they fit.

@@ -29,11 +29,13 @@ impl Truth {
             return Err(Refusal::ended(0, 4));
         };
         if too_large(model.claim, message) {
-            self.unasked += 1;
+            self.judged.unasked += 1;
             return Err(placed(Reading::Short, model.answer.err()));
         }
         let kind = kind(Value::AuthUnix.kind()).expect("the kind is known");
-        match nfsserve::read(kind, body, &mut self.rewriting) {
+        let number = self.in_crate[kind].expect("the crate has it");
+        self.judged.by_crate += 1;
+        match nfsserve::read(number, body, &mut self.rewriting) {
             Reading::Took(used) => {
                 let plain = body[..used] == self.rewriting;
                 let mut figures = vec![(at + used) as u64, u64::from(plain)];

@@ -1,10 +1,10 @@
-//! Passes a SETATTR of an old client on, clean: header, credential, handle, change and guard, each read as it was meant and
-//! written in published form. The client sets the size with a flag of `FFFFFFFF`, and leaves rubbish in the padding behind
-//! its machine's name.
+//! Passes a SETATTR of an old client on, clean: header, credential and arguments, each read as it was meant and written in
+//! published form. The client sets the size with a flag of `FFFFFFFF`, and leaves rubbish in the padding behind its
+//! machine's name.
 //!
 //! ```text
 //! $ cargo run --example pass_setattr
-//! call 42: nfs 3 procedure 2, by uid 1000 on old
+//! call 42: SETATTR, by uid 1000 on old
 //! change: size becomes 0
 //! as it came:
 //!   0000002a 00000000 00000002 000186a3 00000003 00000002 00000001 00000018
@@ -20,7 +20,7 @@
 use std::error::Error;
 use std::io::{self, Write};
 
-use yugerzat::{append_rewriting, AuthFlavor, AuthUnix, Body, Kind, Message, Sattr3};
+use yugerzat::{AuthFlavor, AuthUnix, Body, Message, Procedure, Setattr3args};
 
 const CAME: [u32; 27] = [
     42, 0, 2, 100_003, 3, 2, // xid 42, CALL, RPC version 2, NFS version 3, SETATTR
@@ -38,11 +38,11 @@ pub fn pass(came: &[u8], says: &mut impl Write) -> Result<Vec<u8>, Box<dyn Error
     // The header. Its credential is opaque there, and is cleaned by itself; the call is written with the clean one.
     let header = Message::read(came, 0)?;
     let mut call = match header.value.body {
-        Body::Call(call) => call,
-        Body::Reply(_) => return Err("a reply is no call".into()),
+        Body::Call(call) if call.procedure() == Some(Procedure::Setattr) => call,
+        _ => return Err("this is no SETATTR".into()),
     };
     let mut credential = Vec::new();
-    write!(says, "call {}: nfs {} procedure {}", header.value.xid, call.vers, call.proc)?;
+    write!(says, "call {}: {}", header.value.xid, Procedure::Setattr)?;
     if call.cred.flavor == AuthFlavor::Unix {
         let caller = AuthUnix::read(call.cred.body)?.value;
         caller.append(&mut credential)?;
@@ -52,17 +52,15 @@ pub fn pass(came: &[u8], says: &mut impl Write) -> Result<Vec<u8>, Box<dyn Error
     writeln!(says)?;
     call.append(header.value.xid, &mut out)?;
 
-    // The arguments: the handle of a file, as any kind; what to change; and a guard, a flag and perhaps a time.
-    let handle = append_rewriting(Kind::NfsFh3, came, header.next, &mut out)?;
-    let change = Sattr3::read(came, handle.next)?;
-    if let Some(size) = change.value.size {
+    // The arguments: the handle of a file, what to change, and perhaps a guard.
+    let arguments = Setattr3args::read(came, header.next)?.value;
+    if let Some(size) = arguments.new_attributes.size {
         writeln!(says, "change: size becomes {size}")?;
     }
-    change.value.append(&mut out)?;
-    let guard = append_rewriting(Kind::Bool, came, change.next, &mut out)?;
-    if out.ends_with(&[0, 0, 0, 1]) {
-        append_rewriting(Kind::Nfstime3, came, guard.next, &mut out)?;
+    if let Some(ctime) = arguments.guard {
+        writeln!(says, "guard: only if nothing changed since {}.{:09}", ctime.seconds, ctime.nseconds)?;
     }
+    arguments.append(&mut out)?;
     Ok(out)
 }
 

@@ -1,33 +1,43 @@
 //! A relay between clients that bend the rules and a server that doesn't. It takes record-marked calls from standard input
-//! and passes them on to standard output, one fragment each: the header in published form, the arguments as they came. It is
-//! what `c/filter.c` is in C.
+//! and passes them on to standard output, one fragment each. The header goes out in published form, and so do the arguments
+//! of the procedures that the library knows; those of others go out as they came.
 //!
 //! ```text
 //! $ cargo run --example relay < calls > clean
 //! record 2: loose
-//! record 3: refused: refusal 2 at place 24: a number that must be declared is not
-//! record 4: refused: refusal 8: a REPLY reached the choice of program
+//! record 3: loose
+//! record 4: refused: refusal 2 at place 24: a number that must be declared is not
+//! record 5: refused: refusal 8: a REPLY reached the choice of program
+//! record 6: refused: refusal 1 at place 48: the message ends inside an item, 8 bytes are wanting
 //! ```
 //!
-//! The second call has dirty padding behind its credential. The third has a credential of flavor 6, `RPCSEC_GSS`, which the
-//! library refuses; the fourth is a reply. What is refused is not passed on, and then the relay ends with 1. A header covers
-//! neither the arguments nor the inside of a credential: see the example `pass_setattr` for these.
+//! The second call has dirty padding behind its credential. The third is a SETATTR that sets the size with a flag of
+//! `FFFFFFFF`. The fourth has a credential of flavor 6, `RPCSEC_GSS`, which the library refuses; the fifth is a reply; the
+//! sixth is a READ without an offset. What is refused is not passed on, and then the relay ends with 1. A header does not
+//! cover the inside of a credential: see the example `pass_setattr` for that.
 use std::io::{self, BufReader, Read, Write};
 use std::process::ExitCode;
 
-use yugerzat::{append_fragment, Body, Message, Records, Refusal};
+use yugerzat::{append_fragment, append_rewriting, Body, Message, Records, Refusal};
 
-/// A call as it is passed on, and whether its header was plain.
+/// A call as it is passed on, and whether its header and its arguments were plain.
 fn clean(record: &[u8]) -> Result<(Vec<u8>, bool), Refusal> {
     let header = Message::read(record, 0)?;
-    if let Body::Reply(_) = header.value.body {
-        return Err(Refusal::ReplyCame);
-    }
+    let (mut next, mut plain) = (header.next, header.plain);
+    let call = match header.value.body {
+        Body::Call(call) => call,
+        Body::Reply(_) => return Err(Refusal::ReplyCame),
+    };
     let (mut message, mut out) = (Vec::new(), Vec::new());
-    header.value.append(&mut message)?;
-    message.extend_from_slice(&record[header.next..]);
+    call.append(header.value.xid, &mut message)?;
+    if let Some(procedure) = call.procedure() {
+        let arguments = append_rewriting(procedure.arguments(), record, next, &mut message)?;
+        next = arguments.next;
+        plain &= arguments.plain;
+    }
+    message.extend_from_slice(&record[next..]);
     append_fragment(&message, &mut out)?;
-    Ok((out, header.plain))
+    Ok((out, plain))
 }
 
 /// Passes the calls on, and says which are loose or refused. Gives whether all were passed on.

@@ -2,7 +2,9 @@
 use std::vec::Vec;
 
 use crate::{
-    judge, rewrite, write_fragment, AuthUnix, Call, Diropargs3, Fattr3, Kind, Message, Refusal, Reply, Rewritten, Sattr3,
+    judge, rewrite, write_fragment, Arguments, AuthUnix, Call, Diropargs3, Fattr3, Getattr3args, Getattr3res, Kind,
+    Lookup3args, Lookup3res, Message, Read3args, Read3res, Refusal, Reply, Results, Rewritten, Sattr3, Setattr3args,
+    Setattr3res, Write3args, Write3res,
 };
 
 /// Makes room for `size` bytes at the end of `out` and has them written. A refusal leaves `out` as it was.
@@ -44,18 +46,30 @@ appending! {
     Diropargs3<'_>: "`TooLong`: the handle, the name or the whole.";
     AuthUnix<'_>: "`TooLong`: the name, the groups or the whole.";
     Message<'_>: "`TooLong`: a body or the whole.";
+    Getattr3args<'_>: "`TooLong`: the handle or the whole.";
+    Getattr3res: "None in practice: there is always room.";
+    Setattr3args<'_>: "`TooLong`: the handle or the whole.";
+    Setattr3res: "None in practice: there is always room.";
+    Lookup3args<'_>: "`TooLong`: the handle, the name or the whole.";
+    Lookup3res<'_>: "`TooLong`: the handle or the whole.";
+    Read3args<'_>: "`TooLong`: the handle or the whole.";
+    Read3res<'_>: "`TooLong`: the data or the whole.";
+    Write3args<'_>: "`TooLong`: the handle, the data or the whole.";
+    Write3res: "None in practice: there is always room.";
+    Arguments<'_>: "`TooLong`: a part or the whole.";
+    Results<'_>: "`TooLong`: a part or the whole.";
 }
 
 impl Call<'_> {
     /// Appends an `rpc_msg` with this call to `out`; the arguments go behind it. A refusal leaves `out` as it was.
     ///
     /// ```
-    /// use yugerzat::{Call, Diropargs3};
+    /// use yugerzat::{Call, Diropargs3, Lookup3args, Procedure};
     ///
-    /// // A LOOKUP.
     /// let mut message = Vec::new();
-    /// Call { rpcvers: 2, prog: 100_003, vers: 3, proc: 3, ..Call::default() }.append(42, &mut message)?;
-    /// Diropargs3 { dir: &[1, 2, 3, 4], name: b"notes" }.append(&mut message)?;
+    /// let proc = Procedure::Lookup.number();
+    /// Call { rpcvers: 2, prog: 100_003, vers: 3, proc, ..Call::default() }.append(42, &mut message)?;
+    /// Lookup3args { what: Diropargs3 { dir: &[1, 2, 3, 4], name: b"notes" } }.append(&mut message)?;
     /// assert_eq!(message.len(), 40 + 8 + 12);
     /// # Ok::<(), yugerzat::Refusal>(())
     /// ```

@@ -93,6 +93,18 @@ kinds! {
     Sattr3 "sattr3",
     Diropargs3 "diropargs3",
     Symlinkdata3 "symlinkdata3",
+    StableHow "stable_how",
+    Sattrguard3 "sattrguard3",
+    Getattr3args "getattr3args",
+    Getattr3res "getattr3res",
+    Setattr3args "setattr3args",
+    Setattr3res "setattr3res",
+    Lookup3args "lookup3args",
+    Lookup3res "lookup3res",
+    Read3args "read3args",
+    Read3res "read3res",
+    Write3args "write3args",
+    Write3res "write3res",
 }
 // end of kinds
 

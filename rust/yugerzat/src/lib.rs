@@ -43,6 +43,7 @@
 //! | a stream of records | `Records`, or [`Assembler`] where you read yourself |
 //! | a message of any [kind](Kind) | [`judge`]: is it plain? [`rewrite`]: what is its published form? |
 //! | a call or a reply | [`Message::read`], then [`AuthUnix::read`] for the caller |
+//! | a [procedure](Procedure)'s arguments or results | [`Arguments`], [`Results`], or the one type: [`Setattr3args`] |
 //! | attributes, a change, a name in a directory | [`Fattr3`], [`Sattr3`], [`Diropargs3`] |
 //! | a call to be served | [`choose`]: hand it over, answer it, or keep silent |
 //! | a message to be sent | `write` into a slice or `append` to a `Vec`, then [`write_fragment`] |
@@ -50,26 +51,33 @@
 //! Readers take bytes and a place, which is an offset into them. They give a [`Reading`]: the value, the `next` place, and
 //! whether it was plain. Values borrow their bytes from the message, and nothing is copied.
 //!
-//! A relay passes calls on with their headers in published form and their arguments as they came:
+//! A relay passes calls on in published form, the header and, where the [`Procedure`] is known, the arguments:
 //!
 //! ```
 //! # #[cfg(feature = "std")]
 //! # fn main() -> Result<(), Box<dyn std::error::Error>> {
-//! use yugerzat::{append_fragment, append_rewriting, Kind, Records};
+//! use yugerzat::{append_fragment, append_rewriting, Body, Message, Records};
 //!
-//! // One record, a NULL call of NFS. Any std::io::Read can be the stream.
-//! let mut stream = vec![0x80, 0, 0, 40, 0, 0, 0, 42, 0, 0, 0, 0, 0, 0, 0, 2, 0, 1, 0x86, 0xA3, 0, 0, 0, 3];
+//! // One record: a GETATTR, with dirt behind the handle. Any std::io::Read can be the stream.
+//! let mut stream = vec![0x80, 0, 0, 48, 0, 0, 0, 42, 0, 0, 0, 0, 0, 0, 0, 2, 0, 1, 0x86, 0xA3, 0, 0, 0, 3, 0, 0, 0, 1];
 //! stream.resize(44, 0);
+//! stream.extend([0, 0, 0, 1, 0xAA, 0, 0, 0xFF]);
 //!
 //! let mut out = Vec::new();
 //! for record in Records::new(&stream[..]) {
-//!     let record = record?;
-//!     let mut message = Vec::new();
-//!     let header = append_rewriting(Kind::RpcMsg, &record, 0, &mut message)?;
-//!     message.extend_from_slice(&record[header.next..]);
+//!     let (record, mut message) = (record?, Vec::new());
+//!     let header = Message::read(&record, 0)?;
+//!     header.value.append(&mut message)?;
+//!     let mut next = header.next;
+//!     if let Body::Call(call) = header.value.body {
+//!         if let Some(procedure) = call.procedure() {
+//!             next = append_rewriting(procedure.arguments(), &record, next, &mut message)?.next;
+//!         }
+//!     }
+//!     message.extend_from_slice(&record[next..]);
 //!     append_fragment(&message, &mut out)?;
 //! }
-//! assert_eq!(out, stream);
+//! assert_eq!((&out[..51], out[51]), (&stream[..51], 0));
 //! # Ok(())
 //! # }
 //! # #[cfg(not(feature = "std"))]
@@ -77,7 +85,7 @@
 //! ```
 //!
 //! The folder `examples/` has such a relay, a program that judges a stream, and one that passes on a SETATTR of the old
-//! client.
+//! client, and says what it sets.
 //!
 //! # What plain does not say
 //!
@@ -89,6 +97,9 @@
 //! Plain covers the bytes that were used, and no others. The header of a call does not cover its arguments, nor what stands
 //! inside its credential: dirt inside an `AUTH_UNIX` body is seen by [`AuthUnix::read`] alone.
 //!
+//! Plain says nothing about sense. The `count` of a WRITE, or of what a READ gives, is not compared with the length of the
+//! data.
+//!
 //! # Limits
 //!
 //! A message has at most [`LIMIT`] bytes. Credentials of flavors above 3 are refused, `RPCSEC_GSS` among them, and so are
@@ -99,6 +110,10 @@
 //! No function panics or touches memory that was not lent, and every byte string and every place gets an answer. A refusal
 //! leaves every buffer as it was; the one exception is [`Assembler::feed`], which says so. What is proved, and of what,
 //! stands in docs/SCOPE.md. What this crate adds, its types over the library's lists of numbers, is tested and not proved.
+//!
+//! For arguments and results the library has no such lists. The verdict is still its own: [`judge`] is asked first, so that
+//! refusals, `next` and `plain` are the proved ones. It is asked again about what was written, which is handed over only if
+//! it is plain. That the fields of [`Read3res`] and its like are those of the message is tested.
 //!
 //! # The library
 //!
@@ -132,6 +147,8 @@ mod choice;
 mod kind;
 mod message;
 mod names;
+mod procedure;
+mod procedures;
 mod record;
 #[cfg(feature = "std")]
 mod records;
@@ -145,6 +162,12 @@ pub use attributes::{Diropargs3, Fattr3, Ftype3, Nfstime3, Sattr3, SetTime, Spec
 pub use choice::{choose, Choice};
 pub use kind::{judge, rewrite, Judged, Kind, Rewritten, UnknownKind};
 pub use message::{AcceptStat, Auth, AuthFlavor, AuthStat, AuthUnix, Body, Call, Message, Reply};
+pub use procedure::{Procedure, UnknownProcedure};
+pub use procedures::{
+    Arguments, Getattr3args, Getattr3res, Getattr3resok, Lookup3args, Lookup3res, Lookup3resfail, Lookup3resok, Nfsfail3,
+    Read3args, Read3res, Read3resfail, Read3resok, Results, Setattr3args, Setattr3res, Setattr3resfail, Setattr3resok,
+    StableHow, UnknownNumber, WccAttr, WccData, Write3args, Write3res, Write3resfail, Write3resok,
+};
 pub use record::{write_fragment, Assembler, Fed, FeedError};
 #[cfg(feature = "std")]
 pub use records::{RecordError, Records};

@@ -187,12 +187,12 @@ mod tests {
     use std::{format, println};
 
     use super::{answer, figure, figures, tag};
-    use crate::{AuthFlavor, AuthStat, Fattr3, Ftype3, Kind, LIMIT};
+    use crate::{AuthFlavor, AuthStat, Fattr3, Ftype3, Kind, Nfsfail3, Procedure, StableHow, LIMIT};
 
-    /// The two headers without their comments.
+    /// The headers without their comments.
     fn headers() -> String {
         let mut text = String::new();
-        for name in ["yugerzat.h", "yugerzat_list.h"] {
+        for name in ["yugerzat.h", "yugerzat_list.h", "yugerzat_nfs.h"] {
             let path = format!("{}/../../include/{name}", env!("CARGO_MANIFEST_DIR"));
             let file = std::fs::read_to_string(&path).unwrap_or_else(|e| panic!("{path} cannot be read: {e}"));
             let mut parts = file.split("/*");
@@ -230,6 +230,17 @@ mod tests {
         }
         for kind in Kind::all() {
             due(&format!("YUGERZAT_KIND_{}", kind.name().to_uppercase()), kind.number().into());
+        }
+        for procedure in Procedure::all() {
+            due(&format!("YUGERZAT_PROCEDURE_{}", procedure.name()), procedure.number().into());
+        }
+        let failures: Vec<Nfsfail3> = (0..20_000).filter_map(|number| Nfsfail3::try_from(number).ok()).collect();
+        for failure in &failures {
+            due(&format!("YUGERZAT_{failure}"), failure.number().into());
+        }
+        assert_eq!(found.keys().filter(|name| name.starts_with("YUGERZAT_NFS3ERR_")).count(), failures.len());
+        for stable in [StableHow::Unstable, StableHow::DataSync, StableHow::FileSync] {
+            due(&format!("YUGERZAT_{stable}"), stable.number().into());
         }
         due("YUGERZAT_AUTH_NULL", AuthFlavor::Null as u64);
         due("YUGERZAT_AUTH_UNIX", AuthFlavor::Unix as u64);

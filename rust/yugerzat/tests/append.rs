@@ -52,8 +52,48 @@ fn values_are_appended_as_they_are_written() {
         let message = Message { xid: 42, body };
         appends(|out| message.append(out), |out, start| message.write(out, start));
     }
+    let failed = Read3res::Failed(Nfsfail3::Io, Read3resfail { file_attributes: Some(attributes) });
+    appends(|out| failed.append(out), |out, start| failed.write(out, start));
+    let looked = Lookup3args { what: name };
+    appends(|out| looked.append(out), |out, start| looked.write(out, start));
     for message in [&b""[..], b"abc"] {
         appends(|out| append_fragment(message, out), |out, start| write_fragment(message, out, start));
+    }
+}
+
+/// The arguments and results in kinds.txt, as they are and through the enums over all procedures.
+#[test]
+fn arguments_and_results_are_appended_as_they_are_written() {
+    let message = |kind: Kind| -> Vec<u8> {
+        let table = include_str!("../../../kinds.txt").lines().filter(|line| !line.starts_with('#'));
+        let mut rows = table.map(|row| row.split('|').map(str::trim).collect::<Vec<_>>());
+        let row = rows.find(|row| row.get(1) == Some(&kind.name())).expect("every kind has a row");
+        let digits: Vec<u8> = row[5].bytes().map(|digit| (digit as char).to_digit(16).expect("hex") as u8).collect();
+        digits.chunks(2).map(|two| two[0] << 4 | two[1]).collect()
+    };
+    for procedure in Procedure::all() {
+        let bytes = message(procedure.arguments());
+        let arguments = Arguments::read(procedure, &bytes, 0).unwrap().value;
+        appends(|out| arguments.append(out), |out, start| arguments.write(out, start));
+        match arguments {
+            Arguments::Getattr(value) => appends(|out| value.append(out), |out, start| value.write(out, start)),
+            Arguments::Setattr(value) => appends(|out| value.append(out), |out, start| value.write(out, start)),
+            Arguments::Lookup(value) => appends(|out| value.append(out), |out, start| value.write(out, start)),
+            Arguments::Read(value) => appends(|out| value.append(out), |out, start| value.write(out, start)),
+            Arguments::Write(value) => appends(|out| value.append(out), |out, start| value.write(out, start)),
+            other => panic!("{other:?}"),
+        }
+        let bytes = message(procedure.results());
+        let results = Results::read(procedure, &bytes, 0).unwrap().value;
+        appends(|out| results.append(out), |out, start| results.write(out, start));
+        match results {
+            Results::Getattr(value) => appends(|out| value.append(out), |out, start| value.write(out, start)),
+            Results::Setattr(value) => appends(|out| value.append(out), |out, start| value.write(out, start)),
+            Results::Lookup(value) => appends(|out| value.append(out), |out, start| value.write(out, start)),
+            Results::Read(value) => appends(|out| value.append(out), |out, start| value.write(out, start)),
+            Results::Write(value) => appends(|out| value.append(out), |out, start| value.write(out, start)),
+            other => panic!("{other:?}"),
+        }
     }
 }
 
@@ -66,6 +106,15 @@ fn what_is_too_long_leaves_a_vector_as_it_was() {
     refuses(|out| Call { verf, ..Call::default() }.append(42, out));
     refuses(|out| Reply::Accepted { verf, stat: AcceptStat::Success }.append(42, out));
     refuses(|out| Message { xid: 42, body: Body::Call(Call { verf, ..Call::default() }) }.append(out));
+    refuses(|out| Getattr3args { object: &long[..LIMIT] }.append(out));
+    refuses(|out| Setattr3args { object: &long[..LIMIT], ..Setattr3args::default() }.append(out));
+    refuses(|out| Lookup3args { what: Diropargs3 { dir: b"", name: &long[..LIMIT] } }.append(out));
+    refuses(|out| Lookup3res::Ok(Lookup3resok { object: &long[..LIMIT], ..Lookup3resok::default() }).append(out));
+    refuses(|out| Read3args { file: &long[..LIMIT], ..Read3args::default() }.append(out));
+    refuses(|out| Read3res::Ok(Read3resok { data: &long[..LIMIT], ..Read3resok::default() }).append(out));
+    let write = Write3args { file: b"", offset: 0, count: 0, stable: StableHow::Unstable, data: &long[..LIMIT] };
+    refuses(|out| write.append(out));
+    refuses(|out| Arguments::Write(write).append(out));
     refuses(|out| append_fragment(&long, out));
     refuses(|out| append_rewriting(Kind::U32, &long, 0, out).map(drop));
 }
@@ -121,4 +170,10 @@ fn refusals_are_errors() {
     assert_eq!(io::Error::from(fed).kind(), ErrorKind::InvalidData);
     let unknown: Box<dyn Error> = "sattr".parse::<Kind>().unwrap_err().into();
     assert_eq!(unknown.to_string(), "there is no kind of message of that name or number");
+    let unknown: Box<dyn Error> = Procedure::try_from(0).unwrap_err().into();
+    assert_eq!(unknown.to_string(), "there is no known procedure of that number");
+    let unknown: Box<dyn Error> = Nfsfail3::try_from(0).unwrap_err().into();
+    assert_eq!(unknown.to_string(), "that number is not declared");
+    let failure: Box<dyn Error> = Nfsfail3::Stale.into();
+    assert_eq!(failure.to_string(), "NFS3ERR_STALE");
 }

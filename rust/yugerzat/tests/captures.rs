@@ -1,13 +1,14 @@
 //! The relay of `examples/relay.rs` over what real programs sent: every call passes byte for byte, as plain. Only where
-//! fragments begin may change.
+//! fragments begin may change. Arguments and results are read into their types, and written back as they came.
 //!
 //! The captures are those of the folder that CAPTURES names, or else of `captures` in the folder `shared` beside the
 //! repository. Where they are not there, the test says so and ends.
 #![cfg(feature = "std")]
+use std::collections::{BTreeMap, HashMap};
 use std::path::{Path, PathBuf};
 use std::{env, fs};
 
-use yugerzat::{AuthFlavor, AuthUnix, Body, Message, Records};
+use yugerzat::{AcceptStat, Arguments, AuthFlavor, AuthUnix, Body, Message, Records, Reply, Results};
 
 #[allow(dead_code)]
 #[path = "../examples/relay.rs"]
@@ -104,4 +105,53 @@ fn captured_replies_are_written_as_they_were_read() {
         }
     }
     println!("{replies} replies of {} files: all headers came back", files.len());
+}
+
+#[test]
+fn captured_arguments_and_results_are_written_as_they_were_read() {
+    let files = match files("c2s") {
+        Some(files) => files,
+        None => return,
+    };
+    // How many calls of each procedure there were, and how many of their results.
+    let mut seen = BTreeMap::new();
+    for file in &files {
+        let mut called = HashMap::new();
+        for record in records(&fs::read(file).unwrap()).0 {
+            let header = Message::read(&record, 0).unwrap();
+            let procedure = match header.value.body {
+                Body::Call(call) => call.procedure(),
+                Body::Reply(_) => panic!("{}: a client sent a reply", file.display()),
+            };
+            if let Some(procedure) = procedure {
+                let arguments = Arguments::read(procedure, &record, header.next).unwrap();
+                assert!(arguments.plain && arguments.next == record.len(), "{}: {arguments:?}", file.display());
+                let mut written = Vec::new();
+                arguments.value.append(&mut written).unwrap();
+                assert_eq!(written, record[header.next..], "{}", file.display());
+                seen.entry(procedure).or_insert((0, 0)).0 += 1;
+                called.insert(header.value.xid, procedure);
+            }
+        }
+        let replies = file.to_string_lossy().replace("-c2s.bin", "-s2c.bin");
+        for record in records(&fs::read(&replies).unwrap()).0 {
+            let header = Message::read(&record, 0).unwrap();
+            let procedure = match header.value.body {
+                Body::Reply(Reply::Accepted { stat: AcceptStat::Success, .. }) => called.get(&header.value.xid),
+                _ => None,
+            };
+            if let Some(procedure) = procedure {
+                let results = Results::read(*procedure, &record, header.next).unwrap();
+                assert!(results.plain && results.next == record.len(), "{replies}: {results:?}");
+                let mut written = Vec::new();
+                results.value.append(&mut written).unwrap();
+                assert_eq!(written, record[header.next..], "{replies}");
+                seen.entry(*procedure).or_insert((0, 0)).1 += 1;
+            }
+        }
+    }
+    for (procedure, (calls, replies)) in &seen {
+        println!("{procedure}: {calls} calls and {replies} results came back");
+    }
+    assert!(!seen.is_empty(), "the captures have no call of a known procedure");
 }

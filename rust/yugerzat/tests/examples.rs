@@ -65,18 +65,23 @@ fn pass_setattr_passes_a_guard_on() {
     assert_eq!(passed(&[0]).unwrap(), bytes(&[&call[..], &[0]].concat()));
     assert_eq!(passed(&[7, 8, 9]).unwrap(), bytes(&[&call[..], &[1, 8, 9]].concat()));
     assert!(passed(&[]).is_err() && passed(&[1, 8]).is_err());
+    // A reply, and a GETATTR.
     assert!(pass_setattr::pass(&bytes(&[42, 1, 0, 0, 0, 0]), &mut std::io::sink()).is_err());
+    assert!(pass_setattr::pass(&bytes(&[42, 0, 2, 100_003, 3, 1, 0, 0, 0, 0, 0]), &mut std::io::sink()).is_err());
 }
 
 #[test]
 fn relay_prints_what_it_says() {
     let null = [0, 2, 100_003, 3, 0];
+    let setattr = |flag: u32| [0, 2, 100_003, 3, 2, 0, 0, 0, 0, 4, 0x0A0B_0C0D, 0, 0, 0, flag, 0, 0, 0, 0, 0];
     let calls = stream(&[
         &[&[1], &null[..], &[0, 0, 0, 0, 77]].concat(),
         &[&[2], &null[..], &[2, 1, 0xAA00_0001, 0, 0, 78]].concat(),
-        &[&[3], &null[..], &[6, 0, 0, 0, 79]].concat(),
-        &[4, 1, 0, 0, 0, 0],
-        &[&[5], &null[..], &[0, 0, 0, 0]].concat(),
+        &[&[3], &setattr(u32::MAX)[..]].concat(),
+        &[&[4], &null[..], &[6, 0, 0, 0, 79]].concat(),
+        &[5, 1, 0, 0, 0, 0],
+        &[6, 0, 2, 100_003, 3, 6, 0, 0, 0, 0, 4, 0x0A0B_0C0D],
+        &[&[7], &null[..], &[0, 0, 0, 0]].concat(),
     ]);
     let (mut clean, mut says) = (Vec::new(), Vec::new());
     assert!(!relay::relay(&calls[..], &mut clean, &mut says).unwrap());
@@ -84,7 +89,8 @@ fn relay_prints_what_it_says() {
     let due = stream(&[
         &[&[1], &null[..], &[0, 0, 0, 0, 77]].concat(),
         &[&[2], &null[..], &[2, 1, 0xAA00_0000, 0, 0, 78]].concat(),
-        &[&[5], &null[..], &[0, 0, 0, 0]].concat(),
+        &[&[3], &setattr(1)[..]].concat(),
+        &[&[7], &null[..], &[0, 0, 0, 0]].concat(),
     ]);
     assert_eq!(clean, due);
 
@@ -92,6 +98,44 @@ fn relay_prints_what_it_says() {
     let (mut again, mut says) = (Vec::new(), Vec::new());
     assert!(relay::relay(&clean[..], &mut again, &mut says).unwrap());
     assert_eq!((again, says), (clean, vec![]));
+}
+
+/// The relay's answer to one call: what goes out, if it does, and whether it was called loose.
+fn relayed(call: &[u32]) -> (Vec<u8>, bool) {
+    let (mut clean, mut says) = (Vec::new(), Vec::new());
+    relay::relay(&stream(&[call])[..], &mut clean, &mut says).unwrap();
+    (clean, says.ends_with(b"loose\n"))
+}
+
+#[test]
+fn relay_cleans_the_arguments_of_every_known_procedure() {
+    // Behind the header: a handle of one byte with dirty padding, and what else the procedure takes.
+    let arguments: [(u32, &[u32]); 5] = [
+        (1, &[]),
+        (2, &[0, 0, 0, 0, 0, 0, 0]),
+        (3, &[4, 0x6E6F_7465]),
+        (6, &[0, 0, 512]),
+        (7, &[0, 0, 4, 2, 4, 0x6461_7461]),
+    ];
+    for (procedure, arguments) in arguments {
+        let call = |program: u32, version: u32, pad: u32| {
+            let header = [42, 0, 2, program, version, procedure, 0, 0, 0, 0];
+            [&header[..], &[1, 0xAA00_0000 + pad], arguments].concat()
+        };
+        assert_eq!(relayed(&call(100_003, 3, 0xFF)), (stream(&[&call(100_003, 3, 0)]), true), "{procedure}");
+        assert_eq!(relayed(&call(100_003, 3, 0)), (stream(&[&call(100_003, 3, 0)]), false), "{procedure}");
+        // Words behind the arguments go out as they came.
+        let more = |pad: u32| [&call(100_003, 3, pad)[..], &[u32::MAX]].concat();
+        assert_eq!(relayed(&more(1)), (stream(&[&more(0)]), true), "{procedure}");
+        // Another program or version has the number for another procedure.
+        for (program, version) in [(100_003, 2), (100_003, 4), (100_005, 3), (100_000, 2)] {
+            let other = call(program, version, 0xFF);
+            assert_eq!(relayed(&other), (stream(&[&other]), false), "{procedure} of {program}, {version}");
+        }
+    }
+    // ACCESS is not known here: a handle and a word, as they came.
+    let access = [42, 0, 2, 100_003, 3, 4, 0, 0, 0, 0, 1, 0xAA00_00FF, 63];
+    assert_eq!(relayed(&access), (stream(&[&access]), false));
 }
 
 #[test]

@@ -42,6 +42,7 @@ fn kinds_have_their_numbers_and_names() {
     assert_eq!(format!("{:>8}|{:<8}", Kind::Bool, Kind::RpcMsg), "    bool|rpc_msg ");
     assert_eq!((Kind::RpcMsg.number(), Kind::RpcMsg.name()), (20, "rpc_msg"));
     assert_eq!((Kind::Symlinkdata3.number(), Kind::Symlinkdata3.name()), (46, "symlinkdata3"));
+    assert_eq!((Kind::Write3res.number(), Kind::Write3res.name()), (58, "write3res"));
 }
 
 #[test]
@@ -57,9 +58,9 @@ fn kinds_are_found_by_number_and_name() {
     for name in ["", "sattr", "sattr33", "Sattr3", "SATTR3", " sattr3", "44"] {
         assert!(name.parse::<Kind>().is_err(), "{name:?}");
     }
-    let unknown = Kind::try_from(47).unwrap_err();
+    let unknown = Kind::try_from(59).unwrap_err();
     assert_eq!(unknown.to_string(), "there is no kind of message of that name or number");
-    assert_eq!(Kind::all().next_back(), Some(Kind::Symlinkdata3));
+    assert_eq!(Kind::all().next_back(), Some(Kind::Write3res));
 }
 
 #[test]
@@ -154,6 +155,11 @@ fn what_is_wanting_finishes_the_item() {
     finishes("Sattr3", &hex(SATTR3), 0, |bytes| Sattr3::read(bytes, 0).map(|read| read.next));
     finishes("Diropargs3", &sample(Kind::Diropargs3), 0, |bytes| Diropargs3::read(bytes, 0).map(|read| read.next));
     finishes("Message", &sample(Kind::RpcMsg), 0, |bytes| Message::read(bytes, 0).map(|read| read.next));
+    for procedure in Procedure::all() {
+        let (arguments, results) = (sample(procedure.arguments()), sample(procedure.results()));
+        finishes(procedure.name(), &arguments, 0, |bytes| Arguments::read(procedure, bytes, 0).map(|read| read.next));
+        finishes(procedure.name(), &results, 0, |bytes| Results::read(procedure, bytes, 0).map(|read| read.next));
+    }
 
     // A call with this body of an AUTH_UNIX credential, and a null verifier.
     let call = |body: &[u8]| {

@@ -16,6 +16,11 @@ use Rattle.nfsattr.specs.Meaning.Attr.{ftype, specdata, nfstime, fattr, fsinfo,
 use Rattle.nfs.specs.Meaning.Set.{time-how, set-atime, set-mtime, sattr}
 use Rattle.nfs.specs.Meaning.Dir.{nfs-fh, post-op-fh, diropargs, symlinkdata}
 use Rattle.nfs.specs.Meaning.Change.{set-mode, set-uid, set-gid, set-size}
+use Rattle.nfsfile.specs.Meaning.Setattr.{sattrguard, setattr-args, setattr-res}
+use Rattle.nfsfile.specs.Meaning.Getattr.{getattr-args, getattr-res}
+use Rattle.nfsfile.specs.Meaning.Lookup.{lookup-args, lookup-res}
+use Rattle.nfsdata.specs.Meaning.Write.{stable-how, write-args, write-res}
+use Rattle.nfsdata.specs.Meaning.Read.{read-args, read-res}
 -- end of meanings
 use Rattle.door.specs.Meaning.Copy.{Copy, unknown, Copies}
 
@@ -92,8 +97,25 @@ changeKinds =
     ∷ branch symlinkdata
     ∷ []
 
+-- arguments and results of procedures (RFC 1813)
+abbrev pub procedureKinds : List Branch
+procedureKinds =
+    branch (exactly stable-how)
+    ∷ branch (exactly sattrguard)
+    ∷ branch getattr-args
+    ∷ branch getattr-res
+    ∷ branch setattr-args
+    ∷ branch setattr-res
+    ∷ branch lookup-args
+    ∷ branch lookup-res
+    ∷ branch read-args
+    ∷ branch read-res
+    ∷ branch write-args
+    ∷ branch write-res
+    ∷ []
+
 abbrev pub kinds : List Branch
-kinds = itemKinds ++ closedKinds ++ messageKinds ++ attributeKinds ++ changeKinds
+kinds = itemKinds ++ closedKinds ++ messageKinds ++ attributeKinds ++ changeKinds ++ procedureKinds
 
 -- end of lists
 

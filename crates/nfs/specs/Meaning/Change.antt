@@ -18,7 +18,6 @@ use Rattle.nfs.specs.declared.change.set_gid3.{«set_gid3»}
 use Rattle.nfs.specs.declared.change.set_mode3.{«set_mode3»}
 use Rattle.nfs.specs.declared.change.set_size3.{«set_size3»}
 use Rattle.nfs.specs.declared.change.set_uid3.{«set_uid3»}
-use Rattle.xdr.specs.Laws.Unions.{from}
 use Rattle.nfs.specs.declared.change.SetMode3Read.the-variants as SetMode3
 use Rattle.nfs.specs.declared.change.set_mode3.the-variants as setModeIs
 use Rattle.nfs.specs.declared.change.SetUid3Read.the-variants as SetUid3

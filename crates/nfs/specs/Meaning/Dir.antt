@@ -22,7 +22,6 @@ use Rattle.nfs.specs.declared.dir.nfs_fh3.{«nfs_fh3»}
 use Rattle.nfs.specs.declared.dir.post_op_fh3.{«post_op_fh3»}
 use Rattle.nfs.specs.declared.dir.symlinkdata3.{symlinkdata3}
 use Rattle.nfs.specs.declared.set.sattr3.{sattr3}
-use Rattle.xdr.specs.Laws.Unions.{from}
 use Rattle.nfs.specs.declared.dir.NfsFh3Read.the-variants as NfsFh3
 use Rattle.nfs.specs.declared.dir.PostOpFh3Read.the-variants as PostOpFh3
 use Rattle.nfs.specs.declared.dir.post_op_fh3.the-variants as postOpFhIs

@@ -3,10 +3,12 @@
 use mathlib.Core.Path.{_≡_, refl}
 use mathlib.Core.List.{List, [], _∷_, map}
 use Prim.Native.Nat.{ℕ}
+use mathlib.Core.Option.{Option, none, some}
 use Rattle.xdr.specs.Meaning.Kind.{Codec}
 use Rattle.xdr.specs.Meaning.Combinators.{means}
 use Rattle.xdr.specs.Meaning.Items.{closed}
 use Rattle.xdr.specs.Meaning.Combinators.{among}
+use Rattle.xdr.specs.Meaning.Status.{Status}
 use Rattle.nfsattr.specs.declared.stat.nfsfail3.{nfsfail3}
 use Rattle.nfsattr.specs.declared.stat.nfsfail3.the-variants.{«NFS3ERR_PERM», «NFS3ERR_NOENT», «NFS3ERR_IO», «NFS3ERR_NXIO», «NFS3ERR_ACCES», «NFS3ERR_EXIST», «NFS3ERR_XDEV», «NFS3ERR_NODEV», «NFS3ERR_NOTDIR», «NFS3ERR_ISDIR», «NFS3ERR_INVAL», «NFS3ERR_FBIG», «NFS3ERR_NOSPC», «NFS3ERR_ROFS», «NFS3ERR_MLINK», «NFS3ERR_NAMETOOLONG», «NFS3ERR_NOTEMPTY», «NFS3ERR_DQUOT», «NFS3ERR_STALE», «NFS3ERR_REMOTE», «NFS3ERR_BADHANDLE», «NFS3ERR_NOT_SYNC», «NFS3ERR_BAD_COOKIE», «NFS3ERR_NOTSUPP», «NFS3ERR_TOOSMALL», «NFS3ERR_SERVERFAULT», «NFS3ERR_BADTYPE», «NFS3ERR_JUKEBOX»}
 use Rattle.nfsattr.specs.declared.stat.nfsstat3.{nfsstat3}
@@ -93,3 +95,23 @@ each-stat (Failed «NFS3ERR_JUKEBOX») = refl
 
 unfoldable pub nfsstat : Codec nfsstat3
 nfsstat = closed statNumber statuses each-stat
+
+-- Success, or a failure: what a result is by its status.
+abbrev pub failureOf : nfsstat3 → Option nfsfail3
+failureOf «NFS3_OK» = none
+failureOf (Failed f) = some f
+
+abbrev pub statusFor : Option nfsfail3 → nfsstat3
+statusFor none = «NFS3_OK»
+statusFor (some f) = Failed f
+
+pub status-for-failure : (a : nfsstat3) → statusFor (failureOf a) ≡ a
+status-for-failure «NFS3_OK» = refl
+status-for-failure (Failed f) = refl
+
+pub failure-for-status : (o : Option nfsfail3) → failureOf (statusFor o) ≡ o
+failure-for-status none = refl
+failure-for-status (some f) = refl
+
+abbrev pub successOr : Status nfsstat3 nfsfail3
+successOr = record { of = failureOf; to = statusFor; to-of = status-for-failure; of-to = failure-for-status }

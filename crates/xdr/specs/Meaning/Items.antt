@@ -107,6 +107,10 @@ eight =
       see-to = laws.eight-see-to;
     })
 
+-- the same, known by the number that they write: they are read and written as a hyper is (`eight-is`, `eight-bytes`)
+abbrev pub verifier : Codec ℕ
+verifier = hyper
+
 -- k bytes of padding: written as zeros, read whatever they hold, and loose if they hold anything else
 abbrev pub seePad : List ℕ → Seen (Unit {0})
 seePad l = means tt (cond (zeros l) [] (dirty-pad ∷ []))

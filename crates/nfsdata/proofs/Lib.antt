@@ -1,0 +1,5 @@
+-- made by tools/generate: ranges
+pub mod ReadRanges
+pub mod WriteRanges
+
+-- end of ranges

@@ -1,0 +1,6 @@
+-- What follows: how each is read, how many bytes it has, and what is laid of it.
+-- made by tools/generate: laws
+pub mod Read
+pub mod Write
+
+-- end of laws

@@ -1,0 +1,8 @@
+-- What things mean: arguments and results by procedure, to be held against sections 3.3.1 to 3.3.3 of RFC 1813. A kind has its type's name in
+-- small letters, with a dash for the 3.
+-- made by tools/generate: meanings
+pub mod Getattr
+pub mod Lookup
+pub mod Setattr
+
+-- end of meanings

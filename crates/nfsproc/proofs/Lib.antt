@@ -1,0 +1,3 @@
+-- made by tools/generate: ranges
+
+-- end of ranges
