@@ -769,3 +769,123 @@ uint32_t floor_copy_rpc_msg(const uint8_t *src, size_t len, size_t at, uint8_t *
     }
     TOOK(r->at, !r->loose, size);
 }
+
+/* ---- read3res, write3args: data stay where they are until they are written */
+
+/* Whether nfsstat3 has the number. */
+static inline int is_status(uint32_t v)
+{
+    switch (v) {
+    case 0:
+    case 1:
+    case 2:
+    case 5:
+    case 6:
+    case 13:
+    case 17:
+    case 18:
+    case 19:
+    case 20:
+    case 21:
+    case 22:
+    case 27:
+    case 28:
+    case 30:
+    case 31:
+    case 63:
+    case 66:
+    case 69:
+    case 70:
+    case 71: return 1;
+    default: return v - 10001 <= 7;
+    }
+}
+
+struct read3res {
+    uint32_t status, follow;
+    struct fattr3 attributes;
+    uint32_t count, eof;
+    struct piece data;
+};
+
+static inline uint32_t take_read3res(struct reading *r, struct read3res *v)
+{
+    WORD(v->status);
+    if (!is_status(v->status))
+        UNDECLARED;
+    TAKE(take_flag(r, &v->follow));
+    if (v->follow)
+        TAKE(take_fattr3(r, &v->attributes));
+    if (v->status)
+        return 0;
+    WORD(v->count);
+    TAKE(take_flag(r, &v->eof));
+    return take_opaque(r, &v->data);
+}
+
+uint32_t floor_judge_read3res(const uint8_t *src, size_t len, size_t at, uint64_t *info, size_t infos)
+{
+    struct read3res v;
+    OPEN(3);
+    READ(3, take_read3res(r, &v));
+    TOOK(r->at, !r->loose, r->at - at);
+}
+
+uint32_t floor_copy_read3res(
+    const uint8_t *src, size_t len, size_t at, uint8_t *out, size_t room, uint64_t *info, size_t infos)
+{
+    struct read3res v = {0};
+    OPEN(3);
+    READ(3, take_read3res(r, &v));
+    size_t size = r->at - at;
+    if (room < size)
+        return no_room(info, 3, size);
+    uint8_t *p = lay_word(lay_word(out, v.status), v.follow);
+    if (v.follow) {
+        lay_fattr3(p, &v.attributes);
+        p += 84;
+    }
+    if (!v.status)
+        lay_opaque(lay_word(lay_word(p, v.count), v.eof), src, v.data);
+    TOOK(r->at, !r->loose, size);
+}
+
+struct write3args {
+    struct piece file;
+    uint64_t offset;
+    uint32_t count, stable;
+    struct piece data;
+};
+
+static inline uint32_t take_write3args(struct reading *r, struct write3args *v)
+{
+    TAKE(take_opaque(r, &v->file));
+    HYPER(v->offset);
+    WORD(v->count);
+    WORD(v->stable);
+    if (v->stable > 2)
+        UNDECLARED;
+    return take_opaque(r, &v->data);
+}
+
+uint32_t floor_judge_write3args(const uint8_t *src, size_t len, size_t at, uint64_t *info, size_t infos)
+{
+    struct write3args v;
+    OPEN(3);
+    READ(3, take_write3args(r, &v));
+    TOOK(r->at, !r->loose, r->at - at);
+}
+
+uint32_t floor_copy_write3args(
+    const uint8_t *src, size_t len, size_t at, uint8_t *out, size_t room, uint64_t *info, size_t infos)
+{
+    struct write3args v;
+    OPEN(3);
+    READ(3, take_write3args(r, &v));
+    size_t size = r->at - at;
+    if (room < size)
+        return no_room(info, 3, size);
+    uint8_t *p = lay_hyper(lay_opaque(out, src, v.file), v.offset);
+    lay_opaque(lay_word(lay_word(p, v.count), v.stable), src, v.data);
+    TOOK(r->at, !r->loose, size);
+}

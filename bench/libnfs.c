@@ -7,11 +7,15 @@
 #include <nfsc/libnfs-raw.h>
 #include <nfsc/libnfs-raw-nfs.h>
 
+#include "values.h"
+
 static struct rpc_context *context;
 static struct rpc_msg call;
 static fattr3 attributes;
 static sattr3 change;
 static diropargs3 where;
+static READ3res read_result;
+static WRITE3args write_arguments;
 static char *bytes_at;
 static uint32_t bytes_count;
 
@@ -64,6 +68,9 @@ BOTH(fattr3, zdr_fattr3, &attributes, (void)0)
 BOTH(sattr3, zdr_sattr3, &change, (void)0)
 BOTH(diropargs3, zdr_diropargs3, &where, (where.dir.data.data_val = NULL, where.name = NULL))
 BOTH(opaque, zdr_whole, &bytes_at, bytes_at = NULL)
+BOTH(read3res, zdr_READ3res, &read_result, read_result.READ3res_u.resok.data.data_val = NULL)
+BOTH(write3args, zdr_WRITE3args, &write_arguments,
+    (write_arguments.file.data.data_val = NULL, write_arguments.data.data_val = NULL))
 
 /* What libnfs_write_diropargs3 writes: a decoded name does not outlive its decoding. */
 void libnfs_where(char *handle, uint32_t count, char *name)
@@ -72,3 +79,17 @@ void libnfs_where(char *handle, uint32_t count, char *name)
     where.dir.data.data_len = count;
     where.name = name;
 }
+
+/* Encodes a value of values.h. */
+#define MAKE(kind, type)                                                   \
+    uint32_t libnfs_make_##kind(uint32_t which, uint8_t *out, size_t room) \
+    {                                                                      \
+        ZDR z;                                                             \
+        type value = a_##kind(which);                                      \
+        zdrmem_create(&z, (char *)out, (uint32_t)room, ZDR_ENCODE);        \
+        uint32_t used = zdr_##type(&z, &value) ? zdr_getpos(&z) : 0;       \
+        zdr_destroy(&z);                                                   \
+        return used;                                                       \
+    }
+
+EACH_KIND(MAKE)

@@ -6,8 +6,9 @@
 #include <rpc/auth_unix.h>
 
 #include "nfs3.h"
+#include "values.h"
 
-static char handle[64], name[256], machine[256], cred[MAX_AUTH_BYTES], verf[MAX_AUTH_BYTES];
+static char handle[64], file[64], name[256], machine[256], cred[MAX_AUTH_BYTES], verf[MAX_AUTH_BYTES];
 static gid_t gids[NGRPS];
 static char *bytes_at;
 static u_int bytes_count;
@@ -17,6 +18,8 @@ static struct authunix_parms unix_parms;
 static fattr3 attributes;
 static sattr3 change;
 static diropargs3 where;
+static READ3res read_result;
+static WRITE3args write_arguments;
 
 void tirpc_begin(char *room)
 {
@@ -27,6 +30,9 @@ void tirpc_begin(char *room)
     where.dir.data.data_val = handle;
     where.name = name;
     bytes_at = room;
+    read_result.READ3res_u.resok.data.data_val = room;
+    write_arguments.file.data.data_val = file;
+    write_arguments.data.data_val = room;
 }
 
 static bool_t xdr_parms(XDR *x, struct authunix_parms *p)
@@ -63,6 +69,8 @@ BOTH(fattr3, xdr_fattr3, &attributes)
 BOTH(sattr3, xdr_sattr3, &change)
 BOTH(diropargs3, xdr_diropargs3, &where)
 BOTH(opaque, xdr_whole, &bytes_at)
+BOTH(read3res, xdr_READ3res, &read_result)
+BOTH(write3args, xdr_WRITE3args, &write_arguments)
 
 /* The header, then the credential that lies in it. */
 uint32_t tirpc_read_call_and_auth_unix(const uint8_t *src, size_t len)
@@ -72,3 +80,15 @@ uint32_t tirpc_read_call_and_auth_unix(const uint8_t *src, size_t len)
         return 0;
     return tirpc_read_auth_unix((const uint8_t *)call.rm_call.cb_cred.oa_base, call.rm_call.cb_cred.oa_length) ? used : 0;
 }
+
+/* Encodes a value of values.h. */
+#define MAKE(kind, type)                                                  \
+    uint32_t tirpc_make_##kind(uint32_t which, uint8_t *out, size_t room) \
+    {                                                                     \
+        XDR x;                                                            \
+        type value = a_##kind(which);                                     \
+        xdrmem_create(&x, (char *)out, (u_int)room, XDR_ENCODE);          \
+        return xdr_##type(&x, &value) ? xdr_getpos(&x) : 0;               \
+    }
+
+EACH_KIND(MAKE)

@@ -6,9 +6,10 @@ use crate::outside::*;
 const TELLING: [u32; 9] = [0, 1, 2, 3, 5, 8, 0x100, 0x7FFF_FFFF, 0xFFFF_FFFF];
 const ROOM: usize = 256;
 
-/// The message, every beginning of it, and every replacement of one word.
+/// The message, every beginning of it, itself behind another word, and every replacement of one word.
 fn variants(message: &[u8]) -> Vec<Vec<u8>> {
     let mut all: Vec<Vec<u8>> = (0..=message.len()).map(|n| message[..n].to_vec()).collect();
+    all.push([&[0; 4], message].concat());
     for place in (0..message.len()).step_by(4) {
         for number in TELLING {
             let mut other = message.to_vec();
@@ -37,20 +38,37 @@ fn same(what: &str, of: &[u8], ours: Left, floor: Left) {
     assert_eq!(ours, floor, "{what} of {of:02x?}: ours, and the floor's");
 }
 
-macro_rules! rewritten {
-    ($count:ident, $kind:literal, $floor:ident, $message:expr) => {
-        for src in variants(&$message) {
-            for at in [0, 1, src.len(), src.len() + 1] {
-                for room in [0, 23, 24, 40, 83, 84, ROOM] {
-                    let (p, n) = (src.as_ptr(), src.len());
-                    // SAFETY: every address comes with the length of what lies there.
-                    let ours = left(|info, out| unsafe { yugerzat_rewrite($kind, p, n, at, out, room, info, 3) });
-                    // SAFETY: as above.
-                    let floor = left(|info, out| unsafe { $floor(p, n, at, out, room, info, 3) });
-                    same(stringify!($floor), &src, ours, floor);
-                    $count += 1;
-                }
+/// One message rewritten, and judged where the floor has a function for that.
+macro_rules! rewritten_one {
+    ($count:ident, $kind:literal, $floor:ident $(and $judge:ident)?, $src:ident) => {
+        let (p, n) = ($src.as_ptr(), $src.len());
+        for at in [0, 1, 4, n, n + 1] {
+            for room in [0, 23, 24, 40, 83, 84, n.saturating_sub(1), n, ROOM] {
+                // SAFETY: every address comes with the length of what lies there.
+                let ours = left(|info, out| unsafe { yugerzat_rewrite($kind, p, n, at, out, room, info, 3) });
+                // SAFETY: as above.
+                let floor = left(|info, out| unsafe { $floor(p, n, at, out, room, info, 3) });
+                same(stringify!($floor), &$src, ours, floor);
+                $count += 1;
             }
+        }
+        $(for at in [0, 1, 4, n, n + 1] {
+            for figures in [2, 3, 20] {
+                // SAFETY: as above.
+                let ours = left(|info, _| unsafe { yugerzat_judge($kind, p, n, at, info, figures) });
+                // SAFETY: as above.
+                let floor = left(|info, _| unsafe { $judge(p, n, at, info, figures) });
+                same(stringify!($judge), &$src, ours, floor);
+                $count += 1;
+            }
+        })?
+    };
+}
+
+macro_rules! rewritten {
+    ($count:ident, $kind:literal, $floor:ident $(and $judge:ident)?, $message:expr) => {
+        for src in variants(&$message) {
+            rewritten_one!($count, $kind, $floor $(and $judge)?, src);
         }
     };
 }
@@ -117,36 +135,33 @@ macro_rules! writer {
     };
 }
 
-/// Judging, as a reader of one kind.
-///
-/// # Safety
-/// Every address comes with the length of what lies there.
-unsafe fn judge_rpc_msg(src: *const u8, len: usize, at: usize, info: *mut u64, infos: usize) -> u32 {
-    // SAFETY: as above.
-    unsafe { yugerzat_judge(20, src, len, at, info, infos) }
-}
-
 /// Compares, and says how many answers were compared.
 pub fn same_duty() -> u64 {
     let mut count = 0;
-    rewritten!(count, 20, floor_copy_rpc_msg, messages::call());
-    rewritten!(count, 20, floor_copy_rpc_msg, messages::reply(&[0, 0, 0, 2, 3, 4]));
-    rewritten!(count, 20, floor_copy_rpc_msg, messages::reply(&[1, 0, 3, 4]));
-    rewritten!(count, 20, floor_copy_rpc_msg, messages::reply(&[1, 1, 3]));
+    rewritten!(count, 20, floor_copy_rpc_msg and floor_judge_rpc_msg, messages::call());
+    rewritten!(count, 20, floor_copy_rpc_msg and floor_judge_rpc_msg, messages::reply(&[0, 0, 0, 2, 3, 4]));
+    rewritten!(count, 20, floor_copy_rpc_msg and floor_judge_rpc_msg, messages::reply(&[1, 0, 3, 4]));
+    rewritten!(count, 20, floor_copy_rpc_msg and floor_judge_rpc_msg, messages::reply(&[1, 1, 3]));
     rewritten!(count, 18, floor_copy_auth_unix, messages::auth_unix());
     rewritten!(count, 31, floor_copy_fattr3, messages::fattr3());
     rewritten!(count, 44, floor_copy_sattr3, messages::sattr3_full());
     rewritten!(count, 44, floor_copy_sattr3, messages::sattr3_empty());
     rewritten!(count, 45, floor_copy_diropargs3, messages::diropargs3());
     rewritten!(count, 6, floor_copy_opaque, messages::opaque(b"hello"));
+    // The library copies up to 32 bytes in one way, and more in another.
+    for data in ["", "hello", "minutes-2026-11.txt", "thirty-three bytes go another way"] {
+        rewritten!(count, 56, floor_copy_read3res and floor_judge_read3res, messages::read3res(data.as_bytes()));
+        rewritten!(count, 57, floor_copy_write3args and floor_judge_write3args, messages::write3args(data.as_bytes()));
+    }
+    // The statuses that RFC 1813 declares are among these.
+    for status in (0..128).chain(9_990..10_020) {
+        let src = messages::read3res_failed(status);
+        rewritten_one!(count, 56, floor_copy_read3res and floor_judge_read3res, src);
+    }
     read!(count, yugerzat_read_rpc_msg, floor_read_rpc_msg, 14, messages::call());
     read!(count, yugerzat_read_rpc_msg, floor_read_rpc_msg, 14, messages::reply(&[0, 0, 0, 2, 3, 4]));
     read!(count, yugerzat_read_rpc_msg, floor_read_rpc_msg, 14, messages::reply(&[1, 0, 3, 4]));
     read!(count, yugerzat_read_rpc_msg, floor_read_rpc_msg, 14, messages::reply(&[1, 1, 3]));
-    read!(count, judge_rpc_msg, floor_judge_rpc_msg, 3, messages::call());
-    read!(count, judge_rpc_msg, floor_judge_rpc_msg, 3, messages::reply(&[0, 0, 0, 2, 3, 4]));
-    read!(count, judge_rpc_msg, floor_judge_rpc_msg, 3, messages::reply(&[1, 0, 3, 4]));
-    read!(count, judge_rpc_msg, floor_judge_rpc_msg, 3, messages::reply(&[1, 1, 3]));
     read!(count, yugerzat_read_fattr3, floor_read_fattr3, 19, messages::fattr3());
     read!(count, yugerzat_read_sattr3, floor_read_sattr3, 16, messages::sattr3_full());
     read!(count, yugerzat_read_sattr3, floor_read_sattr3, 16, messages::sattr3_empty());

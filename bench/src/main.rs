@@ -4,6 +4,7 @@ mod duty;
 mod measure;
 mod messages;
 mod outside;
+mod peers;
 mod rows;
 mod table;
 
@@ -21,7 +22,12 @@ fn main() -> ExitCode {
     let words: Vec<String> = env::args().skip(1).collect();
     let words: Vec<&str> = words.iter().map(String::as_str).collect();
     match words[..] {
-        ["time"] => time(),
+        ["time"] => {
+            if let Err(why) = time() {
+                eprintln!("bench: {why}");
+                return ExitCode::FAILURE;
+            }
+        },
         ["count"] => count(),
         ["counted", folder] => table::instructions(&rows(), folder),
         _ => {
@@ -32,10 +38,12 @@ fn main() -> ExitCode {
     ExitCode::SUCCESS
 }
 
-fn time() {
+fn time() -> Result<(), String> {
     eprintln!("bench: comparing the floor with the library ..");
     let compared = duty::same_duty();
     eprintln!("bench: {compared} answers of the floor are those of the library");
+    let made = peers::plain_to_us()?;
+    eprintln!("bench: {made} messages of libtirpc and libnfs are plain to the library, and rewritten to the same bytes");
     let mut rows = rows();
     for pass in 1..=PASSES {
         eprintln!("bench: timing, pass {pass} of {PASSES} ..");
@@ -44,6 +52,7 @@ fn time() {
         }
     }
     table::times(&rows);
+    Ok(())
 }
 
 /// Under callgrind: each contestant once warm, then so many times between two marks.

@@ -47,6 +47,28 @@ pub fn diropargs3() -> Vec<u8> {
     all
 }
 
+/// A READ that succeeded, at the file's end.
+pub fn read3res(data: &[u8]) -> Vec<u8> {
+    let mut all = words(&[0, 1]);
+    all.extend(fattr3());
+    all.extend(words(&[data.len() as u32, 1]));
+    all.extend(opaque(data));
+    all
+}
+
+/// A READ with this status, and no attributes.
+pub fn read3res_failed(status: u32) -> Vec<u8> {
+    words(&[status, 0])
+}
+
+/// A WRITE of these bytes at 4,096, which are to be on the disk when it is answered.
+pub fn write3args(data: &[u8]) -> Vec<u8> {
+    let mut all = opaque(&HANDLE);
+    all.extend(words(&[0, 4096, data.len() as u32, 2]));
+    all.extend(opaque(data));
+    all
+}
+
 /// A REPLY whose body is these words.
 pub fn reply(body: &[u32]) -> Vec<u8> {
     let mut all = words(&[0x2A, 1]);

@@ -40,6 +40,12 @@ macro_rules! peers {
     } };
 }
 
+macro_rules! makers {
+    ($($name:ident)*) => { extern "C" {
+        $(pub fn $name(which: u32, out: *mut u8, room: usize) -> u32;)*
+    } };
+}
+
 extern "C" {
     pub fn yugerzat_rewrite(
         kind: u32,
@@ -76,10 +82,12 @@ extern "C" {
     pub fn floor_read_auth_unix(src: *const u8, len: usize, at: usize, count: usize, info: *mut u64, infos: usize) -> u32;
 }
 readers! { yugerzat_read_rpc_msg yugerzat_read_fattr3 yugerzat_read_sattr3 yugerzat_read_diropargs3
-floor_read_rpc_msg floor_read_fattr3 floor_read_sattr3 floor_read_diropargs3 floor_judge_rpc_msg }
+floor_read_rpc_msg floor_read_fattr3 floor_read_sattr3 floor_read_diropargs3
+floor_judge_rpc_msg floor_judge_read3res floor_judge_write3args }
 writers! { yugerzat_write_fattr3 yugerzat_write_sattr3 floor_write_fattr3 floor_write_sattr3 }
 writers_from_two! { yugerzat_write_diropargs3 yugerzat_write_call floor_write_diropargs3 floor_write_call }
-copiers! { floor_copy_rpc_msg floor_copy_auth_unix floor_copy_fattr3 floor_copy_sattr3 floor_copy_diropargs3 floor_copy_opaque }
+copiers! { floor_copy_rpc_msg floor_copy_auth_unix floor_copy_fattr3 floor_copy_sattr3 floor_copy_diropargs3
+floor_copy_opaque floor_copy_read3res floor_copy_write3args }
 
 extern "C" {
     pub fn tirpc_begin(room: *mut u8);
@@ -96,9 +104,23 @@ peers! {
     tirpc_read_sattr3 tirpc_write_sattr3 tirpc_copy_sattr3
     tirpc_read_diropargs3 tirpc_write_diropargs3 tirpc_copy_diropargs3
     tirpc_read_opaque tirpc_write_opaque tirpc_copy_opaque
+    tirpc_read_read3res tirpc_write_read3res tirpc_copy_read3res
+    tirpc_read_write3args tirpc_write_write3args tirpc_copy_write3args
     libnfs_read_rpc_msg libnfs_write_rpc_msg libnfs_copy_rpc_msg
     libnfs_read_fattr3 libnfs_write_fattr3 libnfs_copy_fattr3
     libnfs_read_sattr3 libnfs_write_sattr3 libnfs_copy_sattr3
     libnfs_read_diropargs3 libnfs_write_diropargs3 libnfs_copy_diropargs3
     libnfs_read_opaque libnfs_write_opaque libnfs_copy_opaque
+    libnfs_read_read3res libnfs_write_read3res libnfs_copy_read3res
+    libnfs_read_write3args libnfs_write_write3args libnfs_copy_write3args
+}
+makers! {
+    tirpc_make_stable_how tirpc_make_sattrguard3
+    tirpc_make_getattr3args tirpc_make_getattr3res tirpc_make_setattr3args tirpc_make_setattr3res
+    tirpc_make_lookup3args tirpc_make_lookup3res tirpc_make_read3args tirpc_make_read3res
+    tirpc_make_write3args tirpc_make_write3res
+    libnfs_make_stable_how libnfs_make_sattrguard3
+    libnfs_make_getattr3args libnfs_make_getattr3res libnfs_make_setattr3args libnfs_make_setattr3res
+    libnfs_make_lookup3args libnfs_make_lookup3res libnfs_make_read3args libnfs_make_read3res
+    libnfs_make_write3args libnfs_make_write3res
 }

@@ -29,6 +29,11 @@ fn kept(bytes: Vec<u8>) -> &'static [u8] {
     Vec::leak(bytes)
 }
 
+/// So many bytes that are not all alike.
+fn some(count: usize) -> Vec<u8> {
+    (0..count).map(|n| (n * 31 % 251) as u8).collect()
+}
+
 // ---- contestants
 
 #[inline(never)]
@@ -65,6 +70,9 @@ fn nfsserve_writes<T: XDR + 'static>(src: &'static [u8], mut value: T) -> Contes
 
 fn nfsserve_copies<T: XDR + 'static>(src: &'static [u8], mut value: T) -> Contestant {
     let mut out = Vec::with_capacity(ROOM);
+    deserialize(src, &mut value);
+    serialize(&value, &mut out);
+    assert_eq!(out, src);
     contestant(Who::Nfsserve, move || {
         black_box(deserialize(black_box(src), &mut value));
         serialize(black_box(&value), &mut out);
@@ -80,6 +88,30 @@ macro_rules! calls {
         assert_eq!(answer as usize, $due, stringify!($function));
         // SAFETY: as above.
         contestant($who, move || unsafe { black_box($function($($argument),*)); })
+    }};
+}
+
+/// A C function that judges: the message, which is plain, must be used up.
+macro_rules! judges {
+    ($who:expr, $m:ident, $src:ident, $function:ident ( $($argument:expr),* )) => {{
+        let contestant = calls!($who, 0, $function($($argument),*));
+        // SAFETY: the list is longer.
+        let figures = unsafe { std::slice::from_raw_parts($m.info, 3) };
+        assert_eq!(figures, [$src.len() as u64, 1, $src.len() as u64], stringify!($function));
+        contestant
+    }};
+}
+
+/// A C function that rewrites: the message, and nothing else, must then stand in the room.
+macro_rules! rewrites {
+    ($who:expr, $due:expr, $m:ident, $src:ident, $function:ident ( $($argument:expr),* )) => {{
+        // SAFETY: no message is as long as the room.
+        unsafe { std::ptr::write_bytes($m.out, 0xEE, $src.len() + 4) };
+        let contestant = calls!($who, $due, $function($($argument),*));
+        // SAFETY: as above.
+        let (written, behind) = unsafe { std::slice::from_raw_parts($m.out, $src.len() + 4) }.split_at($src.len());
+        assert!(written == $src && behind == [0xEE; 4], "{} does not write the message", stringify!($function));
+        contestant
     }};
 }
 
@@ -119,11 +151,35 @@ macro_rules! writings {
 macro_rules! rewritings {
     ($rows:ident $m:ident $($name:literal $src:ident $kind:literal $floor:ident $value:ident $tirpc:ident $($libnfs:ident)?;)*) => { $(
         $rows.push(Row::new($name, vec![
-            calls!(Who::Ours, 0, yugerzat_rewrite($kind, $src.as_ptr(), $src.len(), 0, $m.out, ROOM, $m.info, 3)),
-            calls!(Who::Floor, 0, $floor($src.as_ptr(), $src.len(), 0, $m.out, ROOM, $m.info, 3)),
+            rewrites!(
+                Who::Ours, 0, $m, $src, yugerzat_rewrite($kind, $src.as_ptr(), $src.len(), 0, $m.out, ROOM, $m.info, 3)
+            ),
+            rewrites!(Who::Floor, 0, $m, $src, $floor($src.as_ptr(), $src.len(), 0, $m.out, ROOM, $m.info, 3)),
             nfsserve_copies($src, $value::default()),
-            calls!(Who::Libtirpc, $src.len(), $tirpc($src.as_ptr(), $src.len(), $m.out, ROOM)),
-            $(calls!(Who::Libnfs, $src.len(), $libnfs($src.as_ptr(), $src.len(), $m.out, ROOM)),)?
+            rewrites!(Who::Libtirpc, $src.len(), $m, $src, $tirpc($src.as_ptr(), $src.len(), $m.out, ROOM)),
+            $(rewrites!(Who::Libnfs, $src.len(), $m, $src, $libnfs($src.as_ptr(), $src.len(), $m.out, ROOM)),)?
+        ]));
+    )* };
+}
+
+/// Two rows for a kind that nfsserve has no type for: judged, beside which the peers read, because they cannot tell what is
+/// plain without writing it; and rewritten.
+macro_rules! judgings_and_rewritings {
+    ($rows:ident $m:ident $($judged:literal $rewritten:literal $src:ident $kind:literal $copy:ident $judge:ident
+        $tirpc_read:ident $tirpc:ident $libnfs_read:ident $libnfs:ident;)*) => { $(
+        $rows.push(Row::new($judged, vec![
+            judges!(Who::Ours, $m, $src, yugerzat_judge($kind, $src.as_ptr(), $src.len(), 0, $m.info, 3)),
+            judges!(Who::Floor, $m, $src, $judge($src.as_ptr(), $src.len(), 0, $m.info, 3)),
+            calls!(Who::Libtirpc, $src.len(), $tirpc_read($src.as_ptr(), $src.len())),
+            calls!(Who::Libnfs, $src.len(), $libnfs_read($src.as_ptr(), $src.len())),
+        ]));
+        $rows.push(Row::new($rewritten, vec![
+            rewrites!(
+                Who::Ours, 0, $m, $src, yugerzat_rewrite($kind, $src.as_ptr(), $src.len(), 0, $m.out, ROOM, $m.info, 3)
+            ),
+            rewrites!(Who::Floor, 0, $m, $src, $copy($src.as_ptr(), $src.len(), 0, $m.out, ROOM, $m.info, 3)),
+            rewrites!(Who::Libtirpc, $src.len(), $m, $src, $tirpc($src.as_ptr(), $src.len(), $m.out, ROOM)),
+            rewrites!(Who::Libnfs, $src.len(), $m, $src, $libnfs($src.as_ptr(), $src.len(), $m.out, ROOM)),
         ]));
     )* };
 }
@@ -152,6 +208,9 @@ pub fn rows() -> Vec<Row> {
     let full = kept(messages::sattr3_full());
     let empty = kept(messages::sattr3_empty());
     let place = kept(messages::diropargs3());
+    let block = kept(some(BLOCK));
+    let read = kept(messages::read3res(block));
+    let write = kept(messages::write3args(block));
 
     let mut rows = Vec::new();
     readings! { rows m
@@ -162,8 +221,8 @@ pub fn rows() -> Vec<Row> {
     rows.push(Row::new(
         "call judged",
         vec![
-            calls!(Who::Ours, 0, yugerzat_judge(20, call.as_ptr(), call.len(), 0, m.info, 3)),
-            calls!(Who::Floor, 0, floor_judge_rpc_msg(call.as_ptr(), call.len(), 0, m.info, 3)),
+            judges!(Who::Ours, m, call, yugerzat_judge(20, call.as_ptr(), call.len(), 0, m.info, 3)),
+            judges!(Who::Floor, m, call, floor_judge_rpc_msg(call.as_ptr(), call.len(), 0, m.info, 3)),
         ],
     ));
     readings! { rows m
@@ -191,7 +250,14 @@ pub fn rows() -> Vec<Row> {
         "sattr3 empty rewritten" empty 44 floor_copy_sattr3 sattr3 tirpc_copy_sattr3 libnfs_copy_sattr3;
         "diropargs3 rewritten" place 45 floor_copy_diropargs3 diropargs3 tirpc_copy_diropargs3 libnfs_copy_diropargs3;
     }
-    rows.extend(copies(m));
+    // Of data, only rewriting touches the bytes, except in libtirpc, which reads them into memory of its own.
+    judgings_and_rewritings! { rows m
+        "read3res 64 KiB judged" "read3res 64 KiB rewritten" read 56 floor_copy_read3res floor_judge_read3res
+            tirpc_read_read3res tirpc_copy_read3res libnfs_read_read3res libnfs_copy_read3res;
+        "write3args 64 KiB judged" "write3args 64 KiB rewritten" write 57 floor_copy_write3args floor_judge_write3args
+            tirpc_read_write3args tirpc_copy_write3args libnfs_read_write3args libnfs_copy_write3args;
+    }
+    rows.extend(copies(m, block));
     rows
 }
 
@@ -285,14 +351,12 @@ fn memcpy(src: &[u8], out: *mut u8) {
 }
 
 /// Rows whose floor is memcpy, from and to the same places.
-fn copies(m: Memory) -> Vec<Row> {
+fn copies(m: Memory, block: &'static [u8]) -> Vec<Row> {
     let copied = |src: &'static [u8], to: usize| {
         // SAFETY: the place lies in the room.
         let out = unsafe { m.out.add(to) };
         contestant(Who::Floor, move || memcpy(black_box(src), out))
     };
-    let some = |count: usize| (0..count).map(|n| (n * 31 % 251) as u8).collect::<Vec<u8>>();
-    let block = kept(some(BLOCK));
     let opaque = kept(messages::opaque(block));
     let record = kept(some(RECORD));
     let stream = kept([&(RECORD as u32 | 1 << 31).to_be_bytes(), record].concat());
@@ -311,11 +375,29 @@ fn copies(m: Memory) -> Vec<Row> {
         Row::new(
             "opaque of 64 KiB rewritten",
             vec![
-                calls!(Who::Ours, 0, yugerzat_rewrite(6, opaque.as_ptr(), opaque.len(), 0, m.out, ROOM, m.info, 3)),
+                rewrites!(
+                    Who::Ours,
+                    0,
+                    m,
+                    opaque,
+                    yugerzat_rewrite(6, opaque.as_ptr(), opaque.len(), 0, m.out, ROOM, m.info, 3)
+                ),
                 copied(&opaque[4..], 4),
                 nfsserve_copies(opaque, Vec::<u8>::new()),
-                calls!(Who::Libtirpc, opaque.len(), tirpc_copy_opaque(opaque.as_ptr(), opaque.len(), m.out, ROOM)),
-                calls!(Who::Libnfs, opaque.len(), libnfs_copy_opaque(opaque.as_ptr(), opaque.len(), m.out, ROOM)),
+                rewrites!(
+                    Who::Libtirpc,
+                    opaque.len(),
+                    m,
+                    opaque,
+                    tirpc_copy_opaque(opaque.as_ptr(), opaque.len(), m.out, ROOM)
+                ),
+                rewrites!(
+                    Who::Libnfs,
+                    opaque.len(),
+                    m,
+                    opaque,
+                    libnfs_copy_opaque(opaque.as_ptr(), opaque.len(), m.out, ROOM)
+                ),
             ],
         ),
         Row::new(
