@@ -68,14 +68,16 @@ fn prepare(kind: u32, first: u32, message: &mut [u8]) {
         make::call(message, 0);
         return;
     }
-    make::rule(message);
-    make::word(message, 0, first);
     if kind == READ3RES {
-        make::read_words(message);
+        make::read_results(message);
+        return;
     }
     if kind == WRITE3ARGS {
-        make::write_words(message);
+        make::write_arguments(message);
+        return;
     }
+    make::rule(message);
+    make::word(message, 0, first);
 }
 
 fn read_words(out: &mut [u8], at: Out, kind: u32, first: u32, place: usize, length: usize) -> Out {

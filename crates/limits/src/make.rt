@@ -65,15 +65,19 @@ pub(crate) fn call(buf: &mut [u8], flavor: u32) {
     groups(buf);
 }
 
-// Behind the status of success: no attributes, the end of the file, and data up to 1,048,576 bytes.
-pub(crate) fn read_words(buf: &mut [u8]) {
+// READ's results of 1,048,576 bytes: success, no attributes, a count, the end of the file, and data.
+pub(crate) fn read_results(buf: &mut [u8]) {
+    rule(buf);
+    word(buf, 0, 0);
     word(buf, 4, 0);
     word(buf, 12, 1);
     word(buf, 16, 1048556);
 }
 
-// Behind a handle of four bytes and an offset: FILE_SYNC, and data up to 1,048,576 bytes.
-pub(crate) fn write_words(buf: &mut [u8]) {
+// WRITE's arguments of 1,048,576 bytes: a handle of four, an offset, a count, FILE_SYNC, and data.
+pub(crate) fn write_arguments(buf: &mut [u8]) {
+    rule(buf);
+    word(buf, 0, 4);
     word(buf, 20, 2);
     word(buf, 24, 1048548);
 }

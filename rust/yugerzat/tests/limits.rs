@@ -202,6 +202,25 @@ fn a_message_has_a_largest_size() {
 }
 
 #[test]
+fn a_whole_write_call_fills_the_limit() {
+    // Header, handle, offset, count, FILE_SYNC and the length of the data: 68 bytes.
+    let count = LIMIT as u32 - 68;
+    let mut message = words(&[42, 0, 2, 100_003, 3, 7, 0, 0, 0, 0, 4, 0x0A0B_0C0D, 0, 512, count, 2, count]);
+    message.resize(LIMIT, 0xAB);
+    let arguments = match choose(&message, false) {
+        Ok(Choice::HandOver { proc: 7, arguments, .. }) => arguments,
+        other => panic!("{other:?}"),
+    };
+    let read = Write3args::read(&message, arguments).unwrap();
+    assert_eq!((read.next, read.plain, read.value.data.len()), (LIMIT, true, LIMIT - 68));
+
+    // One byte past it, and the message is too long for both.
+    message.push(0);
+    refused(choose(&message, false), Refusal::TooLong);
+    refused(Write3args::read(&message, arguments), Refusal::TooLong);
+}
+
+#[test]
 fn what_is_written_has_a_largest_size() {
     let long = vec![0; LIMIT + 4];
     let mut out = vec![0xEE; LIMIT + 8];
