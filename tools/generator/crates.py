@@ -11,6 +11,9 @@ WRITER = re.compile(r"^pub fn write_(\w+)\(\s*(src: )?", re.M)
 ANSWER = re.compile(r"^pub enum (\w+) {\n((?:.*\n)*?)^}", re.M)
 PASSED_ON = re.compile(r"^pub use (\w+)::(\w+);", re.M)
 DECLARED = re.compile(r"^(?:([a-z]+) )?pub (\S+) : (.*)$", re.M)
+# Also inside a module that has parameters, as the kinds over a reading are.
+UNFOLDABLE = re.compile(r"^ *unfoldable pub (\S+) : (.*)$", re.M)
+USED = re.compile(r"^use Rattle·(\w+)·specs\.(specs\.Meaning\.\w+)\.", re.M)
 CODEC = re.compile(r"^(\S+) = record \{ codec = ([^;]+);", re.M)
 
 
@@ -55,6 +58,7 @@ class Index:
         self.told = defaultdict(list)
         self.within = defaultdict(list)
         self.unfoldable = defaultdict(list)
+        self.used = defaultdict(list)
         self.codecs = {}
         self.passed_on = set()
         folder = root / "crates" / crate
@@ -76,19 +80,23 @@ class Index:
 
     def add_specs(self, path, text):
         module = f"Rattle.{self.crate}." + ".".join(path.with_suffix("").parts)
-        for how, name, type in DECLARED.findall(text):
+        for _, name, type in DECLARED.findall(text):
             found = Name(self.crate, module, name, type)
             if path.parts[1] == "Meaning":
                 self.meanings[name].append(found)
-            if how == "unfoldable":
-                self.unfoldable[module].append(found)
             if type.startswith("Told "):
                 # The view may be named by the module that it is of.
                 self.told[type.split()[-1].split(".")[-1]].append(found)
             elif type.startswith("Within "):
                 _, bound, measured = type.split(" ", 2)
                 self.within[measured].append((found, bound))
+        self.unfoldable[module] = [Name(self.crate, module, name, type) for name, type in UNFOLDABLE.findall(text)]
+        self.used[module] = [f"Rattle.{crate}.{used}" for crate, used in USED.findall(text)]
         self.codecs.update(CODEC.findall(text))
+
+    def unfolded(self, module):
+        """What can be unfolded in a module of meanings. One that has nothing itself names kinds of the modules that it uses, at a reading."""
+        return tuple(self.unfoldable[module] or [name for used in self.used[module] for name in self.unfoldable[used]])
 
 
 class Crates:
@@ -171,5 +179,5 @@ class Crates:
             told=self.need(crate, "told", view, f"law `Told {view}`"),
             within=within,
             bound=int(bound),
-            unfoldable=tuple(self.index(meaning.crate).unfoldable[meaning.module]),
+            unfoldable=self.index(meaning.crate).unfolded(meaning.module),
         )

@@ -16,7 +16,7 @@ use stdio::Out;
 use stdio::flush;
 use stdio::say;
 
-// What a line asks for, by its first word; 8 where it is none of these.
+// What a line asks for, by its first word; 9 where it is none of these.
 fn verb_of(word: &[u8]) -> u32 {
     if check::same(word, b"read") {
         return 0;
@@ -42,7 +42,10 @@ fn verb_of(word: &[u8]) -> u32 {
     if check::same(word, b"choose") {
         return 7;
     }
-    8
+    if check::same(word, b"current_choose") {
+        return 8;
+    }
+    9
 }
 
 // The answer to a question about a message.
@@ -77,7 +80,8 @@ fn of_stream(
         4 => records::fragment(line, s, message, room, out, at),
         5 => records::feed(line, s, message, room, out, at),
         6 => records::state(line, s, message, room, out, at),
-        _ => programs::choose(line, s, message, room, out, at),
+        7 => programs::choose(false, line, s, message, room, out, at),
+        _ => programs::choose(true, line, s, message, room, out, at),
     }
 }
 
@@ -88,7 +92,7 @@ fn answer(line: &[u8], message: &mut [u8], room: &mut [u8], out: &mut [u8], at: 
     if verb < 4 {
         return of_message(verb, line, end + 1, message, room, out, at);
     }
-    if verb < 8 {
+    if verb < 9 {
         return of_stream(verb, line, end + 1, message, room, out, at);
     }
     why::question(line, out, at)

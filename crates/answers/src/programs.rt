@@ -1,4 +1,4 @@
-// The line about the choice of program: `choose`.
+// The lines about the choice of program: `choose`, and `current_choose` in the current reading.
 use crate::buffer::fill;
 use crate::items::refusal;
 use crate::print;
@@ -70,15 +70,31 @@ fn choice_words(out: &mut [u8], at: Out, c: Choice) -> Out {
     }
 }
 
-fn choose_into(seen: bool, message: &[u8], buf: &mut [u8], out: &mut [u8], at: Out) -> Out {
+fn chosen(current: bool, seen: bool, message: &[u8], buf: &mut [u8]) -> Choice {
+    if current {
+        return rpcwire::current_choose(message, seen, buf);
+    }
+    rpcwire::choose(message, seen, buf)
+}
+
+fn choose_into(
+    current: bool,
+    seen: bool,
+    message: &[u8],
+    buf: &mut [u8],
+    out: &mut [u8],
+    at: Out,
+) -> Out {
     fill(buf);
-    let c = rpcwire::choose(message, seen, buf);
+    let c = chosen(current, seen, message, buf);
     let n = choice_words(out, at, c);
     print::hex(out, n, buf)
 }
 
 // choose SEEN ROOM HEX
+// current_choose SEEN ROOM HEX
 pub(crate) fn choose(
+    current: bool,
     line: &[u8],
     start: usize,
     message: &mut [u8],
@@ -113,5 +129,5 @@ pub(crate) fn choose(
         return why::room(out, at);
     }
     let n = b.count;
-    choose_into(seen, &message[0..n], &mut room[0..length], out, at)
+    choose_into(current, seen, &message[0..n], &mut room[0..length], out, at)
 }

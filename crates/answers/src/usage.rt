@@ -47,6 +47,9 @@ fn questions_of_calls(out: &mut [u8], at: Out) -> Out {
                                NAMECOUNT UID GID GIDSPLACE GIDSCOUNT; reply 24; silence; or a refusal; then BUFFER
       choose 0 24 0000002A00000002
       reply 24 0000002a0000000100000001000000000000000000000000
+  current_choose SEEN ROOM HEX the same in the current reading of RFC 5531
+      current_choose 0 24 0000002A00000002
+      reply 24 0000002a0000000100000001000000000000000200000002
   part HEX PLACE COUNT         inside BYTES, or outside -
       part 0011223344 1 3
       inside 112233
@@ -70,7 +73,8 @@ fn kinds(out: &mut [u8], at: Out) -> Out {
   fattr3 fsinfo3 wcc_attr pre_op_attr post_op_attr wcc_data post_op_fh3 set_mode3 set_uid3 set_gid3
   set_size3 set_atime set_mtime sattr3 diropargs3 symlinkdata3 stable_how sattrguard3 getattr3args
   getattr3res setattr3args setattr3res lookup3args lookup3res read3args read3res write3args
-  write3res
+  write3res current_accept_stat current_auth_stat current_accept_body current_accepted_reply
+  current_rejected_reply current_reply_body current_rpc_body current_rpc_msg
 ",
         // end of names
     )

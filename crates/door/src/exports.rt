@@ -4,6 +4,8 @@ ghost use Prim.Native.Nat.{_≤_};
 ghost use lib.ListN.{length};
 ghost use Rattle.xdr.specs.Meaning.Views.{viewWrote};
 ghost use Rattle.door.specs.Meaning.Copy.{viewCopied};
+ghost use Rattle.rpc.specs.Meaning.Crate.{crate};
+ghost use Rattle.rpc.specs.Meaning.Current.{current};
 ghost use Rattle.rpcwire.specs.Meaning.Views.{viewChoice, viewCaller, viewFed};
 ghost use Rattle.door.specs.Meaning.Figures.{Shown, Shows, Says};
 ghost use Rattle.door.specs.Meaning.Exports.{codeOf, figures, RewriteCalled, sizeCode, sizeFigures, judgedCode, judgedFigures, JudgeCalled, wroteCode, wroteFigures, FragmentCalled, chosenCode, chosenFigures, handedFigures, ChooseCalled, stateList, fedCode, fedFigures, fedState, FeedCalled};
@@ -16,6 +18,7 @@ use rpcwire::Caller;
 use rpcwire::Choice;
 use rpcwire::Fed;
 use rpcwire::choose;
+use rpcwire::current_choose;
 use rpcwire::feed;
 use rpcwire::write_fragment;
 use xdr::Refusal;
@@ -249,12 +252,29 @@ pub extern "C" fn yugerzat_choose(
     out: &mut [u8],
     info: &mut [u64],
 ) -> u32
-    ensures { λ r. ⌜ ChooseCalled (now (message .entry)) seen (now (out .entry)) (now (info .entry)) r (now (out .exit)) (now (info .exit)) ⌝ }
+    ensures { λ r. ⌜ ChooseCalled crate (now (message .entry)) seen (now (out .entry)) (now (info .entry)) r (now (out .exit)) (now (info .exit)) ⌝ }
 {
     if info.len() < 12 {
         return SHORT_LIST;
     }
     let c = choose(message, seen != 0, out);
+    tell_chosen(c, info)
+}
+
+// The same in the current reading, whose server names 2 and 2 in the reply to another version of RPC.
+#[no_mangle]
+pub extern "C" fn yugerzat_current_choose(
+    message: &[u8],
+    seen: u32,
+    out: &mut [u8],
+    info: &mut [u64],
+) -> u32
+    ensures { λ r. ⌜ ChooseCalled current (now (message .entry)) seen (now (out .entry)) (now (info .entry)) r (now (out .exit)) (now (info .exit)) ⌝ }
+{
+    if info.len() < 12 {
+        return SHORT_LIST;
+    }
+    let c = current_choose(message, seen != 0, out);
     tell_chosen(c, info)
 }
 

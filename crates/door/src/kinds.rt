@@ -1,7 +1,7 @@
 // made by tools/generate from kinds.txt
 // A message of a kind that is named by its number.
 ghost use Rattle.door.specs.Meaning.Copy.{viewCopied};
-ghost use Rattle.door.specs.Meaning.Kinds.{itemKinds, closedKinds, messageKinds, attributeKinds, changeKinds, procedureKinds, kinds, CopiesOf, CopiesIn};
+ghost use Rattle.door.specs.Meaning.Kinds.{itemKinds, closedKinds, messageKinds, attributeKinds, changeKinds, procedureKinds, currentKinds, kinds, CopiesOf, CopiesIn};
 use crate::copy::Copied;
 use crate::files::copy_diropargs3;
 use crate::files::copy_fattr3;
@@ -40,6 +40,14 @@ use crate::messages::copy_auth_flavor;
 use crate::messages::copy_auth_stat;
 use crate::messages::copy_auth_unix;
 use crate::messages::copy_call_body;
+use crate::messages::copy_current_accept_body;
+use crate::messages::copy_current_accept_stat;
+use crate::messages::copy_current_accepted_reply;
+use crate::messages::copy_current_auth_stat;
+use crate::messages::copy_current_rejected_reply;
+use crate::messages::copy_current_reply_body;
+use crate::messages::copy_current_rpc_body;
+use crate::messages::copy_current_rpc_msg;
 use crate::messages::copy_mismatch_info;
 use crate::messages::copy_msg_type;
 use crate::messages::copy_opaque_auth;
@@ -175,6 +183,23 @@ fn copy_procedure(kind: u32, src: &[u8], at: usize, out: &mut [u8], start: usize
     }
 }
 
+// Replies in the current reading (RFC 5531).
+fn copy_current(kind: u32, src: &[u8], at: usize, out: &mut [u8], start: usize) -> Copied
+    ensures { λ r. ⌜ CopiesIn currentKinds kind (now (src .entry)) at start (now (out .entry)) (viewCopied r) (now (out .exit)) ⌝ }
+{
+    match kind {
+        0 => copy_current_accept_stat(src, at, out, start),
+        1 => copy_current_auth_stat(src, at, out, start),
+        2 => copy_current_accept_body(src, at, out, start),
+        3 => copy_current_accepted_reply(src, at, out, start),
+        4 => copy_current_rejected_reply(src, at, out, start),
+        5 => copy_current_reply_body(src, at, out, start),
+        6 => copy_current_rpc_body(src, at, out, start),
+        7 => copy_current_rpc_msg(src, at, out, start),
+        _ => Copied::Unknown,
+    }
+}
+
 // Reads a message of the kind from a place of one buffer and writes it, in published form, from a place of another.
 pub fn copy_kind(kind: u32, src: &[u8], at: usize, out: &mut [u8], start: usize) -> Copied
     ensures { λ r. ⌜ CopiesOf kinds kind (now (src .entry)) at start (now (out .entry)) (viewCopied r) (now (out .exit)) ⌝ }
@@ -194,5 +219,8 @@ pub fn copy_kind(kind: u32, src: &[u8], at: usize, out: &mut [u8], start: usize)
     if kind < 47 {
         return copy_change(kind - 38, src, at, out, start);
     }
-    copy_procedure(kind - 47, src, at, out, start)
+    if kind < 59 {
+        return copy_procedure(kind - 47, src, at, out, start);
+    }
+    copy_current(kind - 59, src, at, out, start)
 }

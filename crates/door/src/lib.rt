@@ -1,5 +1,6 @@
 // The door: every kind of message by its number, read and written anew in published form.
 pub mod copy;
+pub mod current;
 pub mod exports;
 mod figures;
 // made by tools/generate: copiers

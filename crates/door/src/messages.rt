@@ -1,10 +1,12 @@
 // made by tools/generate from kinds.txt
 // Each kind of RFC 5531, copied.
 ghost use Rattle.xdr.specs.Meaning.Format.{exactly};
-ghost use Rattle.rpc.specs.Meaning.Closed.{msg-type, reply-stat, accept-stat, reject-stat, auth-stat, auth-flavor};
+ghost use Rattle.rpc.specs.Meaning.Closed.{msg-type, reply-stat, reject-stat, auth-flavor};
+ghost use Rattle.rpc.specs.Meaning.Crate.{accept-stat, auth-stat, rpc-msg, rpc-body, reply-body, accepted-reply, accept-body, rejected-reply};
 ghost use Rattle.rpc.specs.Meaning.Auth.{auth-unix, opaque-auth};
-ghost use Rattle.rpc.specs.Meaning.Message.{rpc-msg, rpc-body, call-body};
-ghost use Rattle.rpc.specs.Meaning.Reply.{reply-body, accepted-reply, accept-body, rejected-reply, mismatch-info};
+ghost use Rattle.rpc.specs.Meaning.Message.{call-body};
+ghost use Rattle.rpc.specs.Meaning.Reading.{mismatch-info};
+ghost use Rattle.rpc.specs.Meaning.Current.{current-accept-stat, current-auth-stat, current-accept-body, current-accepted-reply, current-rejected-reply, current-reply-body, current-rpc-body, current-rpc-msg};
 ghost use Rattle.door.specs.Meaning.Copy.{viewCopied, Copies};
 use crate::copy::Copied;
 use crate::copy::copied_to;
@@ -15,6 +17,14 @@ use rpc::AuthFlavorRead;
 use rpc::AuthStatRead;
 use rpc::AuthUnixRead;
 use rpc::CallBodyRead;
+use rpc::CurrentAcceptBodyRead;
+use rpc::CurrentAcceptStatRead;
+use rpc::CurrentAcceptedReplyRead;
+use rpc::CurrentAuthStatRead;
+use rpc::CurrentRejectedReplyRead;
+use rpc::CurrentReplyBodyRead;
+use rpc::CurrentRpcBodyRead;
+use rpc::CurrentRpcMsgRead;
 use rpc::MismatchInfoRead;
 use rpc::MsgTypeRead;
 use rpc::OpaqueAuthRead;
@@ -230,5 +240,129 @@ pub(crate) fn copy_mismatch_info(src: &[u8], at: usize, out: &mut [u8], start: u
             true,
             rpc::write_mismatch_info(v, out, start),
         ),
+    }
+}
+
+pub(crate) fn copy_current_accept_stat(
+    src: &[u8],
+    at: usize,
+    out: &mut [u8],
+    start: usize,
+) -> Copied
+    ensures { λ r. ⌜ Copies (exactly current-accept-stat) (now (src .entry)) at start (now (out .entry)) (viewCopied r) (now (out .exit)) ⌝ }
+{
+    match rpc::read_current_accept_stat(src, at) {
+        CurrentAcceptStatRead::Refused(r) => Copied::Unread(r),
+        CurrentAcceptStatRead::Took { value: v, next: n } => copied_to(
+            n,
+            true,
+            rpc::write_current_accept_stat(v, out, start),
+        ),
+    }
+}
+
+pub(crate) fn copy_current_auth_stat(src: &[u8], at: usize, out: &mut [u8], start: usize) -> Copied
+    ensures { λ r. ⌜ Copies (exactly current-auth-stat) (now (src .entry)) at start (now (out .entry)) (viewCopied r) (now (out .exit)) ⌝ }
+{
+    match rpc::read_current_auth_stat(src, at) {
+        CurrentAuthStatRead::Refused(r) => Copied::Unread(r),
+        CurrentAuthStatRead::Took { value: v, next: n } => copied_to(
+            n,
+            true,
+            rpc::write_current_auth_stat(v, out, start),
+        ),
+    }
+}
+
+pub(crate) fn copy_current_accept_body(
+    src: &[u8],
+    at: usize,
+    out: &mut [u8],
+    start: usize,
+) -> Copied
+    ensures { λ r. ⌜ Copies (exactly current-accept-body) (now (src .entry)) at start (now (out .entry)) (viewCopied r) (now (out .exit)) ⌝ }
+{
+    match rpc::read_current_accept_body(src, at) {
+        CurrentAcceptBodyRead::Refused(r) => Copied::Unread(r),
+        CurrentAcceptBodyRead::Took {
+            value: v,
+            next: n,
+            plain: p,
+        } => copied_to(n, p, rpc::write_current_accept_body(v, out, start)),
+    }
+}
+
+pub(crate) fn copy_current_accepted_reply(
+    src: &[u8],
+    at: usize,
+    out: &mut [u8],
+    start: usize,
+) -> Copied
+    ensures { λ r. ⌜ Copies current-accepted-reply (now (src .entry)) at start (now (out .entry)) (viewCopied r) (now (out .exit)) ⌝ }
+{
+    match rpc::read_current_accepted_reply(src, at) {
+        CurrentAcceptedReplyRead::Refused(r) => Copied::Unread(r),
+        CurrentAcceptedReplyRead::Took {
+            value: v,
+            next: n,
+            plain: p,
+        } => copied_to(n, p, rpc::write_current_accepted_reply(src, v, out, start)),
+    }
+}
+
+pub(crate) fn copy_current_rejected_reply(
+    src: &[u8],
+    at: usize,
+    out: &mut [u8],
+    start: usize,
+) -> Copied
+    ensures { λ r. ⌜ Copies (exactly current-rejected-reply) (now (src .entry)) at start (now (out .entry)) (viewCopied r) (now (out .exit)) ⌝ }
+{
+    match rpc::read_current_rejected_reply(src, at) {
+        CurrentRejectedReplyRead::Refused(r) => Copied::Unread(r),
+        CurrentRejectedReplyRead::Took {
+            value: v,
+            next: n,
+            plain: p,
+        } => copied_to(n, p, rpc::write_current_rejected_reply(v, out, start)),
+    }
+}
+
+pub(crate) fn copy_current_reply_body(src: &[u8], at: usize, out: &mut [u8], start: usize) -> Copied
+    ensures { λ r. ⌜ Copies current-reply-body (now (src .entry)) at start (now (out .entry)) (viewCopied r) (now (out .exit)) ⌝ }
+{
+    match rpc::read_current_reply_body(src, at) {
+        CurrentReplyBodyRead::Refused(r) => Copied::Unread(r),
+        CurrentReplyBodyRead::Took {
+            value: v,
+            next: n,
+            plain: p,
+        } => copied_to(n, p, rpc::write_current_reply_body(src, v, out, start)),
+    }
+}
+
+pub(crate) fn copy_current_rpc_body(src: &[u8], at: usize, out: &mut [u8], start: usize) -> Copied
+    ensures { λ r. ⌜ Copies current-rpc-body (now (src .entry)) at start (now (out .entry)) (viewCopied r) (now (out .exit)) ⌝ }
+{
+    match rpc::read_current_rpc_body(src, at) {
+        CurrentRpcBodyRead::Refused(r) => Copied::Unread(r),
+        CurrentRpcBodyRead::Took {
+            value: v,
+            next: n,
+            plain: p,
+        } => copied_to(n, p, rpc::write_current_rpc_body(src, v, out, start)),
+    }
+}
+
+pub(crate) fn copy_current_rpc_msg(src: &[u8], at: usize, out: &mut [u8], start: usize) -> Copied
+    ensures { λ r. ⌜ Copies current-rpc-msg (now (src .entry)) at start (now (out .entry)) (viewCopied r) (now (out .exit)) ⌝ }
+{
+    match rpc::read_current_rpc_msg(src, at) {
+        CurrentRpcMsgRead::Refused(r) => Copied::Unread(r),
+        CurrentRpcMsgRead::Took {
+            value: v,
+            next: n,
+            plain: p,
+        } => copied_to(n, p, rpc::write_current_rpc_msg(src, v, out, start)),
     }
 }

@@ -3,7 +3,7 @@ ghost use mathlib.Core.Path.{_≡_};
 ghost use Prim.Native.Nat.{_≤_};
 ghost use lib.ListN.{length};
 ghost use Rattle.xdr.specs.Meaning.Combinators.{among};
-ghost use Rattle.rpc.specs.Meaning.Closed.{acceptStatNumber, acceptStats, authStatNumber, authStats};
+ghost use Rattle.rpc.specs.Meaning.Crate.{crate, acceptStatNumber, acceptStats, authStatNumber, authStats};
 ghost use Rattle.door.specs.Meaning.Copy.{Is};
 ghost use Rattle.door.specs.Meaning.Replies.{foundAcceptStat, foundAuthStat, foundInfo, infoOf, foundAccept, acceptOf, foundReply, acceptedOf, mismatchOf, denialOf, replyOf, replyGiven, viewGivenReply, WriteReplyCalled};
 use crate::exports::SHORT_LIST;
@@ -67,7 +67,7 @@ pub enum InfoFound {
     Is(mismatch_info),
 }
 
-fn info_of(low: u64, high: u64) -> InfoFound
+pub(crate) fn info_of(low: u64, high: u64) -> InfoFound
     ensures { λ r. ⌜ foundInfo r ≡ infoOf low high ⌝ }
 {
     if WORDS <= low {
@@ -89,7 +89,7 @@ pub enum AcceptFound {
 
 // What an accept_stat says, with the versions of PROG_MISMATCH behind it.
 fn accept_of(stat: accept_stat, low: u64, high: u64) -> AcceptFound
-    ensures { λ r. ⌜ foundAccept r ≡ acceptOf stat low high ⌝ }
+    ensures { λ r. ⌜ foundAccept r ≡ acceptOf crate stat low high ⌝ }
 {
     match stat {
         accept_stat::SUCCESS => AcceptFound::Is(accept_body::SUCCESS),
@@ -113,7 +113,7 @@ pub enum ReplyFound {
 
 // Accepted: flavor, place and count of the verifier, then the accept_stat and two versions.
 fn accepted_of(flavor: u64, at: usize, count: usize, stat: u64, low: u64, high: u64) -> ReplyFound
-    ensures { λ r. ⌜ foundReply r ≡ acceptedOf flavor at count stat low high ⌝ }
+    ensures { λ r. ⌜ foundReply r ≡ acceptedOf crate flavor at count stat low high ⌝ }
 {
     let f1 = flavor_of(flavor);
     let FlavorFound::Is(a) = f1 else {
@@ -138,7 +138,7 @@ fn accepted_of(flavor: u64, at: usize, count: usize, stat: u64, low: u64, high: 
 
 // Denied, because of its RPC version.
 fn mismatch_of(low: u64, high: u64) -> ReplyFound
-    ensures { λ r. ⌜ foundReply r ≡ mismatchOf low high ⌝ }
+    ensures { λ r. ⌜ foundReply r ≡ mismatchOf crate low high ⌝ }
 {
     let found = info_of(low, high);
     let InfoFound::Is(v) = found else {
@@ -149,7 +149,7 @@ fn mismatch_of(low: u64, high: u64) -> ReplyFound
 
 // Denied, because of its credential.
 fn denial_of(stat: u64) -> ReplyFound
-    ensures { λ r. ⌜ foundReply r ≡ denialOf stat ⌝ }
+    ensures { λ r. ⌜ foundReply r ≡ denialOf crate stat ⌝ }
 {
     let found = auth_stat_of(stat);
     let AuthStatFound::Is(a) = found else {
@@ -161,7 +161,7 @@ fn denial_of(stat: u64) -> ReplyFound
 // What the figures from the tag on are.
 fn reply_of(fields: &[u64]) -> ReplyFound
     requires { ⌜ 8 ≤ length (now fields) ⌝ }
-    ensures { λ r. ⌜ Is replyOf (now (fields .entry)) (foundReply r) ⌝ }
+    ensures { λ r. ⌜ Is (replyOf crate) (now (fields .entry)) (foundReply r) ⌝ }
 {
     match fields[1] {
         1 => accepted_of(
@@ -186,7 +186,7 @@ pub enum GivenReply {
 
 fn given_reply(fields: &[u64]) -> GivenReply
     requires { ⌜ 8 ≤ length (now fields) ⌝ }
-    ensures { λ r. ⌜ Is replyGiven (now (fields .entry)) (viewGivenReply r) ⌝ }
+    ensures { λ r. ⌜ Is (replyGiven crate) (now (fields .entry)) (viewGivenReply r) ⌝ }
 {
     if WORDS <= fields[0] {
         return GivenReply::Wide;
@@ -212,7 +212,7 @@ pub extern "C" fn yugerzat_write_reply(
     start: usize,
     info: &mut [u64],
 ) -> u32
-    ensures { λ r. ⌜ WriteReplyCalled (now (source .entry)) (now (fields .entry)) (now (out .entry)) start (now (info .entry)) r (now (out .exit)) (now (info .exit)) ⌝ }
+    ensures { λ r. ⌜ WriteReplyCalled crate (now (source .entry)) (now (fields .entry)) (now (out .entry)) start (now (info .entry)) r (now (out .exit)) (now (info .exit)) ⌝ }
 {
     if fields.len() < 8 {
         return SHORT_LIST;

@@ -9,10 +9,11 @@ ghost use lib.ListN.{length, drop, replicate};
 ghost use Rattle.xdr.specs.Meaning.Refusal.{numberOf, placeOf, wantingOf};
 ghost use Rattle.nfs.specs.Meaning.Change.{setModeFrom, setUidFrom, setGidFrom, setSizeFrom};
 ghost use Rattle.nfs.specs.Meaning.Set.{atimeFrom, mtimeFrom};
-ghost use Rattle.rpc.specs.declared.message.rpc_body.the-variants.{CALL, REPLY};
+ghost use Rattle.rpc.specs.Meaning.Crate.{crate};
+ghost use Rattle.rpc.specs.declared.message.rpc_body.the-variants.{REPLY};
 ghost use Rattle.rpc.specs.declared.reply.reply_body.the-variants.{«MSG_ACCEPTED», «MSG_DENIED»};
 ghost use Rattle.door.specs.Meaning.Figures.{Shown, Shows};
-ghost use Rattle.door.specs.Meaning.Values.{pieceFigures, diropargs3Figures, Diropargs3Called, fattr3Figures, Fattr3Called, optionFigures, timeFigures, sattr3Figures, Sattr3Called, acceptFigures, bodyFigures, RpcMsgCalled, unixFigures, UnixCalled, PartCalled};
+ghost use Rattle.door.specs.Meaning.Values.{pieceFigures, diropargs3Figures, Diropargs3Called, fattr3Figures, Fattr3Called, optionFigures, timeFigures, sattr3Figures, Sattr3Called, callFigures, acceptFigures, bodyFigures, RpcMsgCalled, unixFigures, UnixCalled, PartCalled};
 use crate::exports::SHORT_LIST;
 use crate::figures::bit;
 use crate::figures::put_figures;
@@ -64,7 +65,7 @@ pub extern "C" fn yugerzat_part(message: &[u8], at: usize, count: usize, info: &
 }
 
 // A refusal's number; its place, how many bytes it wants, and zeros for a value of `count` figures.
-fn tell_refused(r: Refusal, count: usize, info: &mut [u64]) -> u32
+pub(crate) fn tell_refused(r: Refusal, count: usize, info: &mut [u64]) -> u32
     requires { ⌜ 2 + count ≤ length (now info) ⌝ }
     ensures { λ n. ⌜ (n ≡ numberOf r) × Shown (placeOf r ∷ wantingOf r ∷ replicate count 0) (now (info .entry)) (now (info .exit)) ⌝ }
 {
@@ -193,9 +194,9 @@ fn call_figures(m: call_body, cred: u32, verf: u32, xid: u32, next: usize, plain
     ]
 }
 
-fn put_call(m: call_body, xid: u32, next: usize, plain: bool, info: &mut [u64])
+pub(crate) fn put_call(m: call_body, xid: u32, next: usize, plain: bool, info: &mut [u64])
     requires { ⌜ 14 ≤ length (now info) ⌝ }
-    ensures { λ _. ⌜ Shown (next ∷ cond plain 1 0 ∷ xid ∷ bodyFigures (CALL m)) (now (info .entry)) (now (info .exit)) ⌝ }
+    ensures { λ _. ⌜ Shown (next ∷ cond plain 1 0 ∷ xid ∷ 0 ∷ callFigures m) (now (info .entry)) (now (info .exit)) ⌝ }
 {
     let cred = m.cred;
     let verf = m.verf;
@@ -214,7 +215,7 @@ fn put_call(m: call_body, xid: u32, next: usize, plain: bool, info: &mut [u64])
 
 // accept_stat's number, and the two versions of PROG_MISMATCH.
 fn accept_figures(b: accept_body) -> Three
-    ensures { λ r. ⌜ (r .first ∷ r .second ∷ r .third ∷ []) ≡ acceptFigures b ⌝ }
+    ensures { λ r. ⌜ (r .first ∷ r .second ∷ r .third ∷ []) ≡ acceptFigures crate b ⌝ }
 {
     match b {
         accept_body::SUCCESS => Three {
@@ -247,7 +248,7 @@ fn accept_figures(b: accept_body) -> Three
 
 fn put_reply(m: reply_body, xid: u32, next: usize, plain: bool, info: &mut [u64])
     requires { ⌜ 14 ≤ length (now info) ⌝ }
-    ensures { λ _. ⌜ Shows (λ m. next ∷ cond plain 1 0 ∷ xid ∷ bodyFigures (REPLY m)) m (now (info .entry)) (now (info .exit)) ⌝ }
+    ensures { λ _. ⌜ Shows (λ m. next ∷ cond plain 1 0 ∷ xid ∷ bodyFigures crate (REPLY m)) m (now (info .entry)) (now (info .exit)) ⌝ }
 {
     match m {
         reply_body::MSG_ACCEPTED(a) => put_accepted(a, xid, next, plain, info),
@@ -257,7 +258,7 @@ fn put_reply(m: reply_body, xid: u32, next: usize, plain: bool, info: &mut [u64]
 
 fn put_accepted(m: accepted_reply, xid: u32, next: usize, plain: bool, info: &mut [u64])
     requires { ⌜ 14 ≤ length (now info) ⌝ }
-    ensures { λ _. ⌜ Shown (next ∷ cond plain 1 0 ∷ xid ∷ bodyFigures (REPLY («MSG_ACCEPTED» m))) (now (info .entry)) (now (info .exit)) ⌝ }
+    ensures { λ _. ⌜ Shown (next ∷ cond plain 1 0 ∷ xid ∷ bodyFigures crate (REPLY («MSG_ACCEPTED» m))) (now (info .entry)) (now (info .exit)) ⌝ }
 {
     let verf = m.verf;
     let flavor = verf.flavor;
@@ -284,7 +285,7 @@ fn put_accepted(m: accepted_reply, xid: u32, next: usize, plain: bool, info: &mu
 
 fn put_denied(m: rejected_reply, xid: u32, next: usize, plain: bool, info: &mut [u64])
     requires { ⌜ 14 ≤ length (now info) ⌝ }
-    ensures { λ _. ⌜ Shows (λ m. next ∷ cond plain 1 0 ∷ xid ∷ bodyFigures (REPLY («MSG_DENIED» m))) m (now (info .entry)) (now (info .exit)) ⌝ }
+    ensures { λ _. ⌜ Shows (λ m. next ∷ cond plain 1 0 ∷ xid ∷ bodyFigures crate (REPLY («MSG_DENIED» m))) m (now (info .entry)) (now (info .exit)) ⌝ }
 {
     match m {
         rejected_reply::RPC_MISMATCH(v) => put_figures(
@@ -309,7 +310,7 @@ fn put_denied(m: rejected_reply, xid: u32, next: usize, plain: bool, info: &mut 
 
 fn put_message(m: rpc_msg, next: usize, plain: bool, info: &mut [u64])
     requires { ⌜ 14 ≤ length (now info) ⌝ }
-    ensures { λ _. ⌜ Shows (λ b. next ∷ cond plain 1 0 ∷ m .xid ∷ bodyFigures b) (m .body) (now (info .entry)) (now (info .exit)) ⌝ }
+    ensures { λ _. ⌜ Shows (λ b. next ∷ cond plain 1 0 ∷ m .xid ∷ bodyFigures crate b) (m .body) (now (info .entry)) (now (info .exit)) ⌝ }
 {
     let xid = m.xid;
     let body = m.body;
@@ -324,7 +325,7 @@ fn put_message(m: rpc_msg, next: usize, plain: bool, info: &mut [u64])
 // PROG_MISMATCH. 2, denied by the version: the two versions. 3, denied by authentication: the number of its auth_stat.
 #[no_mangle]
 pub extern "C" fn yugerzat_read_rpc_msg(message: &[u8], at: usize, info: &mut [u64]) -> u32
-    ensures { λ r. ⌜ RpcMsgCalled (now (message .entry)) at (now (info .entry)) r (now (info .exit)) ⌝ }
+    ensures { λ r. ⌜ RpcMsgCalled crate (now (message .entry)) at (now (info .entry)) r (now (info .exit)) ⌝ }
 {
     if info.len() < 14 {
         return SHORT_LIST;
@@ -392,10 +393,10 @@ struct Two {
     second: u64,
 }
 
-struct Three {
-    first: u64,
-    second: u64,
-    third: u64,
+pub(crate) struct Three {
+    pub first: u64,
+    pub second: u64,
+    pub third: u64,
 }
 
 fn mode_figures(m: set_mode3) -> Two

@@ -9,8 +9,8 @@ use Rattle.xdr.specs.Meaning.Items.{number, word, word-pair, hyper, flag, opaqu
 use Rattle.xdr.specs.Meaning.Formats.{pieceHeld}
 use Rattle.rpc.specs.Meaning.Closed.{auth-flavor}
 use Rattle.rpc.specs.Meaning.Auth.{opaque-auth}
-use Rattle.rpc.specs.Meaning.Reply.{reply-body}
-use Rattle.rpc.specs.Meaning.Message.{call-body, rpc-body, rpc-msg}
+use Rattle.rpc.specs.Meaning.Reply.{reply-body-of}
+use Rattle.rpc.specs.Meaning.Message.{call-body, rpc-body-of, rpc-msg-of}
 use Rattle.rpc.specs.declared.auth.auth_flavor.the-variants.{«AUTH_NULL»}
 use Rattle.rpc.specs.declared.message.rpc_body.the-variants.{CALL}
 use Rattle.nfsattr.specs.Meaning.Attr.{nfstime}
@@ -65,10 +65,10 @@ pub taken : mkdir .held .read bytes 0
       ),
     )
     84 false
-unfolding mkdir number word word-pair hyper flag opaque pieceHeld auth-flavor opaque-auth reply-body call-body rpc-body rpc-msg nfs-fh diropargs nfstime set-mode set-uid set-gid set-size set-time set-atime set-mtime sattr
+unfolding mkdir number word word-pair hyper flag opaque pieceHeld auth-flavor opaque-auth reply-body-of call-body rpc-body-of rpc-msg-of nfs-fh diropargs nfstime set-mode set-uid set-gid set-size set-time set-atime set-mtime sattr
 taken = refl
 
 -- cut in the attributes: the refusal has the place of the item that is cut
 pub cut : mkdir .held .read (header (dirops (0 ∷ 0 ∷ 0 ∷ 0 ∷ 0 ∷ 0 ∷ []))) 0 ≡ refused (Ended 60 2)
-unfolding mkdir number word word-pair hyper flag opaque pieceHeld auth-flavor opaque-auth reply-body call-body rpc-body rpc-msg nfs-fh diropargs nfstime set-mode set-uid set-gid set-size set-time set-atime set-mtime sattr
+unfolding mkdir number word word-pair hyper flag opaque pieceHeld auth-flavor opaque-auth reply-body-of call-body rpc-body-of rpc-msg-of nfs-fh diropargs nfstime set-mode set-uid set-gid set-size set-time set-atime set-mtime sattr
 cut = refl

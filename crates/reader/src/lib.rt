@@ -8,7 +8,7 @@ ghost use lib.ListN.{length};
 ghost use Rattle.nfsattr.specs.Meaning.Attr.{fattr};
 ghost use Rattle.nfs.specs.Meaning.Dir.{nfs-fh, diropargs};
 ghost use Rattle.nfs.specs.Meaning.Set.{sattr};
-ghost use Rattle.rpc.specs.Meaning.Message.{rpc-msg};
+ghost use Rattle.rpc.specs.Meaning.Crate.{rpc-msg};
 ghost use Rattle.xdr.specs.Meaning.Format.{exactly};
 ghost use Rattle.xdr.specs.Meaning.Formats.{bytes};
 ghost use Rattle.xdr.specs.Meaning.Items.{word, hyper, flag};

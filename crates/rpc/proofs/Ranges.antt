@@ -18,14 +18,17 @@ use Rattle.xdr.specs.Meaning.Pieces.{isInside, areInside}
 use Rattle.xdr.specs.Laws.Marks.{and-right}
 use Rattle.xdr.specs.Laws.Pieces.{piece-good}
 use Rattle.xdr.specs.Laws.Words.{words-good}
-use Rattle.rpc.specs.Meaning.Closed.{auth-flavor, auth-stat}
+use Rattle.rpc.specs.Meaning.Closed.{auth-flavor}
+use Rattle.rpc.specs.Meaning.Crate.{auth-stat, accept-body, accepted-reply, rejected-reply, reply-body, rpc-body, rpc-msg}
 use Rattle.rpc.specs.Meaning.Auth.{opaque-auth, auth-unix}
-use Rattle.rpc.specs.Meaning.Reply.{mismatch-info, accept-body, accepted-reply, rejected-reply, reply-body}
-use Rattle.rpc.specs.Meaning.Message.{call-body, rpc-body, rpc-msg}
+use Rattle.rpc.specs.Meaning.Reading.{mismatch-info}
+use Rattle.rpc.specs.Meaning.Message.{call-body}
 use Rattle.xdr.specs.Laws.Putting.{putting, place-at, place-room}
 use Rattle.rpc.specs.Meaning.Sources.{unixFrom, messageFrom}
-use Rattle.rpc.specs.Laws.Sizes.{sizes}
+use Rattle.rpc.specs.Laws.ReplySizes.{sizes}
 use Rattle.rpc.specs.Laws.Sources.{UnixReady, CallReady, writes-from}
+use Rattle.rpc.specs.Meaning.Reply.{auth-stat-of, accept-body-of, accepted-reply-of, rejected-reply-of, reply-body-of}
+use Rattle.rpc.specs.Meaning.Message.{rpc-body-of, rpc-msg-of}
 use Rattle.rpc.specs.declared.auth.auth_flavor.{«auth_flavor»}
 use Rattle.rpc.specs.declared.auth.auth_flavor.the-variants as flavor
 use Rattle.rpc.specs.declared.auth.auth_stat.{«auth_stat»}
@@ -63,7 +66,7 @@ auth-flavor-good flavor.«AUTH_SHORT» = omega arith
 auth-flavor-good flavor.«AUTH_DES» = omega arith
 
 pub auth-stat-good : (a : «auth_stat») → auth-stat .kind .Good a
-unfolding auth-stat word number
+unfolding auth-stat-of word number
 auth-stat-good authStat.«AUTH_BADCRED» = omega arith
 auth-stat-good authStat.«AUTH_REJECTEDCRED» = omega arith
 auth-stat-good authStat.«AUTH_BADVERF» = omega arith
@@ -76,7 +79,7 @@ unfolding mismatch-info word number
 info-good m p = (p .1 .1 .0 .1, p .1 .1 .1 .0 .1)
 
 pub accept-good : (m : «accept_body») {vs : List Val} → Is AcceptBody.the-row m vs → accept-body .kind .Good m
-unfolding accept-body word number
+unfolding accept-body-of word number
 accept-good SUCCESS p = (omega arith, tt)
 accept-good «PROG_UNAVAIL» p = (omega arith, tt)
 accept-good («PROG_MISMATCH» v) p = (omega arith, info-good v (p .1 .1 .1 .1 .0))
@@ -84,7 +87,7 @@ accept-good «PROC_UNAVAIL» p = (omega arith, tt)
 accept-good «GARBAGE_ARGS» p = (omega arith, tt)
 
 pub reject-good : (m : «rejected_reply») {vs : List Val} → Is RejectedReply.the-row m vs → rejected-reply .kind .Good m
-unfolding rejected-reply word number
+unfolding rejected-reply-of word number
 reject-good («RPC_MISMATCH» v) p = (omega arith, info-good v (p .1 .1 .1 .1 .0))
 reject-good («AUTH_ERROR» a) p = (omega arith, auth-stat-good a)
 
@@ -101,21 +104,21 @@ module _ (s : List ℕ) (h : Bytes s) (k : length s ≤ most) where
 
   pub accepted-good : (m : «accepted_reply») {vs : List Val} → Is AcceptedReply.the-row m vs
       → accepted-reply .codec .kind .Good (accepted-reply .held .mean s m)
-  unfolding accepted-reply
+  unfolding accepted-reply-of
   accepted-good m p = (auth-good (m .verf), accept-good (m .«reply_data») (p .1 .1 .1 .0))
 
   pub reply-good : (m : «reply_body») {vs : List Val} → Is ReplyBody.the-row m vs → reply-body .codec .kind .Good (reply-body .held .mean s m)
-  unfolding reply-body word number
+  unfolding reply-body-of word number
   reply-good («MSG_ACCEPTED» a) p = (omega arith, accepted-good a (p .1 .1 .1 .1 .0))
   reply-good («MSG_DENIED» r) p = (omega arith, reject-good r (p .1 .1 .1 .1 .0))
 
   pub body-good : (m : «rpc_body») {vs : List Val} → Is RpcBody.the-row m vs → rpc-body .codec .kind .Good (rpc-body .held .mean s m)
-  unfolding rpc-body word number
+  unfolding rpc-body-of word number
   body-good (CALL c) p = (omega arith, call-good c (p .1 .1 .1 .1 .0))
   body-good (REPLY r) p = (omega arith, reply-good r (p .1 .1 .1 .1 .0))
 
   pub msg-good : (m : «rpc_msg») {vs : List Val} → Is RpcMsg.the-row m vs → rpc-msg .codec .kind .Good (rpc-msg .held .mean s m)
-  unfolding rpc-msg word number
+  unfolding rpc-msg-of word number
   msg-good m p = (p .1 .1 .0 .1, body-good (m .body) (p .1 .1 .1 .0))
 
   -- a list of words is in range where it lies inside
@@ -152,7 +155,7 @@ unix-from-good s t m p h g r =
 
 pub message-from-good : (s t : List ℕ) (xid : ℕ) (m : «call_body») {vs : List Val} → xid < 4294967296 → Is CallBody.the-row m vs → Bytes s → Bytes t
     → CallReady s t m → rpc-msg .codec .kind .Good (messageFrom s t xid m)
-unfolding rpc-msg rpc-body call-body word number
+unfolding rpc-msg-of rpc-body-of call-body word number
 message-from-good s t xid m x p h g r =
     let f = p .1 .1 in (
       x,

@@ -3,11 +3,15 @@ pub mod One
 pub mod Makers
 pub mod Lengths
 pub mod Sizes
+pub mod ReplySizes
 pub mod UnixIn
 pub mod Tags
 pub mod Puts
+pub mod ReplyPuts
 pub mod Sources
 pub mod Closed
 pub mod Plans
 pub mod UnixKept
 pub mod Stray
+pub mod Current
+pub mod Readings

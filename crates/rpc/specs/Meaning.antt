@@ -3,8 +3,13 @@ pub mod Closed
 pub mod Messages
 pub mod Auth
 pub mod UnixIn
+pub mod Reading
 pub mod Reply
 pub mod Message
+pub mod Crate
+pub mod Current
+pub mod Narrowed
 pub mod Sources
 pub mod Makers
 pub mod Views
+pub mod CurrentViews

@@ -1,6 +1,7 @@
 // Authentication (RFC 5531, section 8.2 and appendix A).
 ghost use mathlib.Core.Path.{_≡_};
-ghost use Rattle.rpc.specs.Meaning.Closed.{flavorNumber, authStatNumber};
+ghost use Rattle.rpc.specs.Meaning.Closed.{flavorNumber};
+ghost use Rattle.rpc.specs.Meaning.Crate.{authStatNumber};
 use xdr::Piece;
 
 pub enum auth_flavor {

@@ -3,9 +3,10 @@ ghost use mathlib.Core.Path.{_≡_};
 ghost use mathlib.Core.Bool.{_&&_};
 ghost use Prim.Native.Nat.{_≤_};
 ghost use Rattle.rpc.specs.Meaning.Auth.{opaque-auth, auth-unix};
-ghost use Rattle.rpc.specs.Meaning.Reply.{accepted-reply, reply-body};
-ghost use Rattle.rpc.specs.Meaning.Message.{call-body, rpc-body};
-ghost use Rattle.rpc.specs.Laws.Sizes.{authSize, unixSize, callSize, acceptSize, acceptedSize, rejectSize, replySize, bodySize};
+ghost use Rattle.rpc.specs.Meaning.Crate.{crate, accepted-reply, reply-body, rpc-body};
+ghost use Rattle.rpc.specs.Meaning.Message.{call-body};
+ghost use Rattle.rpc.specs.Laws.Sizes.{authSize, unixSize, callSize};
+ghost use Rattle.rpc.specs.Laws.ReplySizes.{acceptSize, acceptedSize, rejectSize, replySize, bodySize};
 use crate::auth::auth_unix;
 use crate::auth::opaque_auth;
 use crate::message::call_body;
@@ -101,7 +102,7 @@ pub(crate) fn call_body_size(m: call_body) -> usize
 }
 
 pub(crate) fn accept_body_size(m: accept_body) -> usize
-    ensures { λ r. ⌜ (r ≡ acceptSize m) × (r ≤ 12) ⌝ }
+    ensures { λ r. ⌜ (r ≡ acceptSize crate m) × (r ≤ 12) ⌝ }
 {
     match m {
         accept_body::SUCCESS => 4,
@@ -113,7 +114,7 @@ pub(crate) fn accept_body_size(m: accept_body) -> usize
 }
 
 pub(crate) fn accepted_reply_size(m: accepted_reply) -> usize
-    ensures { λ r. ⌜ (r ≡ acceptedSize m) × (r ≤ 1048596) ⌝ }
+    ensures { λ r. ⌜ (r ≡ acceptedSize crate m) × (r ≤ 1048596) ⌝ }
 {
     let verf = m.verf;
     let reply_data = m.reply_data;
@@ -121,7 +122,7 @@ pub(crate) fn accepted_reply_size(m: accepted_reply) -> usize
 }
 
 pub(crate) fn rejected_reply_size(m: rejected_reply) -> usize
-    ensures { λ r. ⌜ (r ≡ rejectSize m) × (r ≤ 12) ⌝ }
+    ensures { λ r. ⌜ (r ≡ rejectSize crate m) × (r ≤ 12) ⌝ }
 {
     match m {
         rejected_reply::RPC_MISMATCH(_) => 4 + mismatch_info::SIZE,
@@ -130,7 +131,7 @@ pub(crate) fn rejected_reply_size(m: rejected_reply) -> usize
 }
 
 pub(crate) fn reply_body_size(m: reply_body) -> usize
-    ensures { λ r. ⌜ (r ≡ replySize m) × (r ≤ 1048600) ⌝ }
+    ensures { λ r. ⌜ (r ≡ replySize crate m) × (r ≤ 1048600) ⌝ }
 {
     match m {
         reply_body::MSG_ACCEPTED(a) => 4 + accepted_reply_size(a),
@@ -139,7 +140,7 @@ pub(crate) fn reply_body_size(m: reply_body) -> usize
 }
 
 pub(crate) fn rpc_body_size(m: rpc_body) -> usize
-    ensures { λ r. ⌜ (r ≡ bodySize m) × (r ≤ 2097188) ⌝ }
+    ensures { λ r. ⌜ (r ≡ bodySize crate m) × (r ≤ 2097188) ⌝ }
 {
     match m {
         rpc_body::CALL(c) => 4 + call_body_size(c),

@@ -3,11 +3,12 @@
 ghost use mathlib.Core.Path.{_≡_};
 ghost use mathlib.Core.Bool.{false};
 ghost use Rattle.xdr.specs.Meaning.Answer.{took};
-ghost use Rattle.rpc.specs.Meaning.Closed.{msg-type, reply-stat, accept-stat, reject-stat, auth-flavor, auth-stat};
+ghost use Rattle.rpc.specs.Meaning.Closed.{msg-type, reply-stat, reject-stat, auth-flavor};
+ghost use Rattle.rpc.specs.Meaning.Crate.{accept-stat, auth-stat, accept-body, accepted-reply, rejected-reply, reply-body, rpc-body, rpc-msg};
 ghost use Rattle.rpc.specs.Meaning.Auth.{opaque-auth, auth-unix};
 ghost use Rattle.rpc.specs.Meaning.UnixIn.{unixIn};
-ghost use Rattle.rpc.specs.Meaning.Reply.{mismatch-info, accept-body, accepted-reply, rejected-reply, reply-body};
-ghost use Rattle.rpc.specs.Meaning.Message.{call-body, rpc-body, rpc-msg};
+ghost use Rattle.rpc.specs.Meaning.Reading.{mismatch-info};
+ghost use Rattle.rpc.specs.Meaning.Message.{call-body};
 ghost use Rattle.rpc.specs.Laws.Tags.{strayReply, strayBody};
 ghost use Rattle.rpc.specs.Meaning.Views.{viewMsgType, viewReplyStat, viewAcceptStat, viewRejectStat, viewAuthFlavor, viewAuthStat, viewMismatchInfo, viewOpaqueAuth, viewAuthUnix, viewCallBody, viewAcceptedReply, viewRpcMsg, viewAcceptBody, viewRejectedReply, viewReplyBody, viewRpcBody};
 use crate::answer::AcceptBodyRead;

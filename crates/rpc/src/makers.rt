@@ -1,7 +1,7 @@
 // The replies that a server makes by itself. Their bytes stand in specs/Laws/Makers.
 ghost use mathlib.Core.Path.{_≡_};
 ghost use Rattle.rpc.specs.Meaning.Auth.{noAuth};
-ghost use Rattle.rpc.specs.Meaning.Makers.{acceptedWith, procUnavail, progUnavail, progMismatch, garbageArgs, versMismatch, success};
+ghost use Rattle.rpc.specs.Meaning.Makers.{acceptedWith, procUnavail, progUnavail, progMismatch, garbageArgs, versMismatch, versMismatchOf, success};
 use crate::auth::auth_flavor;
 use crate::auth::opaque_auth;
 use crate::message::rpc_body;
@@ -65,17 +65,24 @@ pub fn garbage_args_reply_message(xid: u32) -> rpc_msg
     accepted_with(xid, accept_body::GARBAGE_ARGS)
 }
 
-// The crate names 0 and 0, where RFC 5531 names the versions served.
-pub fn rpc_vers_mismatch(xid: u32) -> rpc_msg
-    ensures { λ r. ⌜ r ≡ versMismatch xid ⌝ }
+// A version of RPC that is not served; `served` is named as the lowest and the highest that are.
+pub fn rpc_vers_mismatch_of(xid: u32, served: u32) -> rpc_msg
+    ensures { λ r. ⌜ r ≡ versMismatchOf served xid ⌝ }
 {
     rpc_msg {
         xid,
         body: rpc_body::REPLY(reply_body::MSG_DENIED(rejected_reply::RPC_MISMATCH(mismatch_info {
-            low: 0,
-            high: 0,
+            low: served,
+            high: served,
         }))),
     }
+}
+
+// The crate names 0 and 0, where RFC 5531 names the versions served.
+pub fn rpc_vers_mismatch(xid: u32) -> rpc_msg
+    ensures { λ r. ⌜ r ≡ versMismatch xid ⌝ }
+{
+    rpc_vers_mismatch_of(xid, 0)
 }
 
 pub fn make_success_reply(xid: u32) -> rpc_msg

@@ -5,11 +5,13 @@ ghost use lib.ListN.{length};
 ghost use Rattle.xdr.specs.Meaning.Public.{output};
 ghost use Rattle.xdr.specs.Laws.Write.{Put, Ready};
 ghost use Rattle.rpc.specs.Meaning.Auth.{opaque-auth, auth-unix};
-ghost use Rattle.rpc.specs.Meaning.Reply.{mismatch-info, accept-body, accepted-reply, rejected-reply, reply-body};
-ghost use Rattle.rpc.specs.Meaning.Message.{call-body, rpc-body, rpc-msg};
+ghost use Rattle.rpc.specs.Meaning.Reading.{mismatch-info};
+ghost use Rattle.rpc.specs.Meaning.Crate.{crate, accept-body, accepted-reply, rejected-reply, reply-body, rpc-body, rpc-msg};
+ghost use Rattle.rpc.specs.Meaning.Message.{call-body};
 ghost use Rattle.rpc.specs.Meaning.Sources.{unixFrom, callFrom, messageFrom};
 ghost use Rattle.rpc.specs.Laws.Sources.{UnixReady, CallReady};
-ghost use Rattle.rpc.specs.Laws.Sizes.{authSize, unixSize, callSize, acceptTag, acceptSize, acceptedSize, rejectSize, replySize, bodySize, msgSize};
+ghost use Rattle.rpc.specs.Laws.Sizes.{authSize, unixSize, callSize};
+ghost use Rattle.rpc.specs.Laws.ReplySizes.{acceptTag, acceptSize, acceptedSize, rejectSize, replySize, bodySize, msgSize};
 use crate::auth::auth_unix;
 use crate::auth::opaque_auth;
 use crate::fit::opaque_auth_size;
@@ -103,7 +105,7 @@ pub(crate) fn put_call_body(src: &[u8], m: call_body, out: &mut [u8])
 }
 
 fn accept_tag(m: accept_body) -> u32
-    ensures { λ r. ⌜ r ≡ acceptTag m ⌝ }
+    ensures { λ r. ⌜ r ≡ acceptTag crate m ⌝ }
 {
     match m {
         accept_body::SUCCESS => 0,
@@ -115,8 +117,8 @@ fn accept_tag(m: accept_body) -> u32
 }
 
 pub(crate) fn put_accept_body(m: accept_body, out: &mut [u8])
-    requires { ⌜ acceptSize m ≤ length (now out) ⌝ }
-    ensures { λ _. ⌜ Put (now (out .entry)) (now (out .exit)) (acceptSize m) (accept-body .kind .write m) ⌝ }
+    requires { ⌜ acceptSize crate m ≤ length (now out) ⌝ }
+    ensures { λ _. ⌜ Put (now (out .entry)) (now (out .exit)) (acceptSize crate m) (accept-body .kind .write m) ⌝ }
 {
     put_u32(accept_tag(m), out);
     let accept_body::PROG_MISMATCH(v) = m else {
@@ -127,8 +129,8 @@ pub(crate) fn put_accept_body(m: accept_body, out: &mut [u8])
 
 pub(crate) fn put_accepted_reply(src: &[u8], m: accepted_reply, out: &mut [u8])
     requires { ⌜ Ready accepted-reply (now src) m ⌝ }
-    requires { ⌜ acceptedSize m ≤ length (now out) ⌝ }
-    ensures { λ _. ⌜ Put (now (out .entry)) (now (out .exit)) (acceptedSize m) (output accepted-reply (now (src .entry)) m) ⌝ }
+    requires { ⌜ acceptedSize crate m ≤ length (now out) ⌝ }
+    ensures { λ _. ⌜ Put (now (out .entry)) (now (out .exit)) (acceptedSize crate m) (output accepted-reply (now (src .entry)) m) ⌝ }
 {
     let verf = m.verf;
     let reply_data = m.reply_data;
@@ -138,8 +140,8 @@ pub(crate) fn put_accepted_reply(src: &[u8], m: accepted_reply, out: &mut [u8])
 }
 
 pub(crate) fn put_rejected_reply(m: rejected_reply, out: &mut [u8])
-    requires { ⌜ rejectSize m ≤ length (now out) ⌝ }
-    ensures { λ _. ⌜ Put (now (out .entry)) (now (out .exit)) (rejectSize m) (rejected-reply .kind .write m) ⌝ }
+    requires { ⌜ rejectSize crate m ≤ length (now out) ⌝ }
+    ensures { λ _. ⌜ Put (now (out .entry)) (now (out .exit)) (rejectSize crate m) (rejected-reply .kind .write m) ⌝ }
 {
     match m {
         rejected_reply::RPC_MISMATCH(v) => {
@@ -152,8 +154,8 @@ pub(crate) fn put_rejected_reply(m: rejected_reply, out: &mut [u8])
 
 pub(crate) fn put_reply_body(src: &[u8], m: reply_body, out: &mut [u8])
     requires { ⌜ Ready reply-body (now src) m ⌝ }
-    requires { ⌜ replySize m ≤ length (now out) ⌝ }
-    ensures { λ _. ⌜ Put (now (out .entry)) (now (out .exit)) (replySize m) (output reply-body (now (src .entry)) m) ⌝ }
+    requires { ⌜ replySize crate m ≤ length (now out) ⌝ }
+    ensures { λ _. ⌜ Put (now (out .entry)) (now (out .exit)) (replySize crate m) (output reply-body (now (src .entry)) m) ⌝ }
 {
     match m {
         reply_body::MSG_ACCEPTED(a) => {
@@ -169,8 +171,8 @@ pub(crate) fn put_reply_body(src: &[u8], m: reply_body, out: &mut [u8])
 
 pub(crate) fn put_rpc_body(src: &[u8], m: rpc_body, out: &mut [u8])
     requires { ⌜ Ready rpc-body (now src) m ⌝ }
-    requires { ⌜ bodySize m ≤ length (now out) ⌝ }
-    ensures { λ _. ⌜ Put (now (out .entry)) (now (out .exit)) (bodySize m) (output rpc-body (now (src .entry)) m) ⌝ }
+    requires { ⌜ bodySize crate m ≤ length (now out) ⌝ }
+    ensures { λ _. ⌜ Put (now (out .entry)) (now (out .exit)) (bodySize crate m) (output rpc-body (now (src .entry)) m) ⌝ }
 {
     match m {
         rpc_body::CALL(c) => {
@@ -186,8 +188,8 @@ pub(crate) fn put_rpc_body(src: &[u8], m: rpc_body, out: &mut [u8])
 
 pub(crate) fn put_rpc_msg(src: &[u8], m: rpc_msg, out: &mut [u8])
     requires { ⌜ Ready rpc-msg (now src) m ⌝ }
-    requires { ⌜ msgSize m ≤ length (now out) ⌝ }
-    ensures { λ _. ⌜ Put (now (out .entry)) (now (out .exit)) (msgSize m) (output rpc-msg (now (src .entry)) m) ⌝ }
+    requires { ⌜ msgSize crate m ≤ length (now out) ⌝ }
+    ensures { λ _. ⌜ Put (now (out .entry)) (now (out .exit)) (msgSize crate m) (output rpc-msg (now (src .entry)) m) ⌝ }
 {
     let body = m.body;
     put_u32(m.xid, out);

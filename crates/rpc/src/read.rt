@@ -1,11 +1,12 @@
 // The public readers: refusal 3, refusal 9, then the kind. What an answer's pieces are, `xdr::part` and `xdr::words_part` hand back.
 ghost use Rattle.xdr.specs.Meaning.Format.{exactly};
 ghost use Rattle.xdr.specs.Meaning.Public.{Answers};
-ghost use Rattle.rpc.specs.Meaning.Closed.{msg-type, reply-stat, accept-stat, reject-stat, auth-flavor, auth-stat};
+ghost use Rattle.rpc.specs.Meaning.Closed.{msg-type, reply-stat, reject-stat, auth-flavor};
+ghost use Rattle.rpc.specs.Meaning.Crate.{accept-stat, auth-stat, accept-body, accepted-reply, rejected-reply, reply-body, rpc-body, rpc-msg};
 ghost use Rattle.rpc.specs.Meaning.Auth.{opaque-auth, auth-unix};
 ghost use Rattle.rpc.specs.Meaning.UnixIn.{AnswersIn};
-ghost use Rattle.rpc.specs.Meaning.Reply.{mismatch-info, accept-body, accepted-reply, rejected-reply, reply-body};
-ghost use Rattle.rpc.specs.Meaning.Message.{call-body, rpc-body, rpc-msg};
+ghost use Rattle.rpc.specs.Meaning.Reading.{mismatch-info};
+ghost use Rattle.rpc.specs.Meaning.Message.{call-body};
 ghost use Rattle.rpc.specs.Meaning.Views.{viewMsgType, viewReplyStat, viewAcceptStat, viewRejectStat, viewAuthFlavor, viewAuthStat, viewOpaqueAuth, viewAuthUnix, viewMismatchInfo, viewCallBody, viewAcceptBody, viewAcceptedReply, viewRejectedReply, viewReplyBody, viewRpcBody, viewRpcMsg};
 use crate::answer::AcceptBodyRead;
 use crate::answer::AcceptStatRead;

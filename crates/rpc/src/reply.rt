@@ -1,7 +1,8 @@
 // Replies (RFC 5531, section 9): accepted, perhaps with an error, or denied, with the reason.
 ghost use mathlib.Core.Path.{_≡_};
-ghost use Rattle.rpc.specs.Meaning.Closed.{replyStatNumber, acceptStatNumber, rejectStatNumber};
-ghost use Rattle.rpc.specs.Meaning.Reply.{mismatch-info};
+ghost use Rattle.rpc.specs.Meaning.Closed.{replyStatNumber, rejectStatNumber};
+ghost use Rattle.rpc.specs.Meaning.Crate.{acceptStatNumber};
+ghost use Rattle.rpc.specs.Meaning.Reading.{mismatch-info};
 ghost use Rattle.xdr.specs.Meaning.Sizes.{OfSize};
 use crate::auth::auth_stat;
 use crate::auth::opaque_auth;

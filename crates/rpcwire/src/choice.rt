@@ -1,19 +1,24 @@
 // The choice of program: what the crate's `handle_rpc` does with a message up to the hand-over to a program.
 ghost use mathlib.Core.Path.{_≡_};
-ghost use Rattle.rpcwire.specs.Meaning.Choice.{byVersion, outcome, replying, carriedOut, Chooses};
+ghost use Rattle.rpcwire.specs.Meaning.Choice.{byVersion, byFlavor, outcome, replying, carriedOut, Chooses};
+ghost use Rattle.rpc.specs.Meaning.Crate.{crate};
+ghost use Rattle.rpc.specs.Meaning.Current.{current};
 ghost use Rattle.rpcwire.specs.Meaning.Views.{viewCaller, viewChoice};
 ghost use Rattle.rpcwire.specs.Laws.Choice.{Short};
 use rpc::AuthUnixRead;
+use rpc::CurrentRpcMsgRead;
 use rpc::RpcMsgRead;
 use rpc::auth_flavor;
 use rpc::auth_unix;
 use rpc::call_body;
+use rpc::current;
 use rpc::inner::auth_unix_in;
 use rpc::prog_unavail_reply_message;
+use rpc::read_current_rpc_msg;
 use rpc::read_rpc_msg;
 use rpc::rpc_body;
 use rpc::rpc_msg;
-use rpc::rpc_vers_mismatch;
+use rpc::rpc_vers_mismatch_of;
 use rpc::write_rpc_msg;
 use xdr::Refusal;
 use xdr::Wrote;
@@ -59,20 +64,21 @@ fn reply(message: &[u8], m: rpc_msg, out: &mut [u8]) -> Choice
     Choice::Replied(n)
 }
 
-// A call whose credential is read.
+// A call whose credential is read. `serves` is the version of RPC that the reply to another version names.
 fn by_version(
     message: &[u8],
     seen: bool,
+    serves: u32,
     xid: u32,
     call: call_body,
     caller: Caller,
     arguments: usize,
     out: &mut [u8],
 ) -> Choice
-    ensures { λ r. ⌜ outcome (viewChoice r) (now (out .exit)) ≡ carriedOut (byVersion seen xid call (viewCaller caller) arguments) (now (out .entry)) ⌝ }
+    ensures { λ r. ⌜ outcome (viewChoice r) (now (out .exit)) ≡ carriedOut (byVersion seen serves xid call (viewCaller caller) arguments) (now (out .entry)) ⌝ }
 {
     if call.rpcvers != 2 {
-        return reply(message, rpc_vers_mismatch(xid), out);
+        return reply(message, rpc_vers_mismatch_of(xid, serves), out);
     }
     if seen {
         return Choice::Silent;
@@ -90,10 +96,58 @@ fn by_version(
     }
 }
 
-// Chooses what to answer to a message. `seen` says if the call came before; a reply is written to the front of the output. The credential
-// is read before the version is tested, as in the crate.
+// For the crates above, and no door for users: a message that is a call, which is the same in every reading. The credential is read before
+// the version is tested, as in the crate.
+pub fn by_call(
+    message: &[u8],
+    seen: bool,
+    serves: u32,
+    xid: u32,
+    call: call_body,
+    arguments: usize,
+    out: &mut [u8],
+) -> Choice
+    ensures { λ r. ⌜ outcome (viewChoice r) (now (out .exit)) ≡ carriedOut (byFlavor (now (message .entry)) seen serves xid call arguments (call .cred .flavor)) (now (out .entry)) ⌝ }
+{
+    let cred = call.cred;
+    let flavor = cred.flavor;
+    let auth_flavor::AUTH_UNIX = flavor else {
+        return by_version(
+            message,
+            seen,
+            serves,
+            xid,
+            call,
+            Caller::Unnamed,
+            arguments,
+            out,
+        );
+    };
+    let unix = auth_unix_in(message, cred.body);
+    let AuthUnixRead::Took {
+        value: auth,
+        next: _,
+        plain: _,
+    } = unix
+    else {
+        return Choice::Refused(unix.refusal());
+    };
+    by_version(
+        message,
+        seen,
+        serves,
+        xid,
+        call,
+        Caller::Unix(auth),
+        arguments,
+        out,
+    )
+}
+
+// Chooses what to answer to a message. `seen` says if the call came before; a reply is written to the front of the output. The reply to
+// another version of RPC names 0 and 0, as in the crate.
 pub fn choose(message: &[u8], seen: bool, out: &mut [u8]) -> Choice
-    ensures { λ r. ⌜ Chooses (now (message .entry)) seen (now (out .entry)) (viewChoice r) (now (out .exit)) ⌝ }
+    ensures { λ r. ⌜ Chooses crate (now (message .entry)) seen (now (out .entry)) (viewChoice r) (now (out .exit)) ⌝ }
 {
     let read = read_rpc_msg(message, 0);
     let RpcMsgRead::Took {
@@ -109,19 +163,26 @@ pub fn choose(message: &[u8], seen: bool, out: &mut [u8]) -> Choice
     let rpc_body::CALL(call) = body else {
         return Choice::Refused(Refusal::NotCall);
     };
-    let cred = call.cred;
-    let flavor = cred.flavor;
-    let auth_flavor::AUTH_UNIX = flavor else {
-        return by_version(message, seen, xid, call, Caller::Unnamed, arguments, out);
-    };
-    let unix = auth_unix_in(message, cred.body);
-    let AuthUnixRead::Took {
-        value: auth,
-        next: _,
+    by_call(message, seen, 0, xid, call, arguments, out)
+}
+
+// The same in the current reading, whose server serves version 2 of RPC and names 2 and 2.
+pub fn current_choose(message: &[u8], seen: bool, out: &mut [u8]) -> Choice
+    ensures { λ r. ⌜ Chooses current (now (message .entry)) seen (now (out .entry)) (viewChoice r) (now (out .exit)) ⌝ }
+{
+    let read = read_current_rpc_msg(message, 0);
+    let CurrentRpcMsgRead::Took {
+        value: msg,
+        next: arguments,
         plain: _,
-    } = unix
+    } = read
     else {
-        return Choice::Refused(unix.refusal());
+        return Choice::Refused(read.refusal());
     };
-    by_version(message, seen, xid, call, Caller::Unix(auth), arguments, out)
+    let xid = msg.xid;
+    let body = msg.body;
+    let current::rpc_body::CALL(call) = body else {
+        return Choice::Refused(Refusal::NotCall);
+    };
+    by_call(message, seen, 2, xid, call, arguments, out)
 }

@@ -15,4 +15,5 @@ pub use assembler::fresh_assembler;
 pub use choice::Caller;
 pub use choice::Choice;
 pub use choice::choose;
+pub use choice::current_choose;
 pub use fragment::write_fragment;

@@ -16,6 +16,7 @@ use Rattle.xdr.specs.Laws.Owed.{Owed, owed}
 -- made by tools/generate: uses
 use Rattle.xdr.specs.Meaning.Views.{viewBool, viewI32, viewI64, viewU32, viewU64, viewPiece}
 use Rattle.rpc.specs.Meaning.Views.{viewMsgType, viewReplyStat, viewAcceptStat, viewRejectStat, viewAuthStat, viewAuthFlavor, viewAuthUnix, viewOpaqueAuth, viewRpcMsg, viewRpcBody, viewCallBody, viewReplyBody, viewAcceptedReply, viewAcceptBody, viewRejectedReply, viewMismatchInfo}
+use Rattle.rpc.specs.Meaning.CurrentViews.{viewCurrentAcceptStat, viewCurrentAuthStat, viewCurrentAcceptBody, viewCurrentAcceptedReply, viewCurrentRejectedReply, viewCurrentReplyBody, viewCurrentRpcBody, viewCurrentRpcMsg}
 use Rattle.nfsattr.specs.Meaning.Views.{viewNfsstat3, viewFtype3, viewSpecdata3, viewNfstime3, viewFattr3, viewFsinfo3, viewWccAttr, viewPreOpAttr, viewPostOpAttr, viewWccData}
 use Rattle.nfs.specs.Meaning.Views.{viewTimeHow, viewSetAtime, viewSetMtime, viewSattr3}
 use Rattle.nfs.specs.Meaning.Dir.{viewNfsFh3, viewPostOpFh3, viewDiropargs3, viewSymlinkdata3}
@@ -27,6 +28,7 @@ use Rattle.nfsdata.specs.Meaning.Write.{viewStableHow, viewWrite3args, viewWrit
 use Rattle.nfsdata.specs.Meaning.Read.{viewRead3args, viewRead3res}
 use Rattle.xdr.specs.Laws.One.{bool-told, i32-told, i64-told, u32-told, u64-told, piece-told}
 use Rattle.rpc.specs.Laws.One.{msg-type-told, reply-stat-told, accept-stat-told, reject-stat-told, auth-stat-told, auth-flavor-told, auth-unix-told, opaque-auth-told, rpc-msg-told, rpc-body-told, call-body-told, reply-body-told, accepted-reply-told, accept-body-told, rejected-reply-told, mismatch-info-told}
+use Rattle.rpc.specs.Laws.Current.{current-accept-stat-told, current-auth-stat-told, current-accept-body-told, current-accepted-reply-told, current-rejected-reply-told, current-reply-body-told, current-rpc-body-told, current-rpc-msg-told}
 use Rattle.nfsattr.specs.Laws.One.{nfsstat3-told, ftype3-told, specdata3-told, nfstime3-told, fattr3-told, fsinfo3-told, wcc-attr-told, pre-op-attr-told, post-op-attr-told, wcc-data-told}
 use Rattle.nfs.specs.Laws.One.{time-how-told, set-atime-told, set-mtime-told, sattr3-told}
 use Rattle.nfs.specs.Laws.Dir.{nfs-fh3-told, post-op-fh3-told, diropargs3-told, symlinkdata3-told}
@@ -37,7 +39,8 @@ use Rattle.nfsfile.specs.Laws.Lookup.{lookup3args-told, lookup3res-told}
 use Rattle.nfsdata.specs.Laws.Write.{stable-how-told, write3args-told, write3res-told}
 use Rattle.nfsdata.specs.Laws.Read.{read3args-told, read3res-told}
 use Rattle.xdr.specs.Laws.Lengths.{flag-within, int-within, long-within, word-within, hyper-within, eight-within, opaque-within, words-within}
-use Rattle.rpc.specs.Laws.Lengths.{msg-type-within, reply-stat-within, accept-stat-within, reject-stat-within, auth-stat-within, auth-flavor-within, auth-unix-within, opaque-auth-within, rpc-msg-within, rpc-body-within, call-body-within, reply-body-within, accepted-reply-within, accept-body-within, rejected-reply-within, mismatch-info-within}
+use Rattle.rpc.specs.Laws.Lengths.{msg-type-within, reply-stat-within, crate-accept-stat-within, reject-stat-within, crate-auth-stat-within, auth-flavor-within, auth-unix-within, opaque-auth-within, crate-rpc-msg-within, crate-rpc-body-within, call-body-within, crate-reply-body-within, crate-accepted-reply-within, crate-accept-body-within, crate-rejected-reply-within, mismatch-info-within}
+use Rattle.rpc.specs.Laws.Current.{current-accept-stat-within, current-auth-stat-within, current-accept-body-within, current-accepted-reply-within, current-rejected-reply-within, current-reply-body-within, current-rpc-body-within, current-rpc-msg-within}
 use Rattle.nfsattr.specs.Laws.Lengths.{nfsstat-within, ftype-within, specdata-within, nfstime-within, fattr-within, fsinfo-within, wcc-attr-within, pre-op-attr-within, post-op-attr-within, wcc-data-within}
 use Rattle.nfs.specs.Laws.Lengths.{time-how-within, set-atime-within, set-mtime-within, sattr-within}
 use Rattle.nfs.specs.Laws.Dir.{nfs-fh-within, post-op-fh-within, diropargs-within, symlinkdata-within}
@@ -141,6 +144,14 @@ readers =
     next by viewRead3res read3res-told
     next by viewWrite3args write3args-told
     next by viewWrite3res write3res-told
+    next by viewCurrentAcceptStat current-accept-stat-told
+    next by viewCurrentAuthStat current-auth-stat-told
+    next by viewCurrentAcceptBody current-accept-body-told
+    next by viewCurrentAcceptedReply current-accepted-reply-told
+    next by viewCurrentRejectedReply current-rejected-reply-told
+    next by viewCurrentReplyBody current-reply-body-told
+    next by viewCurrentRpcBody current-rpc-body-told
+    next by viewCurrentRpcMsg current-rpc-msg-told
     next tt
 
 -- end of readers
@@ -181,22 +192,22 @@ every-within =
     also weaken (omega arith) words-within
     also weaken (omega arith) msg-type-within
     also weaken (omega arith) reply-stat-within
-    also weaken (omega arith) accept-stat-within
+    also weaken (omega arith) crate-accept-stat-within
     also weaken (omega arith) reject-stat-within
-    also weaken (omega arith) auth-stat-within
+    also weaken (omega arith) crate-auth-stat-within
     also weaken (omega arith) auth-flavor-within
     also weaken (omega arith) time-how-within
     also weaken (omega arith) nfsstat-within
     also weaken (omega arith) ftype-within
     also weaken (omega arith) auth-unix-within
     also weaken (omega arith) opaque-auth-within
-    also rpc-msg-within
-    also weaken (omega arith) rpc-body-within
+    also crate-rpc-msg-within
+    also weaken (omega arith) crate-rpc-body-within
     also weaken (omega arith) call-body-within
-    also weaken (omega arith) reply-body-within
-    also weaken (omega arith) accepted-reply-within
-    also weaken (omega arith) accept-body-within
-    also weaken (omega arith) rejected-reply-within
+    also weaken (omega arith) crate-reply-body-within
+    also weaken (omega arith) crate-accepted-reply-within
+    also weaken (omega arith) crate-accept-body-within
+    also weaken (omega arith) crate-rejected-reply-within
     also weaken (omega arith) mismatch-info-within
     also weaken (omega arith) specdata-within
     also weaken (omega arith) nfs-fh-within
@@ -229,6 +240,14 @@ every-within =
     also weaken (omega arith) read-res-within
     also weaken (omega arith) write-args-within
     also weaken (omega arith) write-res-within
+    also weaken (omega arith) current-accept-stat-within
+    also weaken (omega arith) current-auth-stat-within
+    also weaken (omega arith) current-accept-body-within
+    also weaken (omega arith) current-accepted-reply-within
+    also weaken (omega arith) current-rejected-reply-within
+    also weaken (omega arith) current-reply-body-within
+    also weaken (omega arith) current-rpc-body-within
+    also current-rpc-msg-within
     also tt
 
 -- end of every-within

@@ -18,10 +18,11 @@ use Rattle.xdr.specs.Laws.Public.{kept}
 -- made by tools/generate: meanings
 use Rattle.xdr.specs.Meaning.Items.{number, word, hyper, word-pair, hyper-pair, flag, int, long, eight, opaque, words}
 use Rattle.xdr.specs.Meaning.Formats.{eightHeld, pieceHeld, wordsHeld}
-use Rattle.rpc.specs.Meaning.Closed.{msg-type, reply-stat, accept-stat, reject-stat, auth-flavor, auth-stat}
+use Rattle.rpc.specs.Meaning.Closed.{msg-type, reply-stat, reject-stat, auth-flavor}
+use Rattle.rpc.specs.Meaning.Reading.{mismatch-info}
+use Rattle.rpc.specs.Meaning.Reply.{accept-stat-of, auth-stat-of, accept-body-of, accepted-reply-of, rejected-reply-of, reply-body-of}
+use Rattle.rpc.specs.Meaning.Message.{call-body, rpc-body-of, rpc-msg-of}
 use Rattle.rpc.specs.Meaning.Auth.{opaque-auth, auth-unix}
-use Rattle.rpc.specs.Meaning.Message.{call-body, rpc-body, rpc-msg}
-use Rattle.rpc.specs.Meaning.Reply.{mismatch-info, accept-body, accepted-reply, rejected-reply, reply-body}
 use Rattle.nfsattr.specs.Meaning.Stat.{nfsstat}
 use Rattle.nfsattr.specs.Meaning.Attr.{ftype, specdata, nfstime, fattr, wcc-attr, pre-op-attr, post-op-attr, wcc-data, fsinfo}
 use Rattle.nfs.specs.Meaning.Set.{time-how, set-time, set-atime, set-mtime, sattr}
@@ -118,9 +119,9 @@ module _ {M S : Type 0} (F : Format M S) where
 
 -- made by tools/generate: every-kind
 pub every-kind : Each kinds
-unfolding opened partOf wordsPartOf number word hyper word-pair hyper-pair flag int long eight opaque words eightHeld pieceHeld wordsHeld msg-type reply-stat accept-stat reject-stat auth-flavor auth-stat time-how set-time set-atime set-mtime sattr nfsstat ftype specdata nfstime fattr wcc-attr pre-op-attr post-op-attr wcc-data fsinfo opaque-auth auth-unix call-body rpc-body rpc-msg mismatch-info accept-body accepted-reply rejected-reply reply-body nfs-fh post-op-fh diropargs symlinkdata set-mode set-uid set-gid set-size stable-how write-args write-resok write-resfail write-res sattrguard setattr-args setattr-resok setattr-resfail setattr-res getattr-args getattr-resok getattr-res lookup-args lookup-resok lookup-resfail lookup-res read-args read-resok read-resfail read-res
+unfolding opened partOf wordsPartOf number word hyper word-pair hyper-pair flag int long eight opaque words eightHeld pieceHeld wordsHeld msg-type reply-stat reject-stat auth-flavor mismatch-info accept-stat-of auth-stat-of accept-body-of accepted-reply-of rejected-reply-of reply-body-of call-body rpc-body-of rpc-msg-of time-how set-time set-atime set-mtime sattr nfsstat ftype specdata nfstime fattr wcc-attr pre-op-attr post-op-attr wcc-data fsinfo opaque-auth auth-unix nfs-fh post-op-fh diropargs symlinkdata set-mode set-uid set-gid set-size stable-how write-args write-resok write-resfail write-res sattrguard setattr-args setattr-resok setattr-resfail setattr-res getattr-args getattr-resok getattr-res lookup-args lookup-resok lookup-resfail lookup-res read-args read-resok read-resfail read-res
 every-kind =
-    (by-zero _ refl refl refl, (by-two _ refl refl refl, (by-two _ refl refl refl, (by-two _ refl refl refl, (by-two _ refl refl refl, (by-two _ refl refl refl, (by-two _ refl refl refl, (by-two _ refl refl refl, (by-two _ refl refl refl, (by-zero _ refl refl refl, (by-zero _ refl refl refl, (by-two _ refl refl refl, (by-zero _ refl refl refl, (by-two _ refl refl refl, (by-two _ refl refl refl, (by-two _ refl refl refl, (by-two _ refl refl refl, (by-two _ refl refl refl, (by-two _ refl refl refl, (by-two _ refl refl refl, (by-two _ refl refl refl, (by-two _ refl refl refl, (by-two _ refl refl refl, (by-two _ refl refl refl, (by-two _ refl refl refl, (by-two _ refl refl refl, (by-two _ refl refl refl, (by-two _ refl refl refl, (by-two _ refl refl refl, (by-two _ refl refl refl, (by-two _ refl refl refl, (by-two _ refl refl refl, (by-two _ refl refl refl, (by-two _ refl refl refl, (by-two _ refl refl refl, (by-two _ refl refl refl, (by-two _ refl refl refl, (by-two _ refl refl refl, (by-two _ refl refl refl, (by-two _ refl refl refl, (by-two _ refl refl refl, (by-two _ refl refl refl, (by-two _ refl refl refl, (by-two _ refl refl refl, (by-two _ refl refl refl, (by-two _ refl refl refl, (by-two _ refl refl refl, (by-two _ refl refl refl, (by-two _ refl refl refl, (by-two _ refl refl refl, (by-two _ refl refl refl, (by-two _ refl refl refl, (by-two _ refl refl refl, (by-two _ refl refl refl, (by-two _ refl refl refl, (by-two _ refl refl refl, (by-two _ refl refl refl, (by-two _ refl refl refl, (by-two _ refl refl refl, tt)))))))))))))))))))))))))))))))))))))))))))))))))))))))))))
+    (by-zero _ refl refl refl, (by-two _ refl refl refl, (by-two _ refl refl refl, (by-two _ refl refl refl, (by-two _ refl refl refl, (by-two _ refl refl refl, (by-two _ refl refl refl, (by-two _ refl refl refl, (by-two _ refl refl refl, (by-zero _ refl refl refl, (by-zero _ refl refl refl, (by-two _ refl refl refl, (by-zero _ refl refl refl, (by-two _ refl refl refl, (by-two _ refl refl refl, (by-two _ refl refl refl, (by-two _ refl refl refl, (by-two _ refl refl refl, (by-two _ refl refl refl, (by-two _ refl refl refl, (by-two _ refl refl refl, (by-two _ refl refl refl, (by-two _ refl refl refl, (by-two _ refl refl refl, (by-two _ refl refl refl, (by-two _ refl refl refl, (by-two _ refl refl refl, (by-two _ refl refl refl, (by-two _ refl refl refl, (by-two _ refl refl refl, (by-two _ refl refl refl, (by-two _ refl refl refl, (by-two _ refl refl refl, (by-two _ refl refl refl, (by-two _ refl refl refl, (by-two _ refl refl refl, (by-two _ refl refl refl, (by-two _ refl refl refl, (by-two _ refl refl refl, (by-two _ refl refl refl, (by-two _ refl refl refl, (by-two _ refl refl refl, (by-two _ refl refl refl, (by-two _ refl refl refl, (by-two _ refl refl refl, (by-two _ refl refl refl, (by-two _ refl refl refl, (by-two _ refl refl refl, (by-two _ refl refl refl, (by-two _ refl refl refl, (by-two _ refl refl refl, (by-two _ refl refl refl, (by-two _ refl refl refl, (by-two _ refl refl refl, (by-two _ refl refl refl, (by-two _ refl refl refl, (by-two _ refl refl refl, (by-two _ refl refl refl, (by-two _ refl refl refl, (by-two _ refl refl refl, (by-two _ refl refl refl, (by-two _ refl refl refl, (by-two _ refl refl refl, (by-two _ refl refl refl, (by-two _ refl refl refl, (by-two _ refl refl refl, (by-two _ refl refl refl, tt)))))))))))))))))))))))))))))))))))))))))))))))))))))))))))))))))))
 
 -- end of every-kind
 

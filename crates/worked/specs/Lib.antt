@@ -5,3 +5,4 @@ pub mod Table
 pub mod Worked
 pub mod Procedures
 pub mod EveryAnswer
+pub mod Readings

@@ -9,10 +9,12 @@ use Rattle.xdr.specs.Meaning.Items.{word, hyper, flag, int}
 use Rattle.xdr.specs.Meaning.Format.{exactly}
 use Rattle.xdr.specs.Meaning.Formats.{bytes, wordList}
 use Rattle.rpc.specs.Meaning.Messages.{RpcMsg, call, reply, accepted}
-use Rattle.rpc.specs.Meaning.Message.{rpc-msg}
+use Rattle.rpc.specs.Meaning.Crate.{rpc-msg}
 use Rattle.rpc.specs.Meaning.Makers.{versMismatch}
 use Rattle.rpc.specs.declared.auth.auth_flavor.the-variants.{«AUTH_NULL»}
+use Rattle.rpc.specs.declared.reply.accept_body.{«accept_body»}
 use Rattle.rpc.specs.declared.reply.accept_body.the-variants.{«GARBAGE_ARGS»}
+use Rattle.rpc.specs.declared.reply.rejected_reply.{«rejected_reply»}
 use Rattle.nfs.specs.Meaning.Set.{set-atime, sattr}
 use Rattle.nfs.specs.Meaning.Dir.{diropargs}
 use Rattle.nfs.specs.declared.change.set_mode3.the-variants as mode
@@ -30,7 +32,7 @@ abbrev hello : List ℕ
 hello = 0x68 ∷ 0x65 ∷ 0x6C ∷ 0x6C ∷ 0x6F ∷ []
 
 -- a call of zeros, with nothing in it
-abbrev zeroCall : RpcMsg
+abbrev zeroCall : RpcMsg «accept_body» «rejected_reply»
 zeroCall =
     record {
       xid = 42;
@@ -46,7 +48,7 @@ zeroCall =
           });
     }
 
-abbrev garbage : RpcMsg
+abbrev garbage : RpcMsg «accept_body» «rejected_reply»
 garbage =
     record {
       xid = 42;

@@ -12,6 +12,7 @@ use borrow.Author.Tests.{eq-eqb, ne-eqb}
 use mathlib.Core.Bool.{Bool, true, false, not, cond}
 use Rattle.xdr.specs.Meaning.Answer.{Written}
 use Rattle.rpcwire.specs.Meaning.Fragment.{WritesFragment}
+use Rattle.rpc.specs.Meaning.Reading.{Reading}
 use Rattle.rpcwire.specs.Meaning.Choice.{Chosen, Chooses}
 use Rattle.rpcwire.specs.Meaning.Stream.{Said, Feeds}
 use Rattle.xdr.specs.Meaning.Refusal.{numberOf, neededOf}
@@ -77,12 +78,13 @@ module _ (m : List ℕ) (start : ℕ) (o i : List ℕ) where
         short = λ g. absurd (omega arith);
       }
 
-module _ (s : List ℕ) (seen : ℕ) (o i : List ℕ) where
-  pub choose-short : length i < 12 → ChooseCalled s seen o i 254 o i
+module _ {Stat Auth Accept Rejected Accepted Reply Body Msg : Type 0} (R : Reading Stat Auth Accept Rejected Accepted Reply Body Msg) (s : List ℕ) (seen : ℕ)
+    (o i : List ℕ) where
+  pub choose-short : length i < 12 → ChooseCalled R s seen o i 254 o i
   choose-short h = record { room = λ g. absurd (omega arith); short = λ g. (refl, refl, refl) }
 
-  pub choose-told : 12 ≤ length i → {c : Chosen} {r : ℕ} {o′ i′ : List ℕ} → Says chosenCode chosenFigures c i r i′ → Chooses s (not (eqb seen 0)) o c o′
-      → ChooseCalled s seen o i r o′ i′
+  pub choose-told : 12 ≤ length i → {c : Chosen} {r : ℕ} {o′ i′ : List ℕ} → Says chosenCode chosenFigures c i r i′ → Chooses R s (not (eqb seen 0)) o c o′
+      → ChooseCalled R s seen o i r o′ i′
   choose-told h t c =
       record {
         room = λ g. record { chosen = _; chooses = c; number = t .number; list = t .shown .list };

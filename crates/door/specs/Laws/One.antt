@@ -19,7 +19,8 @@ use Rattle.xdr.specs.Laws.One.{Told}
 use Rattle.xdr.specs.Laws.Sources.{from-one}
 use Rattle.xdr.specs.declared.piece.Piece.{Piece}
 use Rattle.rpc.specs.Meaning.Auth.{opaque-auth, auth-unix}
-use Rattle.rpc.specs.Meaning.Message.{rpc-msg}
+use Rattle.rpc.specs.Meaning.Reading.{Reading}
+use Rattle.rpc.specs.Meaning.Crate.{rpc-msg}
 use Rattle.rpc.specs.Meaning.Sources.{unixFrom, WritesUnixFrom, messageFrom, WritesCallFrom}
 use Rattle.nfs.specs.Meaning.Dir.{nfs-fh, diropargs}
 use Rattle.nfs.specs.Meaning.Sources.{diropargsFrom, WritesDiropargsFrom}
@@ -172,15 +173,15 @@ module _ (i : List ℕ) {r t : ℕ} {i′ j′ : List ℕ} where
           let h = leb-false 1 (length i) e in
           (c .short h .0 ∙ sym (d .short h .0), c .short h .1 ∙ sym (d .short h .1), c .short h .2 ∙ sym (d .short h .2))
 
-  pub choose-called-one : (s : List ℕ) (seen : ℕ) (o : List ℕ) {o′ p′ : List ℕ} → ChooseCalled s seen o i r o′ i′ → ChooseCalled s seen o i t p′ j′
-      → (r ≡ t) × (o′ ≡ p′) × (i′ ≡ j′)
-  choose-called-one s seen o {o′} {p′} c d = by (leb 12 (length i)) refl
+  pub choose-called-one : {Stat Auth Accept Rejected Accepted Reply Body Msg : Type 0} (R : Reading Stat Auth Accept Rejected Accepted Reply Body Msg) (s : List ℕ) (seen : ℕ)
+      (o : List ℕ) {o′ p′ : List ℕ} → ChooseCalled R s seen o i r o′ i′ → ChooseCalled R s seen o i t p′ j′ → (r ≡ t) × (o′ ≡ p′) × (i′ ≡ j′)
+  choose-called-one R s seen o {o′} {p′} c d = by (leb 12 (length i)) refl
     where
       by : (b : Bool) → leb 12 (length i) ≡ b → (r ≡ t) × (o′ ≡ p′) × (i′ ≡ j′)
       by true e =
           let x = c .room (leb-true 12 (length i) e) in
           let y = d .room (leb-true 12 (length i) e) in
-          let g = choice-promised s (not (eqb seen 0)) o (x .chooses) .one (y .chooses) in
+          let g = choice-promised R s (not (eqb seen 0)) o (x .chooses) .one (y .chooses) in
           (x .number ∙ ap chosenCode (g .0) ∙ sym (y .number), g .1, x .list ∙ ap (λ a. sets i 0 (chosenFigures a)) (g .0) ∙ sym (y .list))
       by false e =
           let h = leb-false 12 (length i) e in

@@ -14,6 +14,7 @@ use Rattle.xdr.specs.Meaning.Answer.{Written, done, unwritten}
 use Rattle.xdr.specs.declared.refusal.Refusal.{Refusal}
 use Rattle.rpc.specs.declared.auth.auth_unix.{«auth_unix»}
 use Rattle.rpcwire.specs.Meaning.Fragment.{WritesFragment}
+use Rattle.rpc.specs.Meaning.Reading.{Reading}
 use Rattle.rpcwire.specs.Meaning.Choice.{Chosen, turned-away, replied, silent, handed, Chooses}
 use Rattle.rpcwire.specs.Meaning.Stream.{Said, more, complete, refused, Feeds}
 use Rattle.rpcwire.specs.declared.assembler.Assembler.{Assembler}
@@ -96,7 +97,7 @@ pub record FragmentCalled (m : List ℕ) (start : ℕ) (o i : List ℕ) (r : ℕ
   pub room : 1 ≤ length i → FragmentTold m start o i r o′ i′
   pub short : length i < 1 → (r ≡ 254) × (o′ ≡ o) × (i′ ≡ i)
 
--- `yugerzat_choose`: twelve figures
+-- `yugerzat_choose` and `yugerzat_current_choose`: twelve figures
 abbrev pub chosenCode : Chosen → ℕ
 chosenCode (turned-away r) = numberOf r
 chosenCode (replied n) = 101
@@ -114,15 +115,16 @@ chosenFigures (replied n) = n ∷ 0 ∷ 0 ∷ 0 ∷ 0 ∷ 0 ∷ 0 ∷ 0 ∷ 0 �
 chosenFigures silent = 0 ∷ 0 ∷ 0 ∷ 0 ∷ 0 ∷ 0 ∷ 0 ∷ 0 ∷ 0 ∷ 0 ∷ 0 ∷ 0 ∷ []
 chosenFigures (handed p v f a n) = handedFigures p v f n a
 
-pub record ChooseTold (s : List ℕ) (seen : ℕ) (o i : List ℕ) (r : ℕ) (o′ i′ : List ℕ) : Type 0 where
-  pub chosen : Chosen
-  pub chooses : Chooses s (not (eqb seen 0)) o chosen o′
-  pub number : r ≡ chosenCode chosen
-  pub list : i′ ≡ sets i 0 (chosenFigures chosen)
+module _ {Stat Auth Accept Rejected Accepted Reply Body Msg : Type 0} (R : Reading Stat Auth Accept Rejected Accepted Reply Body Msg) (s : List ℕ) (seen : ℕ) (o i : List ℕ) (r : ℕ) (o′ i′ : List ℕ) where
+  pub record ChooseTold : Type 0 where
+    pub chosen : Chosen
+    pub chooses : Chooses R s (not (eqb seen 0)) o chosen o′
+    pub number : r ≡ chosenCode chosen
+    pub list : i′ ≡ sets i 0 (chosenFigures chosen)
 
-pub record ChooseCalled (s : List ℕ) (seen : ℕ) (o i : List ℕ) (r : ℕ) (o′ i′ : List ℕ) : Type 0 where
-  pub room : 12 ≤ length i → ChooseTold s seen o i r o′ i′
-  pub short : length i < 12 → (r ≡ 254) × (o′ ≡ o) × (i′ ≡ i)
+  pub record ChooseCalled : Type 0 where
+    pub room : 12 ≤ length i → ChooseTold
+    pub short : length i < 12 → (r ≡ 254) × (o′ ≡ o) × (i′ ≡ i)
 
 -- `yugerzat_feed`: the state is seven numbers, and two figures say what was used and how long the record is
 abbrev pub stateOf : List ℕ → Assembler

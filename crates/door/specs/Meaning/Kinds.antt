@@ -7,10 +7,12 @@ use Rattle.xdr.specs.Meaning.Format.{Branch, branch, exactly}
 -- made by tools/generate: meanings
 use Rattle.xdr.specs.Meaning.Items.{flag, int, long, word, hyper}
 use Rattle.xdr.specs.Meaning.Formats.{eightBytes, bytes, wordList}
-use Rattle.rpc.specs.Meaning.Closed.{msg-type, reply-stat, accept-stat, reject-stat, auth-stat, auth-flavor}
+use Rattle.rpc.specs.Meaning.Closed.{msg-type, reply-stat, reject-stat, auth-flavor}
+use Rattle.rpc.specs.Meaning.Crate.{accept-stat, auth-stat, rpc-msg, rpc-body, reply-body, accepted-reply, accept-body, rejected-reply}
 use Rattle.rpc.specs.Meaning.Auth.{auth-unix, opaque-auth}
-use Rattle.rpc.specs.Meaning.Message.{rpc-msg, rpc-body, call-body}
-use Rattle.rpc.specs.Meaning.Reply.{reply-body, accepted-reply, accept-body, rejected-reply, mismatch-info}
+use Rattle.rpc.specs.Meaning.Message.{call-body}
+use Rattle.rpc.specs.Meaning.Reading.{mismatch-info}
+use Rattle.rpc.specs.Meaning.Current.{current-accept-stat, current-auth-stat, current-accept-body, current-accepted-reply, current-rejected-reply, current-reply-body, current-rpc-body, current-rpc-msg}
 use Rattle.nfsattr.specs.Meaning.Stat.{nfsstat}
 use Rattle.nfsattr.specs.Meaning.Attr.{ftype, specdata, nfstime, fattr, fsinfo, wcc-attr, pre-op-attr, post-op-attr, wcc-data}
 use Rattle.nfs.specs.Meaning.Set.{time-how, set-atime, set-mtime, sattr}
@@ -114,8 +116,21 @@ procedureKinds =
     ∷ branch write-res
     ∷ []
 
+-- replies in the current reading (RFC 5531)
+abbrev pub currentKinds : List Branch
+currentKinds =
+    branch (exactly current-accept-stat)
+    ∷ branch (exactly current-auth-stat)
+    ∷ branch (exactly current-accept-body)
+    ∷ branch current-accepted-reply
+    ∷ branch (exactly current-rejected-reply)
+    ∷ branch current-reply-body
+    ∷ branch current-rpc-body
+    ∷ branch current-rpc-msg
+    ∷ []
+
 abbrev pub kinds : List Branch
-kinds = itemKinds ++ closedKinds ++ messageKinds ++ attributeKinds ++ changeKinds ++ procedureKinds
+kinds = itemKinds ++ closedKinds ++ messageKinds ++ attributeKinds ++ changeKinds ++ procedureKinds ++ currentKinds
 
 -- end of lists
 

@@ -2,9 +2,10 @@
 -- Assumes nothing.
 use mathlib.Core.Path.{_≡_}
 use mathlib.Core.Bool.{cond}
+use mathlib.Core.Logic.{_⊎_, inl, inr}
 use mathlib.Core.List.{List, [], _∷_, _++_}
 use mathlib.Core.Option.{Option, none, some}
-use Prim.Native.Nat.{ℕ, _+_, _≤_, _<_}
+use Prim.Native.Nat.{ℕ, zero, suc, _+_, _≤_, _<_}
 use lib.ListN.{length, replicate}
 use lib.Seq.{sets}
 use Rattle.xdr.specs.Meaning.Answer.{Answer, took, refused}
@@ -19,20 +20,14 @@ use Rattle.nfs.specs.Meaning.Dir.{diropargs}
 use Rattle.nfsattr.specs.declared.attr.fattr3.{fattr3}
 use Rattle.nfs.specs.declared.set.sattr3.{sattr3}
 use Rattle.nfs.specs.declared.dir.diropargs3.{diropargs3}
-use Rattle.rpc.specs.Meaning.Closed.{flavorNumber, authStatNumber}
-use Rattle.rpc.specs.Meaning.Message.{rpc-msg}
+use Rattle.rpc.specs.Meaning.Closed.{flavorNumber}
+use Rattle.rpc.specs.Meaning.Reading.{acceptArms, Reading}
+use Rattle.rpc.specs.Meaning.Message.{rpc-msg-of}
 use Rattle.rpc.specs.Meaning.UnixIn.{AnswersIn}
 use Rattle.rpc.specs.declared.auth.opaque_auth.{«opaque_auth»}
 use Rattle.rpc.specs.declared.auth.auth_unix.{«auth_unix»}
 use Rattle.rpc.specs.declared.message.call_body.{«call_body»}
-use Rattle.rpc.specs.declared.message.rpc_body.{«rpc_body»}
-use Rattle.rpc.specs.declared.message.rpc_body.the-variants.{CALL, REPLY}
-use Rattle.rpc.specs.declared.message.rpc_msg.{«rpc_msg»}
 use Rattle.rpc.specs.declared.reply.mismatch_info.{«mismatch_info»}
-use Rattle.rpc.specs.declared.reply.accept_body.{«accept_body»}
-use Rattle.rpc.specs.declared.reply.accept_body.the-variants.{SUCCESS, «PROG_UNAVAIL», «PROG_MISMATCH», «PROC_UNAVAIL», «GARBAGE_ARGS»}
-use Rattle.rpc.specs.declared.reply.reply_body.the-variants.{«MSG_ACCEPTED», «MSG_DENIED»}
-use Rattle.rpc.specs.declared.reply.rejected_reply.the-variants.{«RPC_MISMATCH», «AUTH_ERROR»}
 use Rattle.xdr.specs.Meaning.Refusal.{numberOf, placeOf, wantingOf}
 
 -- what is told of a reading, where a value of its kind has k figures: 0 with the place after the value, 1 if it was in published form and
@@ -94,35 +89,48 @@ sattr3Figures a =
 abbrev pub Sattr3Called : (s : List ℕ) (at : ℕ) (i : List ℕ) (r : ℕ) (i′ : List ℕ) → Type 0
 Sattr3Called s at = ValueCalled (Answers (exactly sattr) s at) sattr3Figures 14
 
--- `yugerzat_read_rpc_msg`: xid, then 0 with a call's figures, 1 with an accepted reply's, 2 with the versions of a denial, or 3 with its auth_stat
+-- `yugerzat_read_rpc_msg` and `yugerzat_read_current_rpc_msg`: xid, then 0 with a call's figures, 1 with an accepted reply's, 2 with the versions of a denial, or 3 with its auth_stat
 abbrev pub authFigures : «opaque_auth» → List ℕ
 authFigures a = flavorNumber (a .flavor) ∷ pieceFigures (a .body)
 
 abbrev pub infoFigures : «mismatch_info» → List ℕ
 infoFigures v = v .low ∷ v .high ∷ []
 
--- accept_stat's number, and the versions of PROG_MISMATCH
-abbrev pub acceptFigures : «accept_body» → List ℕ
-acceptFigures SUCCESS = 0 ∷ 0 ∷ 0 ∷ []
-acceptFigures «PROG_UNAVAIL» = 1 ∷ 0 ∷ 0 ∷ []
-acceptFigures («PROG_MISMATCH» v) = 2 ∷ infoFigures v
-acceptFigures «PROC_UNAVAIL» = 3 ∷ 0 ∷ 0 ∷ []
-acceptFigures «GARBAGE_ARGS» = 4 ∷ 0 ∷ 0 ∷ []
-
 abbrev pub callFigures : «call_body» → List ℕ
 callFigures c = c .rpcvers ∷ c .prog ∷ c .vers ∷ c .proc ∷ (authFigures (c .cred) ++ authFigures (c .verf))
 
-abbrev pub bodyFigures : «rpc_body» → List ℕ
-bodyFigures (CALL c) = 0 ∷ callFigures c
-bodyFigures (REPLY («MSG_ACCEPTED» a)) = 1 ∷ (authFigures (a .verf) ++ (acceptFigures (a .«reply_data») ++ replicate 4 0))
-bodyFigures (REPLY («MSG_DENIED» («RPC_MISMATCH» v))) = 2 ∷ (infoFigures v ++ replicate 8 0)
-bodyFigures (REPLY («MSG_DENIED» («AUTH_ERROR» s))) = 3 ∷ authStatNumber s ∷ replicate 9 0
+-- accept_stat's number, and the versions of PROG_MISMATCH
+abbrev pub acceptFiguresBy : (tag : ℕ) → acceptArms tag .Msg → List ℕ
+acceptFiguresBy zero u = 0 ∷ 0 ∷ 0 ∷ []
+acceptFiguresBy (suc zero) u = 1 ∷ 0 ∷ 0 ∷ []
+acceptFiguresBy (suc (suc zero)) v = 2 ∷ infoFigures v
+acceptFiguresBy (suc (suc (suc n))) u = suc (suc (suc n)) ∷ 0 ∷ 0 ∷ []
 
-abbrev pub messageFigures : «rpc_msg» → List ℕ
-messageFigures m = m .xid ∷ bodyFigures (m .body)
+-- in a reading
+module _ {Stat Auth Accept Rejected Accepted Reply Body Msg : Type 0} (R : Reading Stat Auth Accept Rejected Accepted Reply Body Msg) where
+  abbrev pub acceptFigures : Accept → List ℕ
+  acceptFigures b = acceptFiguresBy (R .from b .0) (R .from b .1)
 
-abbrev pub RpcMsgCalled : (s : List ℕ) (at : ℕ) (i : List ℕ) (r : ℕ) (i′ : List ℕ) → Type 0
-RpcMsgCalled s at = ValueCalled (Answers rpc-msg s at) messageFigures 12
+  abbrev pub deniedFigures : «mismatch_info» ⊎ Auth → List ℕ
+  deniedFigures (inl v) = 2 ∷ (infoFigures v ++ replicate 8 0)
+  deniedFigures (inr s) = 3 ∷ R .authNumber s ∷ replicate 9 0
+
+  abbrev pub replyFigures : Accepted ⊎ Rejected → List ℕ
+  replyFigures (inl a) = 1 ∷ (authFigures (R .accepted .from a .0) ++ (acceptFigures (R .accepted .from a .1) ++ replicate 4 0))
+  replyFigures (inr d) = deniedFigures (R .rejected .from d)
+
+  abbrev pub bodyFiguresBy : «call_body» ⊎ Reply → List ℕ
+  bodyFiguresBy (inl c) = 0 ∷ callFigures c
+  bodyFiguresBy (inr r) = replyFigures (R .reply .from r)
+
+  abbrev pub bodyFigures : Body → List ℕ
+  bodyFigures b = bodyFiguresBy (R .body .from b)
+
+  abbrev pub messageFigures : Msg → List ℕ
+  messageFigures m = R .msg .from m .0 ∷ bodyFigures (R .msg .from m .1)
+
+  abbrev pub RpcMsgCalled : (s : List ℕ) (at : ℕ) (i : List ℕ) (r : ℕ) (i′ : List ℕ) → Type 0
+  RpcMsgCalled s at = ValueCalled (Answers (rpc-msg-of R) s at) messageFigures 12
 
 -- `yugerzat_read_auth_unix`: of a credential's body
 abbrev pub unixFigures : «auth_unix» → List ℕ

@@ -11,7 +11,7 @@ use Rattle.xdr.specs.Meaning.Public.{Answers, Kept}
 use Rattle.xdr.specs.Laws.Promise.{keeps}
 use Rattle.xdr.specs.Laws.Public.{kept}
 use Rattle.xdr.specs.Laws.One.{Told, one-read}
-use Rattle.rpc.specs.Meaning.Message.{rpc-msg}
+use Rattle.rpc.specs.Meaning.Crate.{rpc-msg}
 use Rattle.rpc.specs.declared.message.rpc_msg.{«rpc_msg»}
 use Rattle.nfs.specs.Meaning.Dir.{diropargs}
 use Rattle.nfs.specs.Meaning.Set.{sattr}

@@ -12,9 +12,11 @@ use Rattle.xdr.specs.Meaning.Public.{output}
 use Rattle.xdr.specs.Laws.Pieces.{nothing-inside}
 use Rattle.rpc.specs.Meaning.Closed.{auth-flavor}
 use Rattle.rpc.specs.Meaning.Auth.{opaque-auth}
-use Rattle.rpc.specs.Meaning.Reply.{mismatch-info, accept-body, accepted-reply, rejected-reply, reply-body}
-use Rattle.rpc.specs.Meaning.Message.{rpc-body, rpc-msg}
-use Rattle.rpc.specs.Meaning.Makers.{acceptedWith, procUnavail, progUnavail, progMismatch, garbageArgs, success, versMismatch}
+use Rattle.rpc.specs.Meaning.Reading.{mismatch-info}
+use Rattle.rpc.specs.Meaning.Crate.{accept-body, accepted-reply, rejected-reply, reply-body, rpc-body, rpc-msg}
+use Rattle.rpc.specs.Meaning.Reply.{accept-body-of, accepted-reply-of, rejected-reply-of, reply-body-of}
+use Rattle.rpc.specs.Meaning.Message.{rpc-body-of, rpc-msg-of}
+use Rattle.rpc.specs.Meaning.Makers.{acceptedWith, procUnavail, progUnavail, progMismatch, garbageArgs, success, versMismatchOf}
 use Rattle.rpc.specs.declared.reply.accept_body.{«accept_body»}
 
 -- the bytes of words in order
@@ -24,28 +26,28 @@ inWords (n ∷ l) = digits 4 n ++ inWords l
 
 module _ (s : List ℕ) (xid : ℕ) where
   pub proc-unavail-bytes : output rpc-msg s (procUnavail xid) ≡ inWords (xid ∷ 1 ∷ 0 ∷ 0 ∷ 0 ∷ 3 ∷ [])
-  unfolding word number opaque pieceHeld auth-flavor opaque-auth accept-body accepted-reply reply-body rpc-body rpc-msg
+  unfolding word number opaque pieceHeld auth-flavor opaque-auth accept-body-of accepted-reply-of reply-body-of rpc-body-of rpc-msg-of
   proc-unavail-bytes = refl
 
   pub prog-unavail-bytes : output rpc-msg s (progUnavail xid) ≡ inWords (xid ∷ 1 ∷ 0 ∷ 0 ∷ 0 ∷ 1 ∷ [])
-  unfolding word number opaque pieceHeld auth-flavor opaque-auth accept-body accepted-reply reply-body rpc-body rpc-msg
+  unfolding word number opaque pieceHeld auth-flavor opaque-auth accept-body-of accepted-reply-of reply-body-of rpc-body-of rpc-msg-of
   prog-unavail-bytes = refl
 
   pub prog-mismatch-bytes : (v : ℕ) → output rpc-msg s (progMismatch xid v) ≡ inWords (xid ∷ 1 ∷ 0 ∷ 0 ∷ 0 ∷ 2 ∷ v ∷ v ∷ [])
-  unfolding word number opaque pieceHeld auth-flavor opaque-auth mismatch-info accept-body accepted-reply reply-body rpc-body rpc-msg
+  unfolding word number opaque pieceHeld auth-flavor opaque-auth mismatch-info accept-body-of accepted-reply-of reply-body-of rpc-body-of rpc-msg-of
   prog-mismatch-bytes v = refl
 
   pub garbage-args-bytes : output rpc-msg s (garbageArgs xid) ≡ inWords (xid ∷ 1 ∷ 0 ∷ 0 ∷ 0 ∷ 4 ∷ [])
-  unfolding word number opaque pieceHeld auth-flavor opaque-auth accept-body accepted-reply reply-body rpc-body rpc-msg
+  unfolding word number opaque pieceHeld auth-flavor opaque-auth accept-body-of accepted-reply-of reply-body-of rpc-body-of rpc-msg-of
   garbage-args-bytes = refl
 
   pub success-bytes : output rpc-msg s (success xid) ≡ inWords (xid ∷ 1 ∷ 0 ∷ 0 ∷ 0 ∷ 0 ∷ [])
-  unfolding word number opaque pieceHeld auth-flavor opaque-auth accept-body accepted-reply reply-body rpc-body rpc-msg
+  unfolding word number opaque pieceHeld auth-flavor opaque-auth accept-body-of accepted-reply-of reply-body-of rpc-body-of rpc-msg-of
   success-bytes = refl
 
-  pub vers-mismatch-bytes : output rpc-msg s (versMismatch xid) ≡ inWords (xid ∷ 1 ∷ 1 ∷ 0 ∷ 0 ∷ 0 ∷ [])
-  unfolding word number mismatch-info rejected-reply reply-body rpc-body rpc-msg
-  vers-mismatch-bytes = refl
+  pub vers-mismatch-bytes : (v : ℕ) → output rpc-msg s (versMismatchOf v xid) ≡ inWords (xid ∷ 1 ∷ 1 ∷ 0 ∷ v ∷ v ∷ [])
+  unfolding word number mismatch-info rejected-reply-of reply-body-of rpc-body-of rpc-msg-of
+  vers-mismatch-bytes v = refl
 
   -- so each has 24 bytes, and `prog_mismatch_reply_message` 32
   pub six-words : (a b c d e : ℕ) → length (inWords (xid ∷ a ∷ b ∷ c ∷ d ∷ e ∷ [])) ≡ 24
@@ -56,9 +58,9 @@ module _ (s : List ℕ) (xid : ℕ) where
 
   -- and their pieces lie inside every source
   pub accepted-with-inside : (b : «accept_body») → rpc-msg .held .inside s (acceptedWith xid b) ≡ true
-  unfolding pieceHeld opaque-auth accepted-reply reply-body rpc-body rpc-msg
+  unfolding pieceHeld opaque-auth accepted-reply-of reply-body-of rpc-body-of rpc-msg-of
   accepted-with-inside b = simp (nothing-inside s)
 
-  pub vers-mismatch-inside : rpc-msg .held .inside s (versMismatch xid) ≡ true
-  unfolding reply-body rpc-body rpc-msg
-  vers-mismatch-inside = refl
+  pub vers-mismatch-inside : (v : ℕ) → rpc-msg .held .inside s (versMismatchOf v xid) ≡ true
+  unfolding reply-body-of rpc-body-of rpc-msg-of
+  vers-mismatch-inside v = refl

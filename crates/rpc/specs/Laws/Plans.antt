@@ -15,8 +15,10 @@ use Rattle.rpc.specs.Laws.Closed.{numbers}
 use Rattle.xdr.specs.Laws.Unions.{Union, armBranches, arms-read, unions}
 use Rattle.rpc.specs.Meaning.Closed.{auth-flavor}
 use Rattle.rpc.specs.Meaning.Auth.{opaque-auth, auth-unix}
-use Rattle.rpc.specs.Meaning.Reply.{mismatch-info, acceptArms, seeAccept, fromAccept, accept-kept, accept-back, accept-body, accepted-reply, rejectArms, seeReject, fromReject, reject-kept, reject-back, rejected-reply, replyBranches, holdReply, reply-body}
-use Rattle.rpc.specs.Meaning.Message.{call-body, bodyBranches, holdBody, rpc-body, rpc-msg}
+use Rattle.rpc.specs.Meaning.Reading.{mismatch-info, acceptArms, Reading}
+use Rattle.rpc.specs.Meaning.Reply.{accept-kept, accept-body-of, accepted-reply-of, rejectArms, seeReject, fromReject, reject-kept, reject-back, rejected-reply-of, replyBranches, holdReply, reply-body-of}
+use Rattle.rpc.specs.Meaning.Message.{call-body, bodyBranches, holdBody, rpc-body-of, rpc-msg-of}
+use Rattle.rpc.specs.Meaning.Crate.{seeAccept, crate, accept-body, rejected-reply, reply-body, rpc-body}
 use Rattle.rpc.specs.Meaning.Views as views
 
 -- f reads as P plans
@@ -44,31 +46,46 @@ pub call-plan : Reads (call-body .held .read)
 unfolding call-body
 call-plan = planned (plan (words-then (words-then (at opaque-auth then at opaque-auth))) _)
 
-pub accepted-plan : Reads (accepted-reply .held .read)
-    (ask (opaque-auth .held .read) (λ a. ask (accept-body .kind .read) (λ b. give (record { verf = a; «reply_data» = b }))))
-unfolding accepted-reply
-accepted-plan = planned (plan (at opaque-auth then at (exactly accept-body)) _)
+-- those of a reading
+module _ {Stat Auth Accept Rejected Accepted Reply Body Msg : Type 0} (R : Reading Stat Auth Accept Rejected Accepted Reply Body Msg) where
+  pub accepted-plan : Reads (accepted-reply-of R .held .read)
+      (ask (opaque-auth .held .read) (λ a. ask (accept-body-of R .kind .read) (λ b. give (R .accepted .to (a, b)))))
+  unfolding accepted-reply-of
+  accepted-plan = planned (plan (at opaque-auth then at (exactly (accept-body-of R))) _)
 
-pub msg-plan : Reads (rpc-msg .held .read) (ask (word .kind .read) (λ a. ask (rpc-body .held .read) (λ b. give (record { xid = a; body = b }))))
-unfolding rpc-msg
-msg-plan = planned (plan (at (exactly word) then at rpc-body) _)
+  pub msg-plan : Reads (rpc-msg-of R .held .read) (ask (word .kind .read) (λ a. ask (rpc-body-of R .held .read) (λ b. give (R .msg .to (a, b)))))
+  unfolding rpc-msg-of
+  msg-plan = planned (plan (at (exactly word) then at (rpc-body-of R)) _)
 
--- the unions, by their tags
-pub accept-union : Union (exactly accept-body) (armBranches acceptArms) seeAccept 5
-unfolding accept-body
-accept-union = record { is = arms-read acceptArms seeAccept fromAccept accept-kept accept-back }
+  -- the unions, by their tags
+  pub accept-union : Union (exactly (accept-body-of R)) (armBranches acceptArms) (R .see) (R .count)
+  unfolding accept-body-of
+  accept-union = record { is = arms-read acceptArms (R .see) (R .from) (accept-kept R) (R .back) }
 
-pub reject-union : Union (exactly rejected-reply) (armBranches rejectArms) seeReject 2
-unfolding rejected-reply
-reject-union = record { is = arms-read rejectArms seeReject fromReject reject-kept reject-back }
+  pub reject-union : Union (exactly (rejected-reply-of R)) (armBranches (rejectArms R)) (seeReject R) 2
+  unfolding rejected-reply-of
+  reject-union = record { is = arms-read (rejectArms R) (seeReject R) (fromReject R) (reject-kept R) (reject-back R) }
 
-pub reply-union : Union reply-body replyBranches holdReply 2
-unfolding reply-body
-reply-union = record { is = λ s p. refl }
+  pub reply-union : Union (reply-body-of R) (replyBranches R) (holdReply R) 2
+  unfolding reply-body-of
+  reply-union = record { is = λ s p. refl }
 
-pub body-union : Union rpc-body bodyBranches holdBody 2
-unfolding rpc-body
-body-union = record { is = λ s p. refl }
+  pub body-union : Union (rpc-body-of R) (bodyBranches R) (holdBody R) 2
+  unfolding rpc-body-of
+  body-union = record { is = λ s p. refl }
+
+-- those of the crate's reading
+pub crate-accept-union : Union (exactly accept-body) (armBranches acceptArms) seeAccept 5
+crate-accept-union = accept-union crate
+
+pub crate-reject-union : Union (exactly rejected-reply) (armBranches (rejectArms crate)) (seeReject crate) 2
+crate-reject-union = reject-union crate
+
+pub crate-reply-union : Union reply-body (replyBranches crate) (holdReply crate) 2
+crate-reply-union = reply-union crate
+
+pub crate-body-union : Union rpc-body (bodyBranches crate) (holdBody crate) 2
+crate-body-union = body-union crate
 
 -- the answers of the calls
 pub step-flavor : Step views.viewAuthFlavor
@@ -131,5 +148,8 @@ step-body U = step views.viewRpcBody
 pub lost-body : Loses views.lostRpcBody
 lost-body A = lost-at views.lostRpcBody
 
+-- what is the same in every reading
+pub ruleset shared-inner = (keys, unions, info-plan, auth-plan, unix-plan, call-plan, accepted-plan, msg-plan, asks, step-flavor, lost-flavor, step-info, lost-info, step-auth, lost-auth, step-call, lost-call)
+
 pub ruleset inner =
-    (keys, numbers, unions, accept-union, reject-union, reply-union, body-union, info-plan, auth-plan, unix-plan, call-plan, accepted-plan, msg-plan, asks, step-flavor, lost-flavor, step-stat, lost-stat, step-info, lost-info, step-auth, lost-auth, step-call, lost-call, step-accept, lost-accept, step-accepted, lost-accepted, step-reject, lost-reject, step-reply, lost-reply, step-body, lost-body)
+    (shared-inner, numbers, crate-accept-union, crate-reject-union, crate-reply-union, crate-body-union, step-stat, lost-stat, step-accept, lost-accept, step-accepted, lost-accepted, step-reject, lost-reject, step-reply, lost-reply, step-body, lost-body)

@@ -27,7 +27,8 @@ use Rattle.xdr.specs.Laws.Writers.{bytes-sized}
 use Rattle.xdr.specs.Laws.Putting.{placed}
 use Rattle.xdr.specs.Laws.Sources.{first-short, second-short, placing-two, from-off, from-on}
 use Rattle.rpc.specs.Meaning.Auth.{opaque-auth, auth-unix}
-use Rattle.rpc.specs.Meaning.Message.{call-body, rpc-body, rpc-msg}
+use Rattle.rpc.specs.Meaning.Message.{call-body, rpc-body-of, rpc-msg-of}
+use Rattle.rpc.specs.Meaning.Crate.{rpc-body, rpc-msg}
 use Rattle.rpc.specs.Meaning.Sources.{unixFrom, WritesUnixFrom, callFrom, messageFrom, WritesCallFrom}
 use Rattle.rpc.specs.Laws.Sizes.{authSize, auth-length, unixSize, unix-name, unix-gids, callSize, call-cred, call-verf}
 use Rattle.rpc.specs.Laws.Puts.{lentFrom, backAt, put-sized}
@@ -89,7 +90,7 @@ module _ (s t : List ℕ) where
 
   message-parts : (xid : ℕ) (m : «call_body»)
       → word-pair .kind .write (xid, 0) ++ call-body .codec .kind .write (callFrom s t m) ≡ rpc-msg .codec .kind .write (messageFrom s t xid m)
-  unfolding word-pair rpc-msg rpc-body
+  unfolding word-pair rpc-msg-of rpc-body-of
   message-parts xid m = simp append-assoc
 
   call-long : (m : «call_body») → CallReady s t m → length (call-body .codec .kind .write (callFrom s t m)) ≡ callSize m

@@ -7,17 +7,15 @@ use Prim.Native.Nat.{ℕ, zero, suc}
 use native.Mathlib.Omega.{arith}
 use lib.Dec.{ltb}
 use lib.ListN.{length}
-use borrow.Author.Tests.{le-ltb}
+use borrow.Author.Tests.{ltb-true, ltb-false, le-ltb}
 use Rattle.xdr.specs.Meaning.Answer.{Way, stray-tag, Loose, here, shifted}
 use Rattle.xdr.specs.Meaning.Combinators.{Seen, means}
 use Rattle.xdr.specs.Meaning.Items.{word}
 use Rattle.xdr.specs.Meaning.Format.{Branch, tagged, Kept, Back, union}
 use Rattle.xdr.specs.Laws.Forms.{number-form}
-use Rattle.rpc.specs.Meaning.Messages.{ReplyBody, RpcBody}
-use Rattle.rpc.specs.Meaning.Reply.{acceptArms, seeAccept, rejectArms, seeReject, replyBranches, seeReply}
+use Rattle.rpc.specs.Meaning.Reading.{acceptArms, Reading}
+use Rattle.rpc.specs.Meaning.Reply.{rejectArms, seeReject, replyBranches, seeReply}
 use Rattle.rpc.specs.Meaning.Message.{bodyBranches, seeBody}
-use Rattle.rpc.specs.declared.reply.accept_body.{«accept_body»}
-use Rattle.rpc.specs.declared.reply.rejected_reply.{«rejected_reply»}
 
 -- tags below n are declared, and any other is stray
 abbrev pub Declares : {N : Type 0} (n : ℕ) (branches : ℕ → Branch) → ((tag : ℕ) → branches tag .Msg → Seen N) → Type 0
@@ -28,28 +26,30 @@ Declares {N} n branches see =
 same-ways : {N : Type 0} {a m : N} {u v : List Way} → means a u ≡ means m v → v ≡ u
 same-ways e = cc
 
-pub accept-declares : Declares 5 acceptArms seeAccept
-accept-declares zero x m v s = same-ways s
-accept-declares (suc zero) x m v s = same-ways s
-accept-declares (suc (suc zero)) x m v s = same-ways s
-accept-declares (suc (suc (suc zero))) x m v s = same-ways s
-accept-declares (suc (suc (suc (suc zero)))) x m v s = same-ways s
-accept-declares (suc (suc (suc (suc (suc n))))) x m v s = same-ways s ∙ sym (simp (le-ltb (suc (suc (suc (suc (suc n))))) 5 (omega arith)))
+-- every union of a reading
+module _ {Stat Auth Accept Rejected Accepted Reply Body Msg : Type 0} (R : Reading Stat Auth Accept Rejected Accepted Reply Body Msg) where
+  accept-by : (tag : ℕ) (t : Bool) → ltb tag (R .count) ≡ t → (x : acceptArms tag .Msg) (m : Accept) (v : List Way) → R .see tag x ≡ means m v
+      → v ≡ cond t [] (stray-tag ∷ [])
+  accept-by tag true e x m v s = same-ways (sym (R .declared tag (ltb-true tag (R .count) e) x .1) ∙ s)
+  accept-by tag false e x m v s = same-ways (sym (R .stray tag (ltb-false tag (R .count) e) x .1) ∙ s)
 
-pub reject-declares : Declares 2 rejectArms seeReject
-reject-declares zero x m v s = same-ways s
-reject-declares (suc zero) x m v s = same-ways s
-reject-declares (suc (suc n)) x m v s = same-ways s ∙ sym (simp (le-ltb (suc (suc n)) 2 (omega arith)))
+  pub accept-declares : Declares (R .count) acceptArms (R .see)
+  accept-declares tag x m v s = accept-by tag (ltb tag (R .count)) refl x m v s
 
-pub reply-declares : Declares 2 replyBranches seeReply
-reply-declares zero x m v s = same-ways s
-reply-declares (suc zero) x m v s = same-ways s
-reply-declares (suc (suc n)) x m v s = same-ways s ∙ sym (simp (le-ltb (suc (suc n)) 2 (omega arith)))
+  pub reject-declares : Declares 2 (rejectArms R) (seeReject R)
+  reject-declares zero x m v s = same-ways s
+  reject-declares (suc zero) x m v s = same-ways s
+  reject-declares (suc (suc n)) x m v s = same-ways s ∙ sym (simp (le-ltb (suc (suc n)) 2 (omega arith)))
 
-pub body-declares : Declares 2 bodyBranches seeBody
-body-declares zero x m v s = same-ways s
-body-declares (suc zero) x m v s = same-ways s
-body-declares (suc (suc n)) x m v s = same-ways s ∙ sym (simp (le-ltb (suc (suc n)) 2 (omega arith)))
+  pub reply-declares : Declares 2 (replyBranches R) (seeReply R)
+  reply-declares zero x m v s = same-ways s
+  reply-declares (suc zero) x m v s = same-ways s
+  reply-declares (suc (suc n)) x m v s = same-ways s ∙ sym (simp (le-ltb (suc (suc n)) 2 (omega arith)))
+
+  pub body-declares : Declares 2 (bodyBranches R) (seeBody R)
+  body-declares zero x m v s = same-ways s
+  body-declares (suc zero) x m v s = same-ways s
+  body-declares (suc (suc n)) x m v s = same-ways s ∙ sym (simp (le-ltb (suc (suc n)) 2 (omega arith)))
 
 -- so a form of such a union begins with its tag's own entry, if it has one; the rest is that of its arm, four bytes on
 module _ {N : Type 0} (n : ℕ) (branches : ℕ → Branch) (see : (tag : ℕ) → branches tag .Msg → Seen N) (to : N → (tag : ℕ) × branches tag .Msg)

@@ -1,4 +1,4 @@
--- The closed enumerations of RFC 5531: a word that is none of the numbers is refusal 2.
+-- The closed enumerations of RFC 5531 that are the same in every reading: a word that is none of the numbers is refusal 2.
 -- Assumes nothing.
 use mathlib.Core.Path.{_≡_, refl}
 use mathlib.Core.List.{List, [], _∷_}
@@ -11,14 +11,10 @@ use Rattle.rpc.specs.declared.message.msg_type.{«msg_type»}
 use Rattle.rpc.specs.declared.message.msg_type.the-variants as msgType
 use Rattle.rpc.specs.declared.reply.reply_stat.{«reply_stat»}
 use Rattle.rpc.specs.declared.reply.reply_stat.the-variants as replyStat
-use Rattle.rpc.specs.declared.reply.accept_stat.{«accept_stat»}
-use Rattle.rpc.specs.declared.reply.accept_stat.the-variants as acceptStat
 use Rattle.rpc.specs.declared.reply.reject_stat.{«reject_stat»}
 use Rattle.rpc.specs.declared.reply.reject_stat.the-variants as rejectStat
 use Rattle.rpc.specs.declared.auth.auth_flavor.{«auth_flavor»}
 use Rattle.rpc.specs.declared.auth.auth_flavor.the-variants as flavor
-use Rattle.rpc.specs.declared.auth.auth_stat.{«auth_stat»}
-use Rattle.rpc.specs.declared.auth.auth_stat.the-variants as authStat
 
 -- the tag of rpc_body: 0 and 1
 abbrev pub msgTypeNumber : «msg_type» → ℕ
@@ -49,27 +45,6 @@ each-reply-stat replyStat.«MSG_DENIED» = refl
 
 unfoldable pub reply-stat : Codec «reply_stat»
 reply-stat = closed replyStatNumber replyStats each-reply-stat
-
--- the tag of accept_body: 0 to 4
-abbrev pub acceptStatNumber : «accept_stat» → ℕ
-acceptStatNumber acceptStat.SUCCESS = 0
-acceptStatNumber acceptStat.«PROG_UNAVAIL» = 1
-acceptStatNumber acceptStat.«PROG_MISMATCH» = 2
-acceptStatNumber acceptStat.«PROC_UNAVAIL» = 3
-acceptStatNumber acceptStat.«GARBAGE_ARGS» = 4
-
-abbrev pub acceptStats : List «accept_stat»
-acceptStats = acceptStat.SUCCESS ∷ acceptStat.«PROG_UNAVAIL» ∷ acceptStat.«PROG_MISMATCH» ∷ acceptStat.«PROC_UNAVAIL» ∷ acceptStat.«GARBAGE_ARGS» ∷ []
-
-pub each-accept-stat : (a : «accept_stat») → among acceptStatNumber acceptStats (acceptStatNumber a) ≡ means a []
-each-accept-stat acceptStat.SUCCESS = refl
-each-accept-stat acceptStat.«PROG_UNAVAIL» = refl
-each-accept-stat acceptStat.«PROG_MISMATCH» = refl
-each-accept-stat acceptStat.«PROC_UNAVAIL» = refl
-each-accept-stat acceptStat.«GARBAGE_ARGS» = refl
-
-unfoldable pub accept-stat : Codec «accept_stat»
-accept-stat = closed acceptStatNumber acceptStats each-accept-stat
 
 -- the tag of rejected_reply: 0 and 1
 abbrev pub rejectStatNumber : «reject_stat» → ℕ
@@ -104,24 +79,3 @@ each-auth-flavor flavor.«AUTH_DES» = refl
 
 unfoldable pub auth-flavor : Codec «auth_flavor»
 auth-flavor = closed flavorNumber flavors each-auth-flavor
-
--- auth_stat: 1 to 5
-abbrev pub authStatNumber : «auth_stat» → ℕ
-authStatNumber authStat.«AUTH_BADCRED» = 1
-authStatNumber authStat.«AUTH_REJECTEDCRED» = 2
-authStatNumber authStat.«AUTH_BADVERF» = 3
-authStatNumber authStat.«AUTH_REJECTEDVERF» = 4
-authStatNumber authStat.«AUTH_TOOWEAK» = 5
-
-abbrev pub authStats : List «auth_stat»
-authStats = authStat.«AUTH_BADCRED» ∷ authStat.«AUTH_REJECTEDCRED» ∷ authStat.«AUTH_BADVERF» ∷ authStat.«AUTH_REJECTEDVERF» ∷ authStat.«AUTH_TOOWEAK» ∷ []
-
-pub each-auth-stat : (a : «auth_stat») → among authStatNumber authStats (authStatNumber a) ≡ means a []
-each-auth-stat authStat.«AUTH_BADCRED» = refl
-each-auth-stat authStat.«AUTH_REJECTEDCRED» = refl
-each-auth-stat authStat.«AUTH_BADVERF» = refl
-each-auth-stat authStat.«AUTH_REJECTEDVERF» = refl
-each-auth-stat authStat.«AUTH_TOOWEAK» = refl
-
-unfoldable pub auth-stat : Codec «auth_stat»
-auth-stat = closed authStatNumber authStats each-auth-stat

@@ -1,4 +1,4 @@
--- The replies that the crate's six makers make.
+-- The replies that the crate's six makers make, and the version-mismatch reply of any reading. Every reading has them, in the same bytes.
 -- Assumes nothing.
 use Prim.Native.Nat.{ℕ}
 use Rattle.rpc.specs.Meaning.Auth.{noAuth}
@@ -28,6 +28,9 @@ garbageArgs xid = acceptedWith xid «GARBAGE_ARGS»
 abbrev pub success : ℕ → «rpc_msg»
 success xid = acceptedWith xid SUCCESS
 
--- the crate's 0 and 0, where RFC 5531 names the versions served
+-- a version of RPC that is not served: v stands for the lowest and the highest that are. The crate says 0, where RFC 5531 has those served.
+abbrev pub versMismatchOf : (v xid : ℕ) → «rpc_msg»
+versMismatchOf v xid = record { xid = xid; body = REPLY («MSG_DENIED» («RPC_MISMATCH» (record { low = v; high = v }))) }
+
 abbrev pub versMismatch : ℕ → «rpc_msg»
-versMismatch xid = record { xid = xid; body = REPLY («MSG_DENIED» («RPC_MISMATCH» (record { low = 0; high = 0 }))) }
+versMismatch xid = versMismatchOf 0 xid

@@ -1,7 +1,8 @@
--- Calls and whole messages, with tolerance 3.
+-- Calls, which are the same in every reading, and whole messages over a reading, with tolerance 3.
 -- Assumes nothing.
-use mathlib.Core.Path.{_≡_, refl}
+use mathlib.Core.Path.{_≡_, refl, sym, ap, _∙_}
 use mathlib.Core.Bool.{Bool, true}
+use mathlib.Core.Logic.{_⊎_, inl, inr}
 use mathlib.Core.List.{List, [], _∷_}
 use Prim.Native.Nat.{ℕ, zero, suc, _<_}
 use native.Mathlib.Omega.{arith}
@@ -17,11 +18,9 @@ use Rattle.xdr.specs.Laws.Pieces.{nothing-inside}
 use Rattle.rpc.specs.Meaning.Closed.{auth-flavor}
 use Rattle.rpc.specs.Meaning.Messages.{CallBody, RpcBody, call, reply, RpcMsg}
 use Rattle.rpc.specs.Meaning.Auth.{opaque-auth, emptyAuth, noAuth}
-use Rattle.rpc.specs.Meaning.Reply.{reply-body}
+use Rattle.rpc.specs.Meaning.Reading.{Reading}
+use Rattle.rpc.specs.Meaning.Reply.{reply-body-of}
 use Rattle.rpc.specs.declared.message.call_body.{«call_body»}
-use Rattle.rpc.specs.declared.message.rpc_body.{«rpc_body»}
-use Rattle.rpc.specs.declared.message.rpc_body.the-variants.{CALL, REPLY}
-use Rattle.rpc.specs.declared.message.rpc_msg.{«rpc_msg»}
 
 unfoldable pub call-body : Format CallBody «call_body»
 call-body =
@@ -36,83 +35,91 @@ call-body =
       pieces-hold = λ y. refl;
     })
 
--- rpc_body; tolerance 3: a tag of 2 or more is a CALL with every field zero and empty
-abbrev pub bodyBranches : ℕ → Branch
-bodyBranches zero = branch call-body
-bodyBranches (suc zero) = branch reply-body
-bodyBranches (suc (suc n)) = branch (exactly void)
-
 abbrev pub emptyCall : CallBody
 emptyCall = record { rpcvers = 0; prog = 0; vers = 0; proc = 0; cred = emptyAuth; verf = emptyAuth }
 
-abbrev pub seeBody : (tag : ℕ) → bodyBranches tag .Msg → Seen RpcBody
-seeBody zero c = means (call c) []
-seeBody (suc zero) r = means (reply r) []
-seeBody (suc (suc n)) u = means (call emptyCall) (stray-tag ∷ [])
-
-abbrev pub fromBody : RpcBody → (tag : ℕ) × bodyBranches tag .Msg
-fromBody (call c) = (0, c)
-fromBody (reply r) = (1, r)
-
--- the same of what the code holds
+-- as a held value
 abbrev pub noCall : «call_body»
 noCall = record { rpcvers = 0; prog = 0; vers = 0; proc = 0; cred = noAuth; verf = noAuth }
 
-abbrev pub holdBody : (tag : ℕ) → bodyBranches tag .Has → Seen «rpc_body»
-holdBody zero c = means (CALL c) []
-holdBody (suc zero) r = means (REPLY r) []
-holdBody (suc (suc n)) u = means (CALL noCall) (stray-tag ∷ [])
+module _ {Stat Auth Accept Rejected Accepted Reply Body Msg : Type 0} (R : Reading Stat Auth Accept Rejected Accepted Reply Body Msg) where
+  -- rpc_body; tolerance 3: a tag of 2 or more is a CALL with every field zero and empty
+  abbrev pub bodyBranches : ℕ → Branch
+  bodyBranches zero = branch call-body
+  bodyBranches (suc zero) = branch (reply-body-of R)
+  bodyBranches (suc (suc n)) = branch (exactly void)
 
-abbrev pub meanBody : List ℕ → «rpc_body» → RpcBody
-meanBody s (CALL c) = call (call-body .held .mean s c)
-meanBody s (REPLY r) = reply (reply-body .held .mean s r)
+  abbrev pub seeBody : (tag : ℕ) → bodyBranches tag .Msg → Seen (RpcBody Accept Rejected)
+  seeBody zero c = means (call c) []
+  seeBody (suc zero) r = means (reply r) []
+  seeBody (suc (suc n)) u = means (call emptyCall) (stray-tag ∷ [])
 
-abbrev pub insideBody : List ℕ → «rpc_body» → Bool
-insideBody s (CALL c) = call-body .held .inside s c
-insideBody s (REPLY r) = reply-body .held .inside s r
+  abbrev pub fromBody : RpcBody Accept Rejected → (tag : ℕ) × bodyBranches tag .Msg
+  fromBody (call c) = (0, c)
+  fromBody (reply r) = (1, r)
 
-abbrev pub bodyChoice : Choice word bodyBranches RpcBody «rpc_body»
-bodyChoice = record { see = seeBody; to = fromBody; hold = holdBody; mean = meanBody; inside = insideBody }
+  -- the same of what the code holds
+  abbrev pub holdBody : (tag : ℕ) → bodyBranches tag .Has → Seen Body
+  holdBody zero c = means (R .body .to (inl c)) []
+  holdBody (suc zero) r = means (R .body .to (inr r)) []
+  holdBody (suc (suc n)) u = means (R .body .to (inl noCall)) (stray-tag ∷ [])
 
-pub body-laws : Lawfully word bodyBranches bodyChoice
-unfolding word number opaque pieceHeld auth-flavor opaque-auth call-body
-body-laws = record { kept = kept; back = back; square = square; within = within }
-  where
-    kept : (tag : ℕ) (x : bodyBranches tag .Msg) → Exact (tagged word bodyBranches .codec .kind .Good) fromBody (tag, x) (seeBody tag x)
-    kept zero c = refl
-    kept (suc zero) r = refl
-    kept (suc (suc n)) u =
-        let z : 0 < 4294967296 = omega arith in
-        (z, (z, (z, (z, (z, ((z, (z, tt)), (z, (z, tt))))))))
+  abbrev pub meanBodyBy : List ℕ → «call_body» ⊎ Reply → RpcBody Accept Rejected
+  meanBodyBy s (inl c) = call (call-body .held .mean s c)
+  meanBodyBy s (inr r) = reply (reply-body-of R .held .mean s r)
 
-    back : (m : RpcBody) → seeBody (fromBody m .0) (fromBody m .1) ≡ means m []
-    back (call c) = refl
-    back (reply r) = refl
+  abbrev pub meanBody : List ℕ → Body → RpcBody Accept Rejected
+  meanBody s m = meanBodyBy s (R .body .from m)
 
-    square : (s : List ℕ) (tag : ℕ) (y : bodyBranches tag .Has)
-        → seeBody tag (bodyBranches tag .format .held .mean s y) ≡ mapSeen (meanBody s) (holdBody tag y)
-    square s zero c = refl
-    square s (suc zero) r = refl
-    square s (suc (suc n)) u = refl
+  abbrev pub insideBodyBy : List ℕ → «call_body» ⊎ Reply → Bool
+  insideBodyBy s (inl c) = call-body .held .inside s c
+  insideBodyBy s (inr r) = reply-body-of R .held .inside s r
 
-    within : (s : List ℕ) (tag : ℕ) (y : bodyBranches tag .Has) → bodyBranches tag .format .held .inside s y ≡ true
-        → Meant (λ z. insideBody s z ≡ true) (holdBody tag y)
-    within s zero c h = h
-    within s (suc zero) r h = h
-    within s (suc (suc n)) u h = simp (nothing-inside s)
+  abbrev pub insideBody : List ℕ → Body → Bool
+  insideBody s m = insideBodyBy s (R .body .from m)
 
-unfoldable pub rpc-body : Format RpcBody «rpc_body»
-rpc-body = choice word bodyBranches bodyChoice body-laws
+  abbrev pub bodyChoice : Choice word bodyBranches (RpcBody Accept Rejected) Body
+  bodyChoice = record { see = seeBody; to = fromBody; hold = holdBody; mean = meanBody; inside = insideBody }
 
-unfoldable pub rpc-msg : Format RpcMsg «rpc_msg»
-rpc-msg =
-    named (exactly word ⨟ rpc-body)
-    (record {
-      to = λ x. record { xid = x .0; body = x .1 };
-      from = λ m. (m .xid, m .body);
-      from-to = λ x. refl;
-      to-from = λ m. refl;
-      hold = λ y. record { xid = y .0; body = y .1 };
-      pieces = λ y. (y .xid, y .body);
-      pieces-hold = λ y. refl;
-    })
+  pub body-laws : Lawfully word bodyBranches bodyChoice
+  unfolding word number opaque pieceHeld auth-flavor opaque-auth call-body
+  body-laws = record { kept = kept; back = back; square = square; within = within }
+    where
+      kept : (tag : ℕ) (x : bodyBranches tag .Msg) → Exact (tagged word bodyBranches .codec .kind .Good) fromBody (tag, x) (seeBody tag x)
+      kept zero c = refl
+      kept (suc zero) r = refl
+      kept (suc (suc n)) u =
+          let z : 0 < 4294967296 = omega arith in
+          (z, (z, (z, (z, (z, ((z, (z, tt)), (z, (z, tt))))))))
+
+      back : (m : RpcBody Accept Rejected) → seeBody (fromBody m .0) (fromBody m .1) ≡ means m []
+      back (call c) = refl
+      back (reply r) = refl
+
+      square : (s : List ℕ) (tag : ℕ) (y : bodyBranches tag .Has)
+          → seeBody tag (bodyBranches tag .format .held .mean s y) ≡ mapSeen (meanBody s) (holdBody tag y)
+      square s zero c = ap (λ z. means (meanBodyBy s z) []) (sym (R .body .from-to (inl c)))
+      square s (suc zero) r = ap (λ z. means (meanBodyBy s z) []) (sym (R .body .from-to (inr r)))
+      square s (suc (suc n)) u = ap (λ z. means (meanBodyBy s z) (stray-tag ∷ [])) (sym (R .body .from-to (inl noCall)))
+
+      within : (s : List ℕ) (tag : ℕ) (y : bodyBranches tag .Has) → bodyBranches tag .format .held .inside s y ≡ true
+          → Meant (λ z. insideBody s z ≡ true) (holdBody tag y)
+      within s zero c h = ap (insideBodyBy s) (R .body .from-to (inl c)) ∙ h
+      within s (suc zero) r h = ap (insideBodyBy s) (R .body .from-to (inr r)) ∙ h
+      within s (suc (suc n)) u h = ap (insideBodyBy s) (R .body .from-to (inl noCall)) ∙ simp (nothing-inside s)
+
+  unfoldable pub rpc-body-of : Format (RpcBody Accept Rejected) Body
+  rpc-body-of = choice word bodyBranches bodyChoice body-laws
+
+  unfoldable pub rpc-msg-of : Format (RpcMsg Accept Rejected) Msg
+  rpc-msg-of =
+      named (exactly word ⨟ rpc-body-of)
+      (record {
+        to = λ x. record { xid = x .0; body = x .1 };
+        from = λ m. (m .xid, m .body);
+        from-to = λ x. refl;
+        to-from = λ m. refl;
+        hold = R .msg .to;
+        pieces = R .msg .from;
+        pieces-hold = R .msg .from-to;
+      })

@@ -1,11 +1,9 @@
 -- The messages that have bytes in them: what a value of the code, which holds pieces, means in its source. (The other kinds hold their
--- message as it is.)
+-- message as it is.) Those of a reply are over the types A and R that a reading (Meaning/Reading) has for accept_body and rejected_reply.
 -- Assumes nothing.
 use mathlib.Core.List.{List}
 use Prim.Native.Nat.{ℕ}
 use Rattle.rpc.specs.declared.auth.auth_flavor.{«auth_flavor»}
-use Rattle.rpc.specs.declared.reply.accept_body.{«accept_body»}
-use Rattle.rpc.specs.declared.reply.rejected_reply.{«rejected_reply»}
 
 pub record OpaqueAuth : Type 0 where
   pub flavor : «auth_flavor»
@@ -26,18 +24,18 @@ pub record CallBody : Type 0 where
   pub cred : OpaqueAuth
   pub verf : OpaqueAuth
 
-pub record AcceptedReply : Type 0 where
+pub record AcceptedReply (A : Type 0) : Type 0 where
   pub verf : OpaqueAuth
-  pub «reply_data» : «accept_body»
+  pub «reply_data» : A
 
-pub data ReplyBody : Type 0 where
-  accepted : AcceptedReply → ReplyBody
-  denied : «rejected_reply» → ReplyBody
+pub data ReplyBody (A R : Type 0) : Type 0 where
+  accepted : AcceptedReply A → ReplyBody A R
+  denied : R → ReplyBody A R
 
-pub data RpcBody : Type 0 where
-  call : CallBody → RpcBody
-  reply : ReplyBody → RpcBody
+pub data RpcBody (A R : Type 0) : Type 0 where
+  call : CallBody → RpcBody A R
+  reply : ReplyBody A R → RpcBody A R
 
-pub record RpcMsg : Type 0 where
+pub record RpcMsg (A R : Type 0) : Type 0 where
   pub xid : ℕ
-  pub body : RpcBody
+  pub body : RpcBody A R

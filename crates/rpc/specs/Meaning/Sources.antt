@@ -10,9 +10,11 @@ use Rattle.xdr.specs.Meaning.Pieces.{isInside, areInside}
 use Rattle.xdr.specs.Meaning.Sources.{longer, WritesFrom}
 use Rattle.rpc.specs.Meaning.Messages.{AuthUnix, CallBody, call, RpcMsg}
 use Rattle.rpc.specs.Meaning.Auth.{opaque-auth, auth-unix}
-use Rattle.rpc.specs.Meaning.Message.{rpc-msg}
+use Rattle.rpc.specs.Meaning.Crate.{rpc-msg}
 use Rattle.rpc.specs.declared.auth.auth_unix.{«auth_unix»}
 use Rattle.rpc.specs.declared.message.call_body.{«call_body»}
+use Rattle.rpc.specs.declared.reply.accept_body.{«accept_body»}
+use Rattle.rpc.specs.declared.reply.rejected_reply.{«rejected_reply»}
 
 -- the name of one source, and the gids of another
 abbrev pub unixFrom : (names groups : List ℕ) → «auth_unix» → AuthUnix
@@ -41,7 +43,7 @@ callFrom s t m =
       verf = opaque-auth .held .mean t (m .verf);
     }
 
-abbrev pub messageFrom : (creds verfs : List ℕ) (xid : ℕ) → «call_body» → RpcMsg
+abbrev pub messageFrom : (creds verfs : List ℕ) (xid : ℕ) → «call_body» → RpcMsg «accept_body» «rejected_reply»
 messageFrom s t xid m = record { xid = xid; body = call (callFrom s t m) }
 
 abbrev pub WritesCallFrom : (creds verfs : List ℕ) (xid : ℕ) (m : «call_body») (at : ℕ) (o : List ℕ) (w : Written) (o′ : List ℕ) → Type 0

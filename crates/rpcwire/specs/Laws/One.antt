@@ -7,6 +7,7 @@ use Prim.Native.Nat.{ℕ}
 use Rattle.xdr.specs.Meaning.Views.{viewWrote}
 use Rattle.xdr.specs.Laws.One.{Told, wrote-told}
 use Rattle.xdr.specs.declared.answer.Wrote.{Wrote}
+use Rattle.rpc.specs.Meaning.Reading.{Reading}
 use Rattle.rpcwire.specs.Meaning.Stream.{Feeds, freshOf}
 use Rattle.rpcwire.specs.Meaning.Fragment.{WritesFragment}
 use Rattle.rpcwire.specs.Meaning.Choice.{Chooses}
@@ -79,6 +80,6 @@ pub fragment-one : (m : List ℕ) (at : ℕ) (o : List ℕ) (r r′ : Wrote) {p 
     → WritesFragment m at o (viewWrote r′) q → (r ≡ r′) × (p ≡ q)
 fragment-one m at o r r′ c d = let f = one-fragment m at o c d in (wrote-told r r′ (f .0), f .1)
 
-pub choose-one : (s : List ℕ) (seen : Bool) (o : List ℕ) (r r′ : Choice) {p q : List ℕ} → Chooses s seen o (viewChoice r) p
-    → Chooses s seen o (viewChoice r′) q → (r ≡ r′) × (p ≡ q)
-choose-one s seen o r r′ c d = let f = choice-promised s seen o c .one d in (choice-told r r′ (f .0), f .1)
+pub choose-one : {Stat Auth Accept Rejected Accepted Reply Body Msg : Type 0} (R : Reading Stat Auth Accept Rejected Accepted Reply Body Msg) (s : List ℕ) (seen : Bool) (o : List ℕ)
+    (r r′ : Choice) {p q : List ℕ} → Chooses R s seen o (viewChoice r) p → Chooses R s seen o (viewChoice r′) q → (r ≡ r′) × (p ≡ q)
+choose-one R s seen o r r′ c d = let f = choice-promised R s seen o c .one d in (choice-told r r′ (f .0), f .1)

@@ -9,7 +9,7 @@ use denote.Struct.Laws as LL
 use denote.Signature.{namedLft}
 use denote.Triple.Spec.{tripleOf}
 use denote.Triple.Table.{entered, cited}
-use Rattle.rpc.specs.Meaning.Message.{rpc-msg}
+use Rattle.rpc.specs.Meaning.Crate.{rpc-msg}
 use Rattle.xdr.specs.Meaning.Public.{Answers}
 use Rattle.rpc.specs.Meaning.Views.{viewRpcMsg as view}
 use Rattle.rpc.proofs.answer.RpcMsgRead as S

@@ -14,7 +14,7 @@ use denote.Triple.Spec.{tripleOf}
 use denote.Triple.Table.{entered, cited}
 use Rattle.xdr.specs.Meaning.Format.{exactly}
 use Rattle.xdr.specs.Meaning.Public.{Answers}
-use Rattle.rpc.specs.Meaning.Message.{rpc-msg}
+use Rattle.rpc.specs.Meaning.Crate.{rpc-msg}
 use Rattle.rpc.specs.Meaning.Views.{viewRpcMsg}
 use Rattle.nfs.specs.Meaning.Dir.{diropargs}
 use Rattle.nfs.specs.Meaning.Set.{sattr}

@@ -1,5 +1,5 @@
 use borrow.Author.Needs.{needs}
-use Rattle.rpc.specs.Laws.Sizes.{insides}
+use Rattle.rpc.specs.Laws.ReplySizes.{insides}
 use Rattle.rpc.proofs.fit.call_body_inside.Statement.{statement}
 use Rattle.rpc.proofs.fit.call_body_inside.Tie as tie
 

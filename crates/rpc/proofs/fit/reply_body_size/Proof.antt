@@ -1,6 +1,8 @@
 use borrow.Author.Needs.{needs}
 use native.Mathlib.Omega.{arith}
-use Rattle.rpc.specs.Laws.Sizes.{replySize, same-size}
+use Rattle.rpc.specs.Laws.Sizes.{same-size}
+use Rattle.rpc.specs.Laws.ReplySizes.{replySize}
+use Rattle.rpc.specs.Meaning.Crate.{crate}
 use Rattle.rpc.proofs.fit.reply_body_size.Statement.{statement}
 use Rattle.rpc.proofs.fit.reply_body_size.Tie as tie
 
@@ -8,5 +10,5 @@ pub reply-body-size-spec : {M : Type 1} → statement M
 reply-body-size-spec =
     tie.close
     (tie.spec
-    (search needs) (search needs) (search needs) (search needs) (search needs) (search needs) (λ c. omega (arith, same-size replySize))
-    (λ c. omega (arith, same-size replySize)))
+    (search needs) (search needs) (search needs) (search needs) (search needs) (search needs) (λ c. omega (arith, same-size (replySize crate)))
+    (λ c. omega (arith, same-size (replySize crate))))

@@ -1,7 +1,7 @@
 use borrow.Author.Needs.{needs}
 use native.Mathlib.Omega.{arith}
 use lib.ListN.{length-take, length-drop}
-use Rattle.rpc.specs.Laws.Puts.{puts, readies}
+use Rattle.rpc.specs.Laws.ReplyPuts.{puts, readies}
 use Rattle.rpc.proofs.put.put_accepted_reply.Statement.{statement}
 use Rattle.rpc.proofs.put.put_accepted_reply.Tie as tie
 

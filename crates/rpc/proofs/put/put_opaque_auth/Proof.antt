@@ -1,5 +1,5 @@
 use borrow.Author.Needs.{needs}
-use Rattle.rpc.specs.Laws.Puts.{puts}
+use Rattle.rpc.specs.Laws.ReplyPuts.{puts}
 use Rattle.rpc.proofs.put.put_opaque_auth.Statement.{statement}
 use Rattle.rpc.proofs.put.put_opaque_auth.Tie as tie
 

@@ -1,8 +1,10 @@
 use borrow.Author.Needs.{needs}
 use native.Mathlib.Omega.{arith}
 use lib.ListN.{length-take, length-drop}
-use Rattle.rpc.specs.Laws.Sizes.{replySize, same-size}
-use Rattle.rpc.specs.Laws.Puts.{puts, readies}
+use Rattle.rpc.specs.Laws.Sizes.{same-size}
+use Rattle.rpc.specs.Laws.ReplySizes.{replySize}
+use Rattle.rpc.specs.Meaning.Crate.{crate}
+use Rattle.rpc.specs.Laws.ReplyPuts.{puts, readies}
 use Rattle.rpc.proofs.put.put_reply_body.Statement.{statement}
 use Rattle.rpc.proofs.put.put_reply_body.Tie as tie
 
@@ -10,8 +12,8 @@ pub put-reply-body-spec : {M : Type 1} → statement M
 put-reply-body-spec =
     tie.close
     (tie.spec
-    (search needs) (search needs) (λ c. omega (arith, same-size replySize)) (λ c. omega (arith, same-size replySize)) (search needs)
-    (λ c κs. (search readies, simp (length-take, length-drop) (omega (arith, same-size replySize)))) (search needs) (search needs)
-    (λ c. omega (arith, same-size replySize)) (λ c. omega (arith, same-size replySize)) (search needs)
-    (λ c κs. simp (length-take, length-drop) (omega (arith, same-size replySize))) (search needs) (λ c. search puts) (search needs)
+    (search needs) (search needs) (λ c. omega (arith, same-size (replySize crate))) (λ c. omega (arith, same-size (replySize crate))) (search needs)
+    (λ c κs. (search readies, simp (length-take, length-drop) (omega (arith, same-size (replySize crate))))) (search needs) (search needs)
+    (λ c. omega (arith, same-size (replySize crate))) (λ c. omega (arith, same-size (replySize crate))) (search needs)
+    (λ c κs. simp (length-take, length-drop) (omega (arith, same-size (replySize crate)))) (search needs) (λ c. search puts) (search needs)
     (λ c. search puts))

@@ -1,5 +1,5 @@
 use Rattle.xdr.specs.Laws.Fixed.{Fixed, of-size, word-fixed, pair-fixed, seen-fixed}
-use Rattle.rpc.specs.Meaning.Reply.{mismatch-info}
+use Rattle.rpc.specs.Meaning.Reading.{mismatch-info}
 use Rattle.rpc.proofs.reply.mismatch_info.size.Statement.{statement}
 use Rattle.rpc.proofs.reply.mismatch_info.size.Tie as tie
 

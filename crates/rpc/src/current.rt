@@ -1,0 +1,43 @@
+// The current reading: RFC 5531's own accept statuses, with SYSTEM_ERR 5, and its fifteen authentication numbers, where the crate has older
+// lists. What does not depend on the lists is the crate's: calls, credentials, versions, the makers of replies.
+pub mod answer;
+mod fit;
+pub mod inner;
+pub mod message;
+mod put;
+mod read;
+pub mod reply;
+mod write;
+
+pub use answer::CurrentAcceptBodyRead;
+pub use answer::CurrentAcceptStatRead;
+pub use answer::CurrentAcceptedReplyRead;
+pub use answer::CurrentAuthStatRead;
+pub use answer::CurrentRejectedReplyRead;
+pub use answer::CurrentReplyBodyRead;
+pub use answer::CurrentRpcBodyRead;
+pub use answer::CurrentRpcMsgRead;
+pub use message::rpc_body;
+pub use message::rpc_msg;
+pub use read::read_current_accept_body;
+pub use read::read_current_accept_stat;
+pub use read::read_current_accepted_reply;
+pub use read::read_current_auth_stat;
+pub use read::read_current_rejected_reply;
+pub use read::read_current_reply_body;
+pub use read::read_current_rpc_body;
+pub use read::read_current_rpc_msg;
+pub use reply::accept_body;
+pub use reply::accept_stat;
+pub use reply::accepted_reply;
+pub use reply::auth_stat;
+pub use reply::rejected_reply;
+pub use reply::reply_body;
+pub use write::write_current_accept_body;
+pub use write::write_current_accept_stat;
+pub use write::write_current_accepted_reply;
+pub use write::write_current_auth_stat;
+pub use write::write_current_rejected_reply;
+pub use write::write_current_reply_body;
+pub use write::write_current_rpc_body;
+pub use write::write_current_rpc_msg;
