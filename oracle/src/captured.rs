@@ -7,7 +7,7 @@ use std::path::{Path, PathBuf};
 
 use crate::answers::{Choice, BOUND};
 use crate::cases::{Question, Room};
-use crate::shapes::kind;
+use crate::shapes::{kind, Reading};
 use crate::truth::Truth;
 
 /// Kinds that stand one after another.
@@ -95,10 +95,17 @@ fn connection(sent: &[u8], answered: &[u8], list: &mut Vec<String>) {
     let mut calls = HashMap::new();
     for call in stream(&truth, sent, list) {
         let arguments = judged(&mut truth, &call, list);
-        for (seen, room) in [(false, 24), (true, 24), (false, 0)] {
-            list.push(Question::Choose { seen, room, message: call.clone() }.line());
+        for (reading, seen, room) in [
+            (Reading::Crate, false, 24),
+            (Reading::Crate, true, 24),
+            (Reading::Crate, false, 0),
+            (Reading::Current, false, 24),
+        ] {
+            list.push(Question::Choose { reading, seen, room, message: call.clone() }.line());
         }
-        if let Choice::HandOver { program, version, procedure, .. } = truth.choose(&call, false, &mut [0; 24]) {
+        let [choice, in_current] = Reading::BOTH.map(|reading| truth.choose(reading, &call, false, &mut [0; 24]));
+        assert_eq!(choice, in_current, "both readings choose the same for a captured call");
+        if let Choice::HandOver { program, version, procedure, .. } = choice {
             if let Some(body) = BODIES.iter().find(|body| body.0 == [program, version, procedure]) {
                 all_of(&mut truth, &call, arguments, body.1, list);
                 as_one(&mut truth, &call, arguments, body.0, ARGUMENTS, list);
@@ -109,7 +116,9 @@ fn connection(sent: &[u8], answered: &[u8], list: &mut Vec<String>) {
     }
     for reply in stream(&truth, answered, list) {
         let results = judged(&mut truth, &reply, list);
-        list.push(Question::Choose { seen: false, room: 24, message: reply.clone() }.line());
+        let in_current = read(&mut truth, &reply, 0, "current_rpc_msg", list);
+        assert_eq!(results, in_current, "both readings of a captured reply end at the same place");
+        list.push(Question::Choose { reading: Reading::Crate, seen: false, room: 24, message: reply.clone() }.line());
         if let Some(body) = calls.get(&reply[..4]) {
             all_of(&mut truth, &reply, results, body.2, list);
             as_one(&mut truth, &reply, results, body.0, RESULTS, list);

@@ -8,7 +8,7 @@ use crate::lent::{bytes, list, Left};
 use crate::lines::hex;
 use crate::model::Model;
 use crate::proved::Proved;
-use crate::shapes::{kind, KINDS};
+use crate::shapes::{kind, Reading, KINDS};
 use crate::tally::Tally;
 use crate::truth::Truth;
 use crate::values::{Value, Writer};
@@ -57,7 +57,7 @@ impl Sides {
                 self.write(*writer, sources.both(), fields, *room, *start, lending)
             },
             Question::Part { message, at, count } => self.part(message, *at, *count, lending),
-            Question::Choose { seen, room, message } => self.choose(*seen, *room, message, lending),
+            Question::Choose { reading, seen, room, message } => self.choose(*reading, *seen, *room, message, lending),
             Question::Feed { capacity, runs } => self.feed(*capacity, runs, lending),
             Question::State { state, length, run } => self.state(*state, *length, run, lending),
             Question::Fragment { message, room, start } => self.fragment(message, *room, *start, lending),
@@ -165,16 +165,27 @@ impl Sides {
         self.same("part", &got, &due)
     }
 
-    fn choose(&mut self, seen: bool, room: usize, message: &[u8], lending: &Lending) -> Option<Difference> {
+    fn choose(
+        &mut self,
+        reading: Reading,
+        seen: bool,
+        room: usize,
+        message: &[u8],
+        lending: &Lending,
+    ) -> Option<Difference> {
         let mut due = Left::new(room, lending.info.length(CHOOSE_FIGURES));
         let mut got = due.clone();
         if due.info.get().len() >= CHOOSE_FIGURES {
-            let choice = self.truth.choose(message, seen, due.out.slice());
+            let choice = self.truth.choose(reading, message, seen, due.out.slice());
             due.tell(&Told::chose(&choice));
         }
         let number = if seen { (lending.yes as u32).max(1) } else { 0 };
-        got.answer = self.proved.choose(message, number, got.out.slice(), got.info.slice());
-        self.same("choose", &got, &due)
+        got.answer = self.proved.choose(reading, message, number, got.out.slice(), got.info.slice());
+        let name = match reading {
+            Reading::Crate => "choose",
+            Reading::Current => "current_choose",
+        };
+        self.same(name, &got, &due)
     }
 
     /// Each feed is compared with the model's, and the records with those of the crate.
@@ -287,17 +298,17 @@ impl Sides {
     fn cuts(&mut self, cut: Cut, message: &[u8], lending: &Lending) -> Option<Difference> {
         let (at, whole) = match cut {
             Cut::Kind { at, .. } => (at, [&vec![0; at], message].concat()),
-            Cut::Body | Cut::Credential => (BODY, call_with(message)),
-            Cut::Call => (0, call_with(message)),
+            Cut::Body | Cut::Credential(_) => (BODY, call_with(message)),
+            Cut::Call(_) => (0, call_with(message)),
         };
-        let longest = if cut == Cut::Call { whole.len() } else { message.len() };
+        let longest = if let Cut::Call(_) = cut { whole.len() } else { message.len() };
         let mut said = Vec::new();
         for length in 0..=longest {
             let difference = match cut {
                 Cut::Kind { kind, at } => self.kind(kind, at, &whole[..at + length], lending),
                 Cut::Body => self.auth_unix(at, length, &whole, lending),
-                Cut::Credential => self.choose(false, REPLY, &call_with(&message[..length]), lending),
-                Cut::Call => self.choose(false, REPLY, &whole[..length], lending),
+                Cut::Credential(reading) => self.choose(reading, false, REPLY, &call_with(&message[..length]), lending),
+                Cut::Call(reading) => self.choose(reading, false, REPLY, &whole[..length], lending),
             };
             if let Some(Difference { proved, expected }) = difference {
                 let at_length = |text: String| format!("cut to {length}: {text}");

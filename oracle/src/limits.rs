@@ -4,7 +4,7 @@ use crate::answers::{Choice, Fed, State, BOUND};
 use crate::lent::EMPTY;
 use crate::lines::refusal;
 use crate::model::Model;
-use crate::shapes::kind;
+use crate::shapes::{kind, Reading};
 use crate::truth::Truth;
 
 /// The length of every output buffer that is not named, and of the longest stream.
@@ -166,7 +166,7 @@ impl Asked {
         for flavor in [0, 1] {
             for length in [BOUND - 1, BOUND, BOUND + 1] {
                 let mut out = [EMPTY; 24];
-                let answer = match self.truth.choose(&call(flavor, length), false, &mut out) {
+                let answer = match self.truth.choose(Reading::Crate, &call(flavor, length), false, &mut out) {
                     Choice::HandOver { program, version, procedure, arguments, auth_unix } => {
                         let groups = auth_unix
                             .map_or(String::from("none"), |auth| format!("{} {}", auth.gids.place, auth.gids.count));

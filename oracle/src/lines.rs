@@ -97,7 +97,9 @@ impl Question {
                 format!("{} {lent}{fields:?} {room} {start}", writer.name())
             },
             Question::Part { message, at, count } => format!("part {} {at} {count}", hex(message)),
-            Question::Choose { seen, room, message } => format!("choose {} {room} {}", u8::from(*seen), hex(message)),
+            Question::Choose { reading, seen, room, message } => {
+                format!("{}choose {} {room} {}", reading.prefix(), u8::from(*seen), hex(message))
+            },
             Question::Feed { capacity, runs } => {
                 let mut line = format!("feed {capacity}");
                 for run in runs.iter().filter(|run| !run.is_empty()) {

@@ -6,11 +6,12 @@ use std::path::Path;
 use crate::answers::State;
 use crate::captured;
 use crate::cases::{
-    append_call, append_message, call_with, cuts, damage, state, stream, with_pieces, Question, Room, Style,
+    append_call, append_message, call_with, cuts, damage, state, stream, with_pieces, Question, Room, Style, ACCEPTED,
+    ACCEPT_STATS, AUTH_STATS, DENIED,
 };
 use crate::lines::hex;
 use crate::random::Random;
-use crate::shapes::{Shape, AUTH_UNIX, KINDS, NFSSTAT3};
+use crate::shapes::{Reading, Shape, AUTH_UNIX, KINDS, NFSSTAT3};
 
 /// The list is the same each time.
 const SEED: u64 = 4506;
@@ -35,9 +36,12 @@ pub fn lines(captures: &Path) -> io::Result<Vec<String>> {
         readings(random, kind, &mut list);
         writings(random, kind, &mut list);
     }
-    list.extend(CALLS_AND_RESULTS.iter().map(|line| String::from(*line)));
+    list.extend(CALLS_AND_RESULTS.iter().chain(BOTH_READINGS).map(|line| String::from(*line)));
+    replies(&mut list);
     lengths(&mut list);
-    choices(random, &mut list);
+    choices(random, Reading::Crate, 420, &mut list);
+    // Numbers of their own, so that the lines behind stay as they are.
+    choices(&mut Random::of(SEED, 2), Reading::Current, 180, &mut list);
     streams(random, &mut list);
     pieces(random, &mut list);
     example(&mut list);
@@ -105,6 +109,64 @@ const CALLS_AND_RESULTS: &[&str] = &[
     "read write3res 0 000000050000000000000000000000050000000201020304FFFFFFFF",
 ];
 
+/// Where the two readings differ, and where they do not.
+const BOTH_READINGS: &[&str] = &[
+    // SYSTEM_ERR, and a status that neither has.
+    "read accept_stat 0 00000005",
+    "read current_accept_stat 0 00000005",
+    "read accept_body 0 00000005",
+    "read current_accept_body 0 00000005",
+    "read accept_body 0 00000006",
+    "read current_accept_body 0 00000006",
+    "read rpc_msg 0 0000002A0000000100000000000000000000000000000005",
+    "read current_rpc_msg 0 0000002A0000000100000000000000000000000000000005",
+    "read rpc_msg 0 0000002A0000000100000000000000000000000000000006",
+    "read current_rpc_msg 0 0000002A0000000100000000000000000000000000000006",
+    "write accept_body 0 00000005 6 1",
+    "write current_accept_body 0 00000005 6 1",
+    "write current_accept_body 0 00000006 6 1",
+    // Nothing stands behind SYSTEM_ERR; and what is dirty before it is cleaned.
+    "read current_accept_body 0 000000050000000200000002",
+    "read current_accepted_reply 0 0000000100000001AA00000100000005",
+    "write current_accepted_reply 0 0000000100000001AA00000100000005 16 0",
+    // RPCSEC_GSS_CREDPROBLEM, and the ends of both lists.
+    "read auth_stat 0 0000000D",
+    "read current_auth_stat 0 0000000D",
+    "read auth_stat 0 00000000",
+    "read current_auth_stat 0 00000000",
+    "read current_auth_stat 0 0000000E",
+    "read current_auth_stat 0 0000000F",
+    "read rpc_msg 0 0000002A0000000100000001000000010000000D",
+    "read current_rpc_msg 0 0000002A0000000100000001000000010000000D",
+    "read current_rpc_msg 0 0000002A0000000100000001000000010000000F",
+    // Undeclared tags are the same in both.
+    "read current_rejected_reply 0 00000002",
+    "read current_reply_body 0 00000002",
+    "read current_rpc_body 0 00000002",
+    "read current_rpc_msg 0 0000002A00000002",
+    "read current_rpc_msg 0 0000002A0000000100000002",
+    "read current_rpc_msg 0 0000002A000000010000000100000002",
+    // The reply to another version of RPC, with room, without, and seen before; rpcvers 3; and a credential that is cut short.
+    "current_choose 0 24 0000002A00000002",
+    "current_choose 0 23 0000002A00000002",
+    "current_choose 1 24 0000002A00000002",
+    "choose 0 24 0000002A0000000000000003000186A3000000030000000000000000000000000000000000000000",
+    "current_choose 0 24 0000002A0000000000000003000186A3000000030000000000000000000000000000000000000000",
+    "current_choose 0 24 0000002A0000000000000003000186A3000000030000000000000001000000000000000000000000",
+    // Another program, a hand-over, and silence: all the same in both.
+    "choose 0 24 0000002A000000000000000200018783000000030000000000000000000000000000000000000000",
+    "current_choose 0 24 0000002A000000000000000200018783000000030000000000000000000000000000000000000000",
+    "current_choose 0 24 0000002A0000000000000002000186A3000000030000000000000000000000000000000000000000",
+    "current_choose 1 24 0000002A0000000000000002000186A3000000030000000000000000000000000000000000000000",
+    // A reply gets refusal 8, if its reading takes it.
+    "choose 0 24 0000002A0000000100000000000000000000000000000005",
+    "current_choose 0 24 0000002A0000000100000000000000000000000000000005",
+    "choose 0 24 0000002A0000000100000001000000010000000D",
+    "current_choose 0 24 0000002A0000000100000001000000010000000D",
+    "choose 0 24 0000002A0000000100000001000000010000000F",
+    "current_choose 0 24 0000002A0000000100000001000000010000000F",
+];
+
 /// Lines that have not the form of any, for every reason but two: no line here is too long, and none can spell too many
 /// bytes.
 const ODD_LINES: &[&str] = &[
@@ -151,6 +213,13 @@ const ODD_LINES: &[&str] = &[
     "choose",
     "choose 1048577 0 -",
     "choose 0 1048577 -",
+    "current_choose",
+    "current_choose 2 24 0000002a00000002",
+    "current_choose 0 1048577 -",
+    "current_choos 0 24 -",
+    "currentchoose 0 24 -",
+    "read current_auth 0 00000000",
+    "read current_opaque_auth 0 0000000000000000",
     "part 00 0 0 0",
     "words 00 0 1048577x",
 ];
@@ -234,6 +303,52 @@ fn writings(random: &mut Random, kind: usize, list: &mut Vec<String>) {
     line(5, 6);
 }
 
+/// All accept statuses and authentication numbers, and those beside them, in every kind of either reading; three of them are
+/// written too. What is accepted has a verifier with dirty padding, and two words behind its status.
+fn replies(list: &mut Vec<String>) {
+    for reading in Reading::BOTH {
+        let mut line = |name: &str, message: Vec<u8>, is_written: bool| {
+            let words = format!("{}{name} 0 {}", reading.prefix(), hex(&message));
+            list.push(format!("read {words}"));
+            if is_written {
+                list.push(format!("write {words} 40 3"));
+            }
+        };
+        for (name, before) in ACCEPTED {
+            for status in ACCEPT_STATS {
+                line(name, accepted(before, 0x5A, &[*status, 2, 3]), [5, 6].contains(status));
+            }
+        }
+        for (name, before) in DENIED {
+            for reason in AUTH_STATS {
+                line(name, bytes_of(&[before, &[*reason]].concat()), *reason == 13);
+            }
+        }
+    }
+}
+
+fn bytes_of(words: &[u32]) -> Vec<u8> {
+    words.iter().flat_map(|word| word.to_be_bytes()).collect()
+}
+
+/// These words; before them, if there is one, a verifier of three bytes and that pad, and what stands before it.
+fn accepted(before: Option<&[u32]>, pad: u8, words: &[u32]) -> Vec<u8> {
+    let verifier = [0, 0, 0, 1, 0, 0, 0, 3, 0xAA, 0xBB, 0xCC, pad];
+    let mut bytes = before.map_or(Vec::new(), |before| [&bytes_of(before)[..], &verifier].concat());
+    bytes.extend(bytes_of(words));
+    bytes
+}
+
+/// What only the current reading takes as it is, of a kind of that name: a reply with SYSTEM_ERR, and one with
+/// RPCSEC_GSS_CREDPROBLEM.
+fn only_current(name: &str) -> Vec<Vec<u8>> {
+    let Some(name) = name.strip_prefix(Reading::Current.prefix()) else { return Vec::new() };
+    let accepted = ACCEPTED.iter().filter(|(of, _)| *of == name).map(|(_, before)| accepted(*before, 0, &[5]));
+    accepted
+        .chain(DENIED.iter().filter(|(of, _)| *of == name).map(|(_, before)| bytes_of(&[before, &[13][..]].concat())))
+        .collect()
+}
+
 /// Lengths and counts about the bounds of the RFCs, about 2^31 and 2^32, and some long ones.
 fn lengths(list: &mut Vec<String>) {
     let bodies: [(&str, &[usize]); 4] = [
@@ -270,11 +385,11 @@ fn lengths(list: &mut Vec<String>) {
     }
 }
 
-fn choices(random: &mut Random, list: &mut Vec<String>) {
-    let mut left = 420;
+fn choices(random: &mut Random, reading: Reading, count: usize, list: &mut Vec<String>) {
+    let mut left = count;
     while left > 0 {
         let (mut bytes, mut words) = (Vec::new(), Vec::new());
-        append_call(random, &mut bytes, &mut words);
+        append_call(random, reading, &mut bytes, &mut words);
         if random.once_in(3) {
             damage(random, 0, &mut bytes, &mut words);
         }
@@ -283,7 +398,7 @@ fn choices(random: &mut Random, list: &mut Vec<String>) {
         }
         left -= 1;
         let room = if random.once_in(3) { random.below(40) } else { 24 };
-        list.push(Question::Choose { seen: random.once_in(4), room, message: bytes }.line());
+        list.push(Question::Choose { reading, seen: random.once_in(4), room, message: bytes }.line());
     }
 }
 
@@ -350,21 +465,22 @@ fn example(list: &mut Vec<String>) {
 }
 
 /// A message of each kind, plain and with pieces where it may have them, cut at every byte; of a result a success and a
-/// failure. A `write` line refuses what is cut likewise. Then the body of a call's credential: what is wanting there is
-/// wanting in the body.
+/// failure; and replies that only the current reading takes. A `write` line refuses what is cut likewise. Then the body of a
+/// call's credential: what is wanting there is wanting in the body.
 fn cut_everywhere(list: &mut Vec<String>) {
     // Numbers of their own, so that the lines before stay as they are.
     let random = &mut Random::of(SEED, 1);
     for (kind, (name, shape)) in KINDS.iter().enumerate() {
         let mut own = Random::of(!SEED, kind as u64);
         let random = if kind < FIRST_KINDS { &mut *random } else { &mut own };
-        let messages = match shape {
+        let mut messages = match shape {
             Shape::Status { ok, fail } => {
                 let mut result = |status: u32, arm| [&status.to_be_bytes(), &longest(random, arm)[..]].concat();
                 vec![result(0, ok), result(1, fail)]
             },
             _ => vec![longest(random, shape)],
         };
+        messages.extend(only_current(name));
         for message in messages {
             list.extend((0..=message.len()).map(|end| read_line(kind, 0, &message[..end])));
             let (room, cut) = (message.len(), &message[..message.len() - 1]);
@@ -372,8 +488,10 @@ fn cut_everywhere(list: &mut Vec<String>) {
         }
     }
     let body = with_pieces(random, &AUTH_UNIX, Style::Plain, CUT);
-    for end in 0..=body.len() {
-        list.push(Question::Choose { seen: false, room: 24, message: call_with(&body[..end]) }.line());
+    for reading in Reading::BOTH {
+        for end in 0..=body.len() {
+            list.push(Question::Choose { reading, seen: false, room: 24, message: call_with(&body[..end]) }.line());
+        }
     }
 }
 

@@ -121,6 +121,22 @@ const THOUGHT_OF: &[&[u8]] = &[
     b"choose yes 0 -",
     b"choose  0 -",
     b"choose 1 24 0000002A00000002",
+    b"current_choose 0 0 -",
+    b"current_choose 00 0 -",
+    b"current_choose  0 -",
+    b"current_choose 1 24 0000002A00000002",
+    b"current_choose 1 24 0000002A00000002 -",
+    b"current_choos 0 24 0000002A00000002",
+    b"current_chooses 0 24 0000002A00000002",
+    b"current choose 0 24 0000002A00000002",
+    b"CURRENT_CHOOSE 0 24 0000002A00000002",
+    b"current_read bool 0 00000000",
+    b"read current_accept_stat 0 00000005",
+    b"read current_accept_sta 0 00000005",
+    b"read current_accept_stats 0 00000005",
+    b"read current_bool 0 00000000",
+    b"read current_ 0 00000000",
+    b"read current_rpc_msg 0 -",
     b"part - 0 0",
     b"part - 0 1",
     b"part - 18446744073709551615 18446744073709551615",
@@ -144,7 +160,7 @@ const THOUGHT_OF: &[&[u8]] = &[
 
 /// Each first word with few words behind it.
 fn words_alone() -> Vec<Vec<u8>> {
-    let firsts = ["read", "write", "fragment", "feed", "state", "choose", "part", "words", "reads", "rea"];
+    let firsts = ["read", "write", "fragment", "feed", "state", "choose", "current_choose", "part", "words", "reads", "rea"];
     let rests = ["", " ", " -", " 0", " 0 0", " - 0", " 0 -", " bool", " bool 0", " 0 0 0 0 0 0 0 0 0 0 0 0 0"];
     firsts.iter().flat_map(|first| rests.map(|rest| [*first, rest].concat().into_bytes())).collect()
 }
@@ -154,6 +170,7 @@ fn rooms() -> Vec<Vec<u8>> {
     let mut lines = Vec::new();
     for room in [0, 1, BOUND - 1, BOUND, BOUND + 1, 1 << 31, 1 << 32, 1 << 62, usize::MAX] {
         lines.push(format!("choose 0 {room} 0000002a00000002"));
+        lines.push(format!("current_choose 0 {room} 0000002a00000002"));
         lines.push(format!("state {room} 0 0 0 0 0 0 {room} 80000001aa"));
         lines.push(format!("feed {room} 80000001aa"));
         for start in [0, room.saturating_sub(4), room, room.saturating_add(1)] {
@@ -199,6 +216,7 @@ fn whole() -> Vec<Vec<u8>> {
         lines.push(format!("part {bytes} {} 4", length - 4));
         lines.push(format!("words {bytes} 1 {}", length / 4));
         lines.push(format!("choose 0 24 0000002a00000000{}", &bytes[16..]));
+        lines.push(format!("current_choose 0 24 0000002a00000000{}", &bytes[16..]));
         lines.push(format!("feed {BOUND} 80{}", &bytes[2..]));
         lines.push(format!("state {BOUND} 0 0 0 {BOUND} 1 0 {BOUND} {bytes}"));
         // READ's and WRITE's data, which end what is read.

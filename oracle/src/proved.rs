@@ -4,6 +4,7 @@ pub use side::Proved;
 
 #[cfg(not(feature = "model"))]
 mod side {
+    use crate::shapes::Reading;
     use crate::values::{Value, Writer};
 
     // A lent slice passes as its address and its length. include/yugerzat.h declares the same.
@@ -21,6 +22,7 @@ mod side {
         ) -> u32;
         fn yugerzat_judge(kind: u32, source: *const u8, length: usize, at: usize, info: *mut u64, infos: usize) -> u32;
         fn yugerzat_read_rpc_msg(message: *const u8, length: usize, at: usize, info: *mut u64, infos: usize) -> u32;
+        fn yugerzat_read_current_rpc_msg(message: *const u8, length: usize, at: usize, info: *mut u64, infos: usize) -> u32;
         #[rustfmt::skip]
         fn yugerzat_write_call(
             credential_source: *const u8,
@@ -37,6 +39,18 @@ mod side {
         ) -> u32;
         #[rustfmt::skip]
         fn yugerzat_write_reply(
+            source: *const u8,
+            length: usize,
+            fields: *const u64,
+            count: usize,
+            out: *mut u8,
+            room: usize,
+            start: usize,
+            info: *mut u64,
+            infos: usize,
+        ) -> u32;
+        #[rustfmt::skip]
+        fn yugerzat_write_current_reply(
             source: *const u8,
             length: usize,
             fields: *const u64,
@@ -140,6 +154,16 @@ mod side {
             info: *mut u64,
             infos: usize,
         ) -> u32;
+        #[rustfmt::skip]
+        fn yugerzat_current_choose(
+            message: *const u8,
+            length: usize,
+            seen: u32,
+            out: *mut u8,
+            room: usize,
+            info: *mut u64,
+            infos: usize,
+        ) -> u32;
     }
 
     pub struct Proved;
@@ -165,7 +189,8 @@ mod side {
         /// The reader of a value at a place of a message.
         pub fn value(&self, value: Value, message: &[u8], at: usize, info: &mut [u64]) -> u32 {
             let reader = match value {
-                Value::Message => yugerzat_read_rpc_msg,
+                Value::Message(Reading::Crate) => yugerzat_read_rpc_msg,
+                Value::Message(Reading::Current) => yugerzat_read_current_rpc_msg,
                 Value::AuthUnix => unreachable!("an auth_unix is read in a body"),
                 Value::Fattr3 => yugerzat_read_fattr3,
                 Value::Sattr3 => yugerzat_read_sattr3,
@@ -195,9 +220,13 @@ mod side {
             let (room, infos) = (out.len(), info.len());
             let (out, info) = (out.as_mut_ptr(), info.as_mut_ptr());
             let of_two = match writer {
-                // SAFETY: as above.
-                Writer::Reply => unsafe {
-                    return yugerzat_write_reply(first, length, list, count, out, room, start, info, infos);
+                Writer::Reply(reading) => {
+                    let of_one = match reading {
+                        Reading::Crate => yugerzat_write_reply,
+                        Reading::Current => yugerzat_write_current_reply,
+                    };
+                    // SAFETY: as above.
+                    return unsafe { of_one(first, length, list, count, out, room, start, info, infos) };
                 },
                 // SAFETY: as above.
                 Writer::Fattr3 => unsafe { return yugerzat_write_fattr3(list, count, out, room, start, info, infos) },
@@ -229,10 +258,14 @@ mod side {
             unsafe { yugerzat_fragment(message.as_ptr(), length, out.as_mut_ptr(), room, start, info.as_mut_ptr(), infos) }
         }
 
-        pub fn choose(&self, message: &[u8], seen: u32, out: &mut [u8], info: &mut [u64]) -> u32 {
+        pub fn choose(&self, reading: Reading, message: &[u8], seen: u32, out: &mut [u8], info: &mut [u64]) -> u32 {
+            let choose = match reading {
+                Reading::Crate => yugerzat_choose,
+                Reading::Current => yugerzat_current_choose,
+            };
             let (length, room, infos) = (message.len(), out.len(), info.len());
             // SAFETY: as above.
-            unsafe { yugerzat_choose(message.as_ptr(), length, seen, out.as_mut_ptr(), room, info.as_mut_ptr(), infos) }
+            unsafe { choose(message.as_ptr(), length, seen, out.as_mut_ptr(), room, info.as_mut_ptr(), infos) }
         }
     }
 }
@@ -240,6 +273,7 @@ mod side {
 #[cfg(feature = "model")]
 mod side {
     use crate::model::{Fault, Model};
+    use crate::shapes::Reading;
     use crate::values::{Value, Writer};
 
     pub struct Proved(Model);
@@ -294,8 +328,8 @@ mod side {
             self.0.exported_fragment(message, out, start, info)
         }
 
-        pub fn choose(&self, message: &[u8], seen: u32, out: &mut [u8], info: &mut [u64]) -> u32 {
-            self.0.exported_choose(message, seen, out, info)
+        pub fn choose(&self, reading: Reading, message: &[u8], seen: u32, out: &mut [u8], info: &mut [u64]) -> u32 {
+            self.0.exported_choose(reading, message, seen, out, info)
         }
     }
 }

@@ -5,7 +5,7 @@ use crate::answers::{Fed, State, Unwritten, BOUND};
 use crate::lent::EMPTY;
 use crate::lines;
 use crate::model::Model;
-use crate::shapes::kind;
+use crate::shapes::{kind, Reading};
 use crate::truth::Truth;
 
 /// The answer to a line; `?` and why, if the line has not the form of any. A line may have any bytes.
@@ -64,11 +64,12 @@ fn try_answer(truth: &mut Truth, line: &[u8]) -> Result<String, String> {
             let fed = Model::FAULTLESS.feed(&mut state, &run, &mut record);
             Ok(lines::fed(&fed, None) + &lines::state_and_buffer(&state, &record))
         },
-        b"choose" => {
+        word @ (b"choose" | b"current_choose") => {
             let (seen, room, bytes) = (words.mark()?, words.number()?, words.bytes()?);
             words.end()?;
             let mut out = buffer(room)?;
-            let choice = truth.choose(&bytes, seen, &mut out);
+            let reading = if word == b"choose" { Reading::Crate } else { Reading::Current };
+            let choice = truth.choose(reading, &bytes, seen, &mut out);
             Ok(lines::choice(&choice, &out))
         },
         word @ (b"part" | b"words") => {
@@ -313,6 +314,61 @@ mod tests {
         ("write lookup3res 0 0000000200000000 9 1", "wrote 9 ee0000000200000000"),
     ];
 
+    /// The current reading, as RFC 5531 has it, beside the crate's.
+    const BOTH_READINGS: &[(&str, &str)] = &[
+        ("read accept_stat 0 00000005", "refused 2 0"),
+        ("read current_accept_stat 0 00000005", "took 4 plain 00000005"),
+        ("read current_accept_stat 0 00000006", "refused 2 0"),
+        ("read accept_body 0 00000005", "took 4 loose 00000004"),
+        ("read current_accept_body 0 00000005", "took 4 plain 00000005"),
+        ("read accept_body 0 00000006", "took 4 loose 00000004"),
+        ("read current_accept_body 0 00000006", "took 4 loose 00000004"),
+        ("read current_accept_body 0 FFFFFFFF", "took 4 loose 00000004"),
+        // Nothing stands behind SYSTEM_ERR, and two words behind PROG_MISMATCH.
+        ("read current_accept_body 0 000000050000000200000002", "took 4 plain 00000005"),
+        ("read current_accept_body 0 0000000200000001", "refused 1 8 4"),
+        ("read current_accepted_reply 0 0000000100000001AA00000100000005", "took 16 loose 0000000100000001aa00000000000005"),
+        ("read current_accepted_reply 0 0000000400000000", "refused 2 0"),
+        (
+            "read current_rpc_msg 0 0000002A0000000100000000000000000000000000000005",
+            "took 24 plain 0000002a0000000100000000000000000000000000000005",
+        ),
+        ("read auth_stat 0 00000000", "refused 2 0"),
+        ("read current_auth_stat 0 00000000", "took 4 plain 00000000"),
+        ("read auth_stat 0 0000000D", "refused 2 0"),
+        ("read current_auth_stat 0 0000000D", "took 4 plain 0000000d"),
+        ("read current_auth_stat 0 0000000E", "took 4 plain 0000000e"),
+        ("read current_auth_stat 0 0000000F", "refused 2 0"),
+        ("read rejected_reply 0 000000010000000D", "refused 2 4"),
+        ("read current_rejected_reply 0 000000010000000D", "took 8 plain 000000010000000d"),
+        ("read current_rejected_reply 0 000000010000000F", "refused 2 4"),
+        ("read current_rpc_msg 0 0000002A0000000100000001000000010000000F", "refused 2 16"),
+        // Tags that are undeclared in both.
+        ("read current_rejected_reply 0 00000002", "took 4 loose 000000000000000000000000"),
+        ("read current_reply_body 0 00000002", "took 4 loose 00000000000000000000000000000000"),
+        (
+            "read current_rpc_msg 0 0000002A00000002",
+            "took 8 loose 0000002a000000000000000000000000000000000000000000000000000000000000000000000000",
+        ),
+        ("write current_accept_body 0 00000005 6 1", "wrote 5 ee00000005ee"),
+        ("write current_accept_body 0 00000007 6 1", "wrote 5 ee00000004ee"),
+        ("current_choose 0 24 0000002A00000002", "reply 24 0000002a0000000100000001000000000000000200000002"),
+        ("current_choose 1 24 0000002A00000002", "reply 24 0000002a0000000100000001000000000000000200000002"),
+        ("current_choose 0 3 0000002A00000002", "refused 5 eeeeee"),
+        (
+            "current_choose 0 25 0000002A000000000000000200018783000000030000000000000000000000000000000000000000",
+            "reply 24 0000002a0000000100000000000000000000000000000001ee",
+        ),
+        (
+            "current_choose 0 0 0000002A0000000000000002000186A3000000030000000000000000000000000000000000000000",
+            "handover 100003 3 0 40 none -",
+        ),
+        ("choose 0 1 0000002A0000000100000001000000010000000D", "refused 2 16 ee"),
+        ("current_choose 0 1 0000002A0000000100000001000000010000000D", "refused 8 ee"),
+        ("current_choose 0 1 0000002A0000000100000001000000010000000F", "refused 2 16 ee"),
+        ("current_choose 0 1 0000002A0000000100000000000000000000000000000005", "refused 8 ee"),
+    ];
+
     /// What docs/SCOPE.md leaves to the program: docs/DECISIONS.md says how it was decided.
     const DECIDED: &[(&[u8], &str)] = &[
         (b"feed 1 -", "more 0; state 1 0 0 0 0 0 0; buffer ee"),
@@ -365,6 +421,10 @@ mod tests {
         (b"feed 0 80000001 zz", "? not hex: zz"),
         (b"choose", "? a mark is missing"),
         (b"choose 00 x z", "? neither 0 nor 1: 00"),
+        (b"current_choose", "? a mark is missing"),
+        (b"current_choose 0 1048577 -", "? room for more than 1048576 bytes"),
+        (b"current_choos 0 24 -", "? no question named current_choos"),
+        (b"read current_auth 0 -", "? no kind named current_auth"),
         (b"state 0 0 0 0 0 1 2 0 -", "? neither 0 nor 1: 2"),
         (b"state 0 0 0 0 0 1  0 -", "? a mark is missing"),
         (b"fragment - 1048577 0", "? room for more than 1048576 bytes"),
@@ -381,7 +441,7 @@ mod tests {
     #[test]
     fn worked_bytes() {
         let mut truth = Truth::new();
-        for (line, expected) in WORKED.iter().chain(CALLS_AND_RESULTS) {
+        for (line, expected) in WORKED.iter().chain(CALLS_AND_RESULTS).chain(BOTH_READINGS) {
             assert_eq!(answer(&mut truth, line.as_bytes()), *expected, "{line}");
         }
     }

@@ -58,26 +58,101 @@ pub const NFSSTAT3: &[u32] = &[
     10007, 10008,
 ];
 
-const NOTHING: Shape = Record(&[]);
-const AUTH_STAT: Shape = Closed(&[1, 2, 3, 4, 5]);
+pub const NOTHING: Shape = Record(&[]);
 const AUTH_FLAVOR: Shape = Closed(&[0, 1, 2, 3]);
 const FTYPE3: Shape = Closed(&[1, 2, 3, 4, 5, 6, 7]);
 pub const AUTH_UNIX: Shape = Record(&[&Word, &Opaque, &Word, &Word, &WordList]);
 const OPAQUE_AUTH: Shape = Record(&[&AUTH_FLAVOR, &Opaque]);
 const CALL_BODY: Shape = Record(&[&Word, &Word, &Word, &Word, &OPAQUE_AUTH, &OPAQUE_AUTH]);
-const TWO_WORDS: Shape = Record(&[&Word, &Word]);
-const ACCEPT_BODY: Shape = Union {
-    arms: &[(0, &NOTHING), (1, &NOTHING), (2, &TWO_WORDS), (3, &NOTHING), (4, &NOTHING)],
-    undeclared: Undeclared::WrittenAs(&[4]),
-};
-const ACCEPTED_REPLY: Shape = Record(&[&OPAQUE_AUTH, &ACCEPT_BODY]);
-const REJECTED_REPLY: Shape =
-    Union { arms: &[(0, &TWO_WORDS), (1, &AUTH_STAT)], undeclared: Undeclared::WrittenAs(&[0, 0, 0]) };
-const REPLY_BODY: Shape =
-    Union { arms: &[(0, &ACCEPTED_REPLY), (1, &REJECTED_REPLY)], undeclared: Undeclared::WrittenAs(&[0, 0, 0, 0]) };
-const RPC_BODY: Shape =
-    Union { arms: &[(0, &CALL_BODY), (1, &REPLY_BODY)], undeclared: Undeclared::WrittenAs(&[0, 0, 0, 0, 0, 0, 0, 0, 0]) };
-pub const RPC_MSG: Shape = Record(&[&Word, &RPC_BODY]);
+pub const TWO_WORDS: Shape = Record(&[&Word, &Word]);
+
+/// How replies are read: which of the numbers of RFC 5531 are declared in them.
+#[derive(Clone, Copy, Debug, PartialEq, Eq)]
+pub enum Reading {
+    /// As nfsserve reads them, by older lists.
+    Crate,
+    /// As RFC 5531 has them. nfsserve has no such reading.
+    Current,
+}
+
+impl Reading {
+    pub const BOTH: [Reading; 2] = [Reading::Crate, Reading::Current];
+
+    /// From 0 on, without a gap.
+    pub const fn accept_stats(self) -> &'static [u32] {
+        match self {
+            Reading::Crate => &[0, 1, 2, 3, 4],
+            Reading::Current => &[0, 1, 2, 3, 4, 5],
+        }
+    }
+
+    pub const fn auth_stats(self) -> &'static [u32] {
+        match self {
+            Reading::Crate => &[1, 2, 3, 4, 5],
+            Reading::Current => &[0, 1, 2, 3, 4, 5, 6, 7, 8, 9, 10, 11, 12, 13, 14],
+        }
+    }
+
+    /// What the reply to a call of another version of RPC names as the lowest version served, and as the highest.
+    pub const fn version(self) -> u32 {
+        match self {
+            Reading::Crate => 0,
+            Reading::Current => 2,
+        }
+    }
+
+    pub fn rpc_msg(self) -> &'static Shape {
+        match self {
+            Reading::Crate => &Crate::RPC_MSG,
+            Reading::Current => &Current::RPC_MSG,
+        }
+    }
+
+    pub const fn other(self) -> Reading {
+        match self {
+            Reading::Crate => Reading::Current,
+            Reading::Current => Reading::Crate,
+        }
+    }
+
+    /// What the names of its kinds and functions begin with.
+    pub const fn prefix(self) -> &'static str {
+        match self {
+            Reading::Crate => "",
+            Reading::Current => "current_",
+        }
+    }
+}
+
+/// The kinds that are not the same in both readings, over a reading. Nothing else of them differs.
+struct Replies<const CURRENT: bool>;
+type Crate = Replies<false>;
+type Current = Replies<true>;
+
+/// What the statuses of an accepted reply announce, in the order of their numbers.
+const ACCEPTED: &[(u32, &Shape)] =
+    &[(0, &NOTHING), (1, &NOTHING), (2, &TWO_WORDS), (3, &NOTHING), (4, &NOTHING), (5, &NOTHING)];
+
+impl<const CURRENT: bool> Replies<CURRENT> {
+    const READING: Reading = if CURRENT { Reading::Current } else { Reading::Crate };
+    const ACCEPT_STAT: Shape = Closed(Self::READING.accept_stats());
+    const AUTH_STAT: Shape = Closed(Self::READING.auth_stats());
+    const ACCEPT_BODY: Shape =
+        Union { arms: ACCEPTED.split_at(Self::READING.accept_stats().len()).0, undeclared: Undeclared::WrittenAs(&[4]) };
+    const ACCEPTED_REPLY: Shape = Record(&[&OPAQUE_AUTH, &Self::ACCEPT_BODY]);
+    const REJECTED_REPLY: Shape =
+        Union { arms: &[(0, &TWO_WORDS), (1, &Self::AUTH_STAT)], undeclared: Undeclared::WrittenAs(&[0, 0, 0]) };
+    const REPLY_BODY: Shape = Union {
+        arms: &[(0, &Self::ACCEPTED_REPLY), (1, &Self::REJECTED_REPLY)],
+        undeclared: Undeclared::WrittenAs(&[0, 0, 0, 0]),
+    };
+    const RPC_BODY: Shape = Union {
+        arms: &[(0, &CALL_BODY), (1, &Self::REPLY_BODY)],
+        undeclared: Undeclared::WrittenAs(&[0, 0, 0, 0, 0, 0, 0, 0, 0]),
+    };
+    const RPC_MSG: Shape = Record(&[&Word, &Self::RPC_BODY]);
+}
+
 const FATTR3: Shape = Record(&[
     &FTYPE3, &Word, &Word, &Word, &Word, &Hyper, &Hyper, &TWO_WORDS, &Hyper, &Hyper, &TWO_WORDS, &TWO_WORDS, &TWO_WORDS,
 ]);
@@ -98,7 +173,7 @@ const READ3RESOK: Shape = Record(&[&POST_OP_ATTR, &Word, &Flag, &Opaque]);
 const WRITE3RESOK: Shape = Record(&[&WCC_DATA, &Word, &STABLE_HOW, &Eight]);
 
 /// The kinds in the order of kinds.txt; a kind's number is its index.
-pub static KINDS: [(&str, Shape); 59] = [
+pub static KINDS: [(&str, Shape); 67] = [
     ("bool", Flag),
     ("i32", Word),
     ("i64", Hyper),
@@ -110,22 +185,22 @@ pub static KINDS: [(&str, Shape); 59] = [
     ("words", WordList),
     ("msg_type", Closed(TWO)),
     ("reply_stat", Closed(TWO)),
-    ("accept_stat", Closed(&[0, 1, 2, 3, 4])),
+    ("accept_stat", Crate::ACCEPT_STAT),
     ("reject_stat", Closed(TWO)),
-    ("auth_stat", AUTH_STAT),
+    ("auth_stat", Crate::AUTH_STAT),
     ("auth_flavor", AUTH_FLAVOR),
     ("time_how", Closed(&[0, 1, 2])),
     ("nfsstat3", Closed(NFSSTAT3)),
     ("ftype3", FTYPE3),
     ("auth_unix", AUTH_UNIX),
     ("opaque_auth", OPAQUE_AUTH),
-    ("rpc_msg", RPC_MSG),
-    ("rpc_body", RPC_BODY),
+    ("rpc_msg", Crate::RPC_MSG),
+    ("rpc_body", Crate::RPC_BODY),
     ("call_body", CALL_BODY),
-    ("reply_body", REPLY_BODY),
-    ("accepted_reply", ACCEPTED_REPLY),
-    ("accept_body", ACCEPT_BODY),
-    ("rejected_reply", REJECTED_REPLY),
+    ("reply_body", Crate::REPLY_BODY),
+    ("accepted_reply", Crate::ACCEPTED_REPLY),
+    ("accept_body", Crate::ACCEPT_BODY),
+    ("rejected_reply", Crate::REJECTED_REPLY),
     ("mismatch_info", TWO_WORDS),
     ("specdata3", TWO_WORDS),
     ("nfs_fh3", Opaque),
@@ -158,10 +233,18 @@ pub static KINDS: [(&str, Shape); 59] = [
     ("read3res", Status { ok: &READ3RESOK, fail: &POST_OP_ATTR }),
     ("write3args", Record(&[&Opaque, &Hyper, &Word, &STABLE_HOW, &Opaque])),
     ("write3res", Status { ok: &WRITE3RESOK, fail: &WCC_DATA }),
+    ("current_accept_stat", Current::ACCEPT_STAT),
+    ("current_auth_stat", Current::AUTH_STAT),
+    ("current_accept_body", Current::ACCEPT_BODY),
+    ("current_accepted_reply", Current::ACCEPTED_REPLY),
+    ("current_rejected_reply", Current::REJECTED_REPLY),
+    ("current_reply_body", Current::REPLY_BODY),
+    ("current_rpc_body", Current::RPC_BODY),
+    ("current_rpc_msg", Current::RPC_MSG),
 ];
 
-/// The kinds that nfsserve has no type for. The RFC decides what they are, and the model is their only judge.
-pub const LACKED: [&str; 12] = [
+/// The kinds that nfsserve has no type for. The RFCs decide what they are, and the model is their only judge.
+pub const LACKED: [&str; 20] = [
     "stable_how",
     "sattrguard3",
     "getattr3args",
@@ -174,6 +257,14 @@ pub const LACKED: [&str; 12] = [
     "read3res",
     "write3args",
     "write3res",
+    "current_accept_stat",
+    "current_auth_stat",
+    "current_accept_body",
+    "current_accepted_reply",
+    "current_rejected_reply",
+    "current_reply_body",
+    "current_rpc_body",
+    "current_rpc_msg",
 ];
 
 /// The number of a kind.

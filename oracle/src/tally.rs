@@ -9,7 +9,7 @@ pub struct Judged {
     pub by_crate: u64,
     /// The crate was not asked, because it would have allocated too much: refusal 1 was due.
     pub unasked: u64,
-    /// The crate lacks the kind: the model alone judged.
+    /// The crate lacks the kind, or the reading: the model alone judged.
     pub by_model: u64,
 }
 
@@ -71,7 +71,7 @@ impl Display for Tally {
         write!(f, "\ntaken: plain {}, loose {}", self.plain, self.loose)?;
         let Judged { by_crate, unasked, by_model } = self.judged;
         write!(f, "\nread: by the crate {by_crate}; the crate not asked, for a large claim: {unasked}")?;
-        write!(f, "; of kinds that it lacks, by the model alone: {by_model}")?;
+        write!(f, "; of kinds or a reading that it lacks, by the model alone: {by_model}")?;
         write!(f, "\ncut at every byte: {} sorts of message; counts that held: {}", self.cut.len(), self.held)
     }
 }

@@ -1,9 +1,10 @@
 //! The values that are exported one by one, and the writers of what their readers give.
+use crate::shapes::Reading;
 
 #[derive(Clone, Copy, Debug, PartialEq, Eq)]
 pub enum Value {
-    /// An `rpc_msg`.
-    Message,
+    /// An `rpc_msg`, in either reading.
+    Message(Reading),
     /// Read inside a credential's body.
     AuthUnix,
     Fattr3,
@@ -13,12 +14,14 @@ pub enum Value {
 
 impl Value {
     /// Those that are read from a place of a message.
-    pub const PLACED: [Value; 4] = [Value::Message, Value::Fattr3, Value::Sattr3, Value::Diropargs3];
+    pub const PLACED: [Value; 5] =
+        [Value::Message(Reading::Crate), Value::Message(Reading::Current), Value::Fattr3, Value::Sattr3, Value::Diropargs3];
 
     /// The name of its kind.
     pub fn kind(self) -> &'static str {
         match self {
-            Value::Message => "rpc_msg",
+            Value::Message(Reading::Crate) => "rpc_msg",
+            Value::Message(Reading::Current) => "current_rpc_msg",
             Value::AuthUnix => "auth_unix",
             Value::Fattr3 => "fattr3",
             Value::Sattr3 => "sattr3",
@@ -29,7 +32,8 @@ impl Value {
     /// The reader's name in include/yugerzat.h, without what all begin with.
     pub fn reader(self) -> &'static str {
         match self {
-            Value::Message => "read_rpc_msg",
+            Value::Message(Reading::Crate) => "read_rpc_msg",
+            Value::Message(Reading::Current) => "read_current_rpc_msg",
             Value::AuthUnix => "read_auth_unix",
             Value::Fattr3 => "read_fattr3",
             Value::Sattr3 => "read_sattr3",
@@ -40,7 +44,7 @@ impl Value {
     /// How many figures its reader has.
     pub fn figures(self) -> usize {
         match self {
-            Value::Message => 14,
+            Value::Message(_) => 14,
             Value::AuthUnix => 9,
             Value::Fattr3 => 19,
             Value::Sattr3 => 16,
@@ -49,11 +53,11 @@ impl Value {
     }
 }
 
-/// What is written by its fields. An `rpc_msg` has two writers.
+/// What is written by its fields. An `rpc_msg` has two writers: a call is the same in both readings.
 #[derive(Clone, Copy, Debug, PartialEq, Eq)]
 pub enum Writer {
     Call,
-    Reply,
+    Reply(Reading),
     AuthUnix,
     Fattr3,
     Sattr3,
@@ -72,13 +76,21 @@ pub struct PieceField {
 }
 
 impl Writer {
-    pub const ALL: [Writer; 6] =
-        [Writer::Call, Writer::Reply, Writer::AuthUnix, Writer::Fattr3, Writer::Sattr3, Writer::Diropargs3];
+    pub const ALL: [Writer; 7] = [
+        Writer::Call,
+        Writer::Reply(Reading::Crate),
+        Writer::Reply(Reading::Current),
+        Writer::AuthUnix,
+        Writer::Fattr3,
+        Writer::Sattr3,
+        Writer::Diropargs3,
+    ];
 
     /// The value whose reader gives its fields.
     pub fn value(self) -> Value {
         match self {
-            Writer::Call | Writer::Reply => Value::Message,
+            Writer::Call => Value::Message(Reading::Crate),
+            Writer::Reply(reading) => Value::Message(reading),
             Writer::AuthUnix => Value::AuthUnix,
             Writer::Fattr3 => Value::Fattr3,
             Writer::Sattr3 => Value::Sattr3,
@@ -90,7 +102,8 @@ impl Writer {
     pub fn name(self) -> &'static str {
         match self {
             Writer::Call => "write_call",
-            Writer::Reply => "write_reply",
+            Writer::Reply(Reading::Crate) => "write_reply",
+            Writer::Reply(Reading::Current) => "write_current_reply",
             Writer::AuthUnix => "write_auth_unix",
             Writer::Fattr3 => "write_fattr3",
             Writer::Sattr3 => "write_sattr3",
@@ -102,7 +115,7 @@ impl Writer {
     pub fn fields(self) -> usize {
         match self {
             Writer::Call => 11,
-            Writer::Reply => 8,
+            Writer::Reply(_) => 8,
             Writer::AuthUnix => 7,
             Writer::Fattr3 => 17,
             Writer::Sattr3 => 14,
@@ -114,7 +127,7 @@ impl Writer {
     pub fn sources(self) -> usize {
         match self {
             Writer::Call | Writer::AuthUnix | Writer::Diropargs3 => 2,
-            Writer::Reply => 1,
+            Writer::Reply(_) => 1,
             Writer::Fattr3 | Writer::Sattr3 => 0,
         }
     }
@@ -123,7 +136,7 @@ impl Writer {
     pub fn pieces(self) -> &'static [PieceField] {
         match self {
             Writer::Call => &[PieceField { at: 6, source: 0, width: 1 }, PieceField { at: 9, source: 1, width: 1 }],
-            Writer::Reply => &[PieceField { at: 3, source: 0, width: 1 }],
+            Writer::Reply(_) => &[PieceField { at: 3, source: 0, width: 1 }],
             Writer::AuthUnix => &[PieceField { at: 1, source: 0, width: 1 }, PieceField { at: 5, source: 1, width: 4 }],
             Writer::Diropargs3 => &[PieceField { at: 0, source: 0, width: 1 }, PieceField { at: 2, source: 1, width: 1 }],
             Writer::Fattr3 | Writer::Sattr3 => &[],
@@ -135,7 +148,7 @@ impl Writer {
         let is_call = figures[3] == 0;
         match self {
             Writer::Call => is_call.then(|| [&figures[2..3], &figures[4..]].concat()),
-            Writer::Reply => (!is_call).then(|| figures[2..10].to_vec()),
+            Writer::Reply(_) => (!is_call).then(|| figures[2..10].to_vec()),
             Writer::AuthUnix | Writer::Fattr3 | Writer::Sattr3 | Writer::Diropargs3 => Some(figures[2..].to_vec()),
         }
     }

@@ -1,7 +1,7 @@
 //! Messages made by the shape of their kind, so that most of what both sides are asked has meaning.
 use super::numbers::{count, length, telling, word, SERVED, UNSERVED};
 use crate::random::Random;
-use crate::shapes::{Shape, Undeclared, AUTH_UNIX, NFSSTAT3, RPC_MSG};
+use crate::shapes::{Reading, Shape, Undeclared, AUTH_UNIX, NFSSTAT3};
 
 /// How tidy a message is.
 #[derive(Clone, Copy, Debug, PartialEq, Eq)]
@@ -122,11 +122,11 @@ pub fn call_with(body: &[u8]) -> Vec<u8> {
     bytes
 }
 
-/// A call as it reaches the choice of program (or, rarely, any other message).
-pub fn append_call(random: &mut Random, bytes: &mut Vec<u8>, words: &mut Vec<Word>) {
+/// A call as it reaches the choice of program (or, rarely, any other message of that reading).
+pub fn append_call(random: &mut Random, reading: Reading, bytes: &mut Vec<u8>, words: &mut Vec<Word>) {
     if random.once_in(10) {
         let style = Style::any(random);
-        return append_message(random, &RPC_MSG, style, bytes, words);
+        return append_message(random, reading.rpc_msg(), style, bytes, words);
     }
     let xid = random.word();
     let version = if random.once_in(6) { word(random) } else { 2 };
@@ -166,13 +166,13 @@ fn credential(random: &mut Random, bytes: &mut Vec<u8>, words: &mut Vec<Word>) {
     pad(random, style, body.len(), bytes);
 }
 
-fn verifier(random: &mut Random, flavor: u32, bytes: &mut Vec<u8>, words: &mut Vec<Word>) {
+pub fn verifier(random: &mut Random, flavor: u32, bytes: &mut Vec<u8>, words: &mut Vec<Word>) {
     words.push(Word::Number(bytes.len()));
     put(bytes, flavor);
     append_message(random, &Shape::Opaque, Style::Loose, bytes, words);
 }
 
-fn put(bytes: &mut Vec<u8>, number: u32) {
+pub fn put(bytes: &mut Vec<u8>, number: u32) {
     bytes.extend_from_slice(&number.to_be_bytes());
 }
 

@@ -2,11 +2,13 @@
 mod damage;
 mod messages;
 mod numbers;
+mod replies;
 mod streams;
 mod values;
 
 pub use damage::damage;
 pub use messages::{append_call, append_message, call_with, with_pieces, Style, BODY};
+pub use replies::{ACCEPTED, ACCEPT_STATS, AUTH_STATS, DENIED};
 pub use streams::{cuts, state, stream};
 
 use damage::beside;
@@ -14,7 +16,7 @@ use messages::Word;
 
 use crate::answers::{State, BOUND};
 use crate::random::Random;
-use crate::shapes::{kind, AUTH_UNIX, KINDS};
+use crate::shapes::{kind, Reading, AUTH_UNIX, KINDS};
 use crate::values::{Value, Writer};
 
 /// A question, and what is lent with it.
@@ -32,7 +34,7 @@ pub enum Question {
     AuthUnix { at: usize, count: usize, message: Vec<u8> },
     Write { writer: Writer, sources: Sources, fields: Vec<u64>, room: usize, start: usize },
     Part { message: Vec<u8>, at: usize, count: usize },
-    Choose { seen: bool, room: usize, message: Vec<u8> },
+    Choose { reading: Reading, seen: bool, room: usize, message: Vec<u8> },
     Feed { capacity: usize, runs: Vec<Vec<u8>> },
     State { state: State, length: usize, run: Vec<u8> },
     Fragment { message: Vec<u8>, room: usize, start: usize },
@@ -64,9 +66,9 @@ pub enum Cut {
     /// An `auth_unix`: `read_auth_unix` reads it in a body that ends early, and the call goes on behind.
     Body,
     /// The same, where the choice of program reads a whole call with a body that ends early.
-    Credential,
+    Credential(Reading),
     /// The same, where the call ends early.
-    Call,
+    Call(Reading),
 }
 
 impl Cut {
@@ -74,8 +76,10 @@ impl Cut {
         match self {
             Cut::Kind { kind, .. } => KINDS[kind].0,
             Cut::Body => "body",
-            Cut::Credential => "credential",
-            Cut::Call => "call",
+            Cut::Credential(Reading::Crate) => "credential",
+            Cut::Credential(Reading::Current) => "current credential",
+            Cut::Call(Reading::Crate) => "call",
+            Cut::Call(Reading::Current) => "current call",
         }
     }
 }
@@ -160,7 +164,13 @@ pub fn case(seed: u64, number: u64) -> Case {
 /// pieces, if they may have any.
 fn cut_everywhere(random: &mut Random, turn: usize) -> Question {
     const LONGEST: usize = 300;
-    let others = [Cut::Body, Cut::Credential, Cut::Call];
+    let others = [
+        Cut::Body,
+        Cut::Credential(Reading::Crate),
+        Cut::Call(Reading::Crate),
+        Cut::Credential(Reading::Current),
+        Cut::Call(Reading::Current),
+    ];
     let turns = KINDS.len() + others.len();
     let cut = match turn % turns {
         kind if kind < KINDS.len() => Cut::Kind { kind, at: random.below(9) },
@@ -185,9 +195,10 @@ fn cut(random: &mut Random, length: usize) -> Case {
     let (mut bytes, mut words) = (Vec::new(), Vec::new());
     let question = match random.below(8) {
         0 | 1 => {
-            append_call(random, &mut bytes, &mut words);
+            let reading = reading(random);
+            append_call(random, reading, &mut bytes, &mut words);
             bytes.resize(length, 0);
-            Question::Choose { seen: random.once_in(4), room: 24, message: bytes }
+            Question::Choose { reading, seen: random.once_in(4), room: 24, message: bytes }
         },
         2 => {
             let value = random.pick(&Value::PLACED);
@@ -208,9 +219,19 @@ fn cut(random: &mut Random, length: usize) -> Case {
     Case { question, lending: Lending::ENOUGH }
 }
 
+/// The crate's reading twice as often: there the crate is a judge.
+fn reading(random: &mut Random) -> Reading {
+    if random.once_in(3) {
+        Reading::Current
+    } else {
+        Reading::Crate
+    }
+}
+
 fn any(random: &mut Random) -> Question {
     match random.below(100) {
-        0..=44 => read(random),
+        0..=39 => read(random),
+        40..=44 => replies::reply(random),
         45..=57 => values::value(random),
         58..=61 => values::auth_unix(random),
         62..=77 => values::write(random),
@@ -306,14 +327,15 @@ fn at_the_bound(random: &mut Random, asked: usize, at: usize, mut message: Vec<u
 fn choose(random: &mut Random) -> Question {
     let mut message = Vec::new();
     let mut words = Vec::new();
-    append_call(random, &mut message, &mut words);
+    let reading = reading(random);
+    append_call(random, reading, &mut message, &mut words);
     if random.once_in(4_000) {
         message.resize(random.between(BOUND - 2, BOUND + 2), 0);
     } else if random.once_in(3) {
         damage(random, 0, &mut message, &mut words);
     }
     let room = if random.once_in(4) { random.below(40) } else { 24 };
-    Question::Choose { seen: random.once_in(4), room, message }
+    Question::Choose { reading, seen: random.once_in(4), room, message }
 }
 
 fn fragment(random: &mut Random) -> Question {

@@ -1,14 +1,14 @@
 //! Questions to the readers and writers of single values.
-use super::{append_call, append_message, damage, message, place_to_write, Question, Sources, Style};
+use super::{append_call, append_message, damage, message, place_to_write, reading, Question, Sources, Style};
 use crate::answers::BOUND;
 use crate::model::Model;
 use crate::random::Random;
-use crate::shapes::{kind, AUTH_UNIX, KINDS};
+use crate::shapes::{kind, Reading, AUTH_UNIX, KINDS};
 use crate::values::{Value, Writer};
 
 pub fn value(random: &mut Random) -> Question {
     // Headers have the most to tell.
-    let value = if random.once_in(3) { Value::Message } else { random.pick(&Value::PLACED) };
+    let value = if random.once_in(3) { Value::Message(reading(random)) } else { random.pick(&Value::PLACED) };
     let (message, at) = message(random, kind(value.kind()).expect("the kind is known"));
     Question::Value { value, at, message }
 }
@@ -77,7 +77,7 @@ fn given(random: &mut Random, writer: Writer) -> (Vec<u8>, Vec<u64>) {
         let at = random.below(9);
         random.append(at, &mut source);
         if writer == Writer::Call && random.once_in(2) {
-            append_call(random, &mut source, &mut Vec::new());
+            append_call(random, Reading::Crate, &mut source, &mut Vec::new());
         } else {
             let (shape, style) = (&KINDS[kind(value.kind()).expect("the kind is known")].1, Style::any(random));
             append_message(random, shape, style, &mut source, &mut Vec::new());
@@ -94,7 +94,7 @@ fn change(random: &mut Random, writer: Writer, sources: &Sources, fields: &mut [
     let at = random.below(writer.fields());
     let piece = writer.pieces().iter().find(|piece| (piece.at..piece.at + 2).contains(&at));
     // Where a reply is not accepted, these fields are numbers.
-    if let Some(piece) = piece.filter(|_| writer != Writer::Reply || random.once_in(2)) {
+    if let Some(piece) = piece.filter(|_| !matches!(writer, Writer::Reply(_)) || random.once_in(2)) {
         let of = if random.once_in(4) { 1 - piece.source } else { piece.source };
         let length = sources.both()[of].len();
         let place = random.below(length + 1);
@@ -115,7 +115,8 @@ fn change(random: &mut Random, writer: Writer, sources: &Sources, fields: &mut [
         return;
     }
     let some = random.next();
-    let numbers = [0, 1, 2, 3, 4, 5, 6, 7, 8, 0xFFFF_FFFF, 1 << 32, (1 << 32) + 1, (1 << 32) + 2, u64::MAX, some];
+    let small = random.below(17) as u64;
+    let numbers = [0, 1, 2, 3, 4, 5, 6, 7, 8, small, 0xFFFF_FFFF, 1 << 32, (1 << 32) + 1, (1 << 32) + 2, u64::MAX, some];
     fields[at] = random.pick(&numbers);
 }
 
@@ -137,13 +138,13 @@ fn at_the_bound(random: &mut Random, writer: Writer, sources: &mut Sources, fiel
     if random.once_in(4) {
         return;
     }
-    if writer == Writer::Reply {
+    if let Writer::Reply(_) = writer {
         fields[1] = 1;
     }
     // What is written besides the pieces. They share what is left of the bound, a little more or less.
     let words = match writer {
         Writer::Call => 40,
-        Writer::Reply => 24,
+        Writer::Reply(_) => 24,
         Writer::AuthUnix => 20,
         Writer::Diropargs3 => 8,
         Writer::Fattr3 | Writer::Sattr3 => return,

@@ -4,7 +4,7 @@ use crate::answers::{
     Choice, Fed, Refusal, State, Told, Unwritten, Wrote, CHOOSE_FIGURES, FEED_FIGURES, PART_FIGURES, READ_FIGURES, REPLY,
     SHORT_LIST, STATE_FIGURES, WRITE_FIGURES,
 };
-use crate::shapes::KINDS;
+use crate::shapes::{Reading, KINDS};
 use crate::values::{Value, Writer};
 
 impl Model {
@@ -154,12 +154,12 @@ impl Model {
         self.tell_wrote(&wrote, info)
     }
 
-    pub fn exported_choose(self, message: &[u8], seen: u32, out: &mut [u8], info: &mut [u64]) -> u32 {
+    pub fn exported_choose(self, reading: Reading, message: &[u8], seen: u32, out: &mut [u8], info: &mut [u64]) -> u32 {
         if info.len() < CHOOSE_FIGURES {
             return self.short_list(info);
         }
         let seen = if self.has(Fault::SeenIfOne) { seen == 1 } else { seen != 0 };
-        let choice = self.choose(message, seen, out).choice;
+        let choice = self.choose(reading, message, seen, out).choice;
         let mut told = Told::chose(&choice);
         if self.has(Fault::SilenceTells) && choice == Choice::Silence {
             told.figures[0] = u64::from(super::word_at(message, 12));

@@ -41,6 +41,25 @@ faults! {
     EofEqualsOne "eof-equals-one" "READ's eof is true only if it is 1";
     VerifierCounted "verf-counted" "WRITE's verifier begins with its length";
 
+    SystemErrGarbage "system-err-garbage" "in the current reading the accept status 5 is GARBAGE_ARGS";
+    SystemErrInCrate "system-err-in-crate" "in the crate's reading the accept status 5 is a case of its own";
+    SystemErrBehind "system-err-behind" "two words behind the accept status 5 are read with it";
+    SystemErrRewritten "system-err-rewritten" "the accept status 5 is rewritten as 4, and called plain";
+    StatusSixPlain "status-six-plain" "in the current reading the accept status 6 is taken as it came, and called plain";
+    AcceptStatFour "accept-stat-four" "current_accept_stat refuses 5";
+    AuthFifteen "auth-fifteen" "in the current reading auth_stat 15 is taken";
+    AuthZeroRefused "auth-zero-refused" "in the current reading auth_stat 0 is refused";
+    AuthToFive "auth-to-five" "in the current reading auth_stat goes to 5 only";
+    AuthAllInCrate "auth-all-in-crate" "the crate's reading takes all authentication numbers";
+    CurrentNamesZero "current-names-zero" "in the current reading the reply to another version of RPC names 0 and 0";
+    CrateNamesTwo "crate-names-two" "in the crate's reading the reply to another version of RPC names 2 and 2";
+    ChosenByCrate "chosen-by-crate" "the choice of program in the current reading reads as the crate does";
+    CurrentTellsFour "current-tells-four" "the current reader of headers tells the accept status 5 as 4";
+    CrateTellsFive "crate-tells-five" "the crate's reader of headers tells the accept status 5 as 5";
+    SystemErrWrittenFour "system-err-written-4" "the current writer of replies writes 4 for the accept status 5";
+    ReplyTakesFive "reply-takes-five" "the crate's writer of replies takes the accept status 5";
+    ReplyReasonFive "reply-reason-five" "the current writer of replies takes auth_stat 1 to 5 only";
+
     RefusedKept "refused-kept" "after a refusal only the place is written, and the other figures stay as they were";
     RefusedPlain "refused-plain" "after a refusal the second figure is 1";
     RefusedLast "refused-last" "after a refusal the last figure is 1";

@@ -1,7 +1,7 @@
 //! Reading a message of any kind, and writing it again.
 use super::{word_at, Fault, Model};
 use crate::answers::{Refusal, Took, BOUND};
-use crate::shapes::{Shape, Undeclared, KINDS, NFSSTAT3};
+use crate::shapes::{Reading, Shape, Undeclared, KINDS, NFSSTAT3, NOTHING, TWO_WORDS};
 
 /// How a reading went, and what lengths and counts the message claimed on the way.
 #[derive(Clone, Copy, Debug)]
@@ -210,19 +210,34 @@ impl Reader<'_> {
 
     fn closed(&mut self, declared: &[u32]) -> Result<(), Refusal> {
         let number = self.peek()?;
-        let gap = self.model.has(Fault::EnumerationGap) && number == 29 && declared.len() == 29;
-        let above = self.has_inside(Fault::StableThree) && number == 3 && declared == [0, 1, 2];
-        if !declared.contains(&number) && !gap && !above {
+        if !self.is_declared(number, declared) {
             return Err(Refusal::undeclared(self.at));
         }
         self.bytes(4)
     }
 
+    /// Whether a closed list has a number, with what planted faults add to it or take away. The lists are told by what they
+    /// have: no two of these are alike.
+    fn is_declared(&self, number: u32, declared: &[u32]) -> bool {
+        let has = |fault, list: &[u32]| self.model.has(fault) && declared == list;
+        let (older, current) = (Reading::Crate.auth_stats(), Reading::Current.auth_stats());
+        match number {
+            29 if has(Fault::EnumerationGap, NFSSTAT3) => true,
+            3 if self.has_inside(Fault::StableThree) && declared == [0, 1, 2] => true,
+            5 if has(Fault::AcceptStatFour, Reading::Current.accept_stats()) => false,
+            15 if has(Fault::AuthFifteen, current) => true,
+            0 if has(Fault::AuthZeroRefused, current) => false,
+            6.. if has(Fault::AuthToFive, current) => false,
+            _ if has(Fault::AuthAllInCrate, older) => current.contains(&number),
+            _ => declared.contains(&number),
+        }
+    }
+
     fn union(&mut self, arms: &[(u32, &Shape)], undeclared: &Undeclared) -> Result<(), Refusal> {
         let first = self.at;
         let tag = self.number()?;
-        if let Some((_, arm)) = arms.iter().find(|(declared, _)| *declared == tag) {
-            self.write(tag);
+        if let Some((written, arm)) = self.arm(tag, arms) {
+            self.write(written);
             return self.shape(arm);
         }
         let refusal = Err(Refusal::undeclared(first));
@@ -235,6 +250,20 @@ impl Reader<'_> {
         self.plain = false;
         words.iter().for_each(|word| self.write(*word));
         Ok(())
+    }
+
+    /// What a tag is written as, and what it announces; none if it is not declared.
+    fn arm<'a>(&self, tag: u32, arms: &[(u32, &'a Shape)]) -> Option<(u32, &'a Shape)> {
+        // Of all unions only accept_body has as many arms as there are statuses: the planted faults are in it.
+        let reading = Reading::BOTH.into_iter().find(|reading| reading.accept_stats().len() == arms.len());
+        match (reading, tag) {
+            (Some(Reading::Crate), 5) if self.model.has(Fault::SystemErrInCrate) => Some((5, &NOTHING)),
+            (Some(Reading::Current), 5) if self.model.has(Fault::SystemErrGarbage) => None,
+            (Some(Reading::Current), 5) if self.model.has(Fault::SystemErrBehind) => Some((5, &TWO_WORDS)),
+            (Some(Reading::Current), 5) if self.model.has(Fault::SystemErrRewritten) => Some((4, &NOTHING)),
+            (Some(Reading::Current), 6) if self.model.has(Fault::StatusSixPlain) => Some((6, &NOTHING)),
+            _ => arms.iter().find(|(declared, _)| *declared == tag).copied(),
+        }
     }
 
     /// The results of a call: a status that is declared, and what it announces.

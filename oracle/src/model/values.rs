@@ -1,7 +1,7 @@
 //! The figures of single values, as include/yugerzat.h lists them, and the bytes that are written for them.
 use super::{word_at, Fault, Model};
 use crate::answers::{Refusal, Took, BOUND, WIDE_NUMBER};
-use crate::shapes::{kind, AUTH_UNIX};
+use crate::shapes::{kind, Reading, AUTH_UNIX};
 use crate::values::{Value, Writer};
 
 /// What a reading of one value gives: all figures of the function, and the largest length or count that was claimed.
@@ -48,10 +48,10 @@ impl Model {
 
     /// The figures of a value that was read at a place.
     fn figures(self, value: Value, message: &[u8], at: usize, took: &Took) -> Vec<u64> {
-        let plain = took.plain || (value == Value::Message && self.has(Fault::HeaderPlain));
+        let plain = took.plain || (matches!(value, Value::Message(_)) && self.has(Fault::HeaderPlain));
         let mut taken = Taken { model: self, message, at, figures: vec![took.next as u64, u64::from(plain)] };
         match value {
-            Value::Message => taken.message(),
+            Value::Message(reading) => taken.message(reading),
             Value::AuthUnix => taken.auth_unix(at),
             Value::Fattr3 => taken.fattr3(),
             Value::Sattr3 => taken.sattr3(),
@@ -66,7 +66,7 @@ impl Model {
         let mut written = Written { model: self, sources, fields, at: 0, bytes: Vec::new(), wide: false, outside: false };
         match writer {
             Writer::Call => written.call(),
-            Writer::Reply => written.reply(),
+            Writer::Reply(reading) => written.reply(reading),
             Writer::AuthUnix => written.auth_unix(),
             Writer::Fattr3 => written.fattr3(),
             Writer::Sattr3 => written.sattr3(),
@@ -123,7 +123,7 @@ impl Taken<'_> {
         self.at += (count as usize).next_multiple_of(4);
     }
 
-    fn message(&mut self) {
+    fn message(&mut self, reading: Reading) {
         self.words(1);
         match self.word() {
             0 => {
@@ -135,7 +135,7 @@ impl Taken<'_> {
                     self.figures[12] -= 4;
                 }
             },
-            1 => self.reply(),
+            1 => self.reply(reading),
             // A call of zeros, whose pieces are the empty ones at the start.
             _ if self.model.has(Fault::DefaultPlace) => {
                 let at = self.at as u64;
@@ -150,7 +150,7 @@ impl Taken<'_> {
         self.piece();
     }
 
-    fn reply(&mut self) {
+    fn reply(&mut self, reading: Reading) {
         let tag = self.word();
         if tag == 1 {
             let reason = self.word();
@@ -170,11 +170,20 @@ impl Taken<'_> {
         }
         self.auth();
         let status = self.word();
-        let highest = if self.model.has(Fault::AcceptStatKept) { u64::MAX } else { 4 };
-        self.figures.push(status.min(highest));
+        let is_told = self.model.has(Fault::AcceptStatKept) || is_in(status, self.accept_stats_told(reading));
+        self.figures.push(if is_told { status } else { 4 });
         if status == 2 {
             self.words(2);
         }
+    }
+
+    /// The statuses that are told as they came. All others are told as GARBAGE_ARGS, 4.
+    fn accept_stats_told(&self, reading: Reading) -> &'static [u32] {
+        let other = match reading {
+            Reading::Crate => self.model.has(Fault::CrateTellsFive),
+            Reading::Current => self.model.has(Fault::CurrentTellsFour),
+        };
+        if other { reading.other() } else { reading }.accept_stats()
     }
 
     fn auth_unix(&mut self, body: usize) {
@@ -243,6 +252,11 @@ impl Taken<'_> {
     }
 }
 
+/// Whether a field has one of these numbers.
+fn is_in(number: u64, declared: &[u32]) -> bool {
+    u32::try_from(number).is_ok_and(|number| declared.contains(&number))
+}
+
 /// Bytes that are written for fields; whether a number did not fit, and whether a piece was not inside.
 struct Written<'a> {
     model: Model,
@@ -280,9 +294,9 @@ impl Written<'_> {
     }
 
     /// A number of a closed enumeration.
-    fn declared(&mut self, declared: std::ops::Range<u64>) {
+    fn declared(&mut self, declared: &[u32]) {
         let number = self.next();
-        self.wide |= !declared.contains(&number) && !self.model.has(Fault::UndeclaredWritten);
+        self.wide |= !is_in(number, declared) && !self.model.has(Fault::UndeclaredWritten);
         self.put(number);
     }
 
@@ -319,17 +333,17 @@ impl Written<'_> {
         self.put(0);
         self.words(4);
         for source in [0, self.second_unless(Fault::VerifierFromFirst)] {
-            self.declared(0..4);
+            self.declared(&[0, 1, 2, 3]);
             self.piece(source, 1);
         }
     }
 
-    fn reply(&mut self) {
+    fn reply(&mut self, reading: Reading) {
         self.words(1);
         self.put(1);
         match self.next() {
-            0 if self.model.has(Fault::ReplyTakesCall) => self.accepted(),
-            1 => self.accepted(),
+            0 if self.model.has(Fault::ReplyTakesCall) => self.accepted(reading),
+            1 => self.accepted(reading),
             2 => {
                 self.put(1);
                 self.put(0);
@@ -338,18 +352,29 @@ impl Written<'_> {
             3 => {
                 self.put(1);
                 self.put(1);
-                self.declared(if self.model.has(Fault::ReplyReasonSix) { 1..7 } else { 1..6 });
+                self.declared(match reading {
+                    Reading::Crate if self.model.has(Fault::ReplyReasonSix) => &[1, 2, 3, 4, 5, 6],
+                    Reading::Current if self.model.has(Fault::ReplyReasonFive) => Reading::Crate.auth_stats(),
+                    _ => reading.auth_stats(),
+                });
             },
             _ => self.wide = true,
         }
     }
 
-    fn accepted(&mut self) {
+    fn accepted(&mut self, reading: Reading) {
         self.put(0);
-        self.declared(0..4);
+        self.declared(&[0, 1, 2, 3]);
         self.piece(0, 1);
         let status = self.fields[self.at];
-        self.declared(0..5);
+        self.declared(match reading {
+            Reading::Crate if self.model.has(Fault::ReplyTakesFive) => Reading::Current.accept_stats(),
+            _ => reading.accept_stats(),
+        });
+        if status == 5 && reading == Reading::Current && self.model.has(Fault::SystemErrWrittenFour) {
+            self.bytes.truncate(self.bytes.len() - 4);
+            self.put(4);
+        }
         if status == 2 {
             self.words(2);
         } else if status == 1 && self.model.has(Fault::ReplyLowAlways) {
@@ -372,7 +397,7 @@ impl Written<'_> {
     }
 
     fn fattr3(&mut self) {
-        self.declared(1..8);
+        self.declared(&[1, 2, 3, 4, 5, 6, 7]);
         self.words(4);
         self.hypers(2);
         self.words(2);
@@ -400,7 +425,7 @@ impl Written<'_> {
         }
         for _ in 0..2 {
             let how = self.fields[self.at];
-            self.declared(0..3);
+            self.declared(&[0, 1, 2]);
             if how == 2 {
                 self.words(2);
             } else {

@@ -1,13 +1,13 @@
 //! What the answers must be. The crate is asked wherever it can tell; the rules of docs/SCOPE.md (the bound, places past
 //! the end, room) stand in front of it; and the model fills in what the crate has no word for: the places of refusals and
-//! of pieces, how many bytes are wanting, and kinds that it lacks.
+//! of pieces, how many bytes are wanting, kinds that it lacks, and the current reading.
 mod values;
 
-use nfsserve::{Handler, Reading, Records, Wire};
+use nfsserve::{Handler, Records, Wire};
 
 use crate::answers::{Choice, Refusal, Took, Unwritten, Wrote, BOUND, REPLY};
 use crate::model::Model;
-use crate::shapes::{kind, KINDS, LACKED};
+use crate::shapes::{kind, Reading, KINDS, LACKED};
 use crate::tally::Judged;
 
 /// The crate allocates by the claimed length or count before it looks whether so much is there. Above this (and above
@@ -56,11 +56,11 @@ impl Truth {
         };
         if too_large(model.claim, source) {
             self.judged.unasked += 1;
-            return Err(placed(Reading::Short, model.answer.err()));
+            return Err(placed(nfsserve::Reading::Short, model.answer.err()));
         }
         self.judged.by_crate += 1;
         match nfsserve::read(number, &source[at..], &mut self.rewriting) {
-            Reading::Took(used) => Ok(self.took(source, at, at + used)),
+            nfsserve::Reading::Took(used) => Ok(self.took(source, at, at + used)),
             refused => Err(placed(refused, model.answer.err())),
         }
     }
@@ -72,8 +72,19 @@ impl Truth {
     }
 
     /// The answer of the choice of program, and what it leaves in `out`.
-    pub fn choose(&mut self, message: &[u8], seen: bool, out: &mut [u8]) -> Choice {
-        let model = Model::FAULTLESS.choose(message, seen, &mut []);
+    pub fn choose(&mut self, reading: Reading, message: &[u8], seen: bool, out: &mut [u8]) -> Choice {
+        match reading {
+            Reading::Crate => self.choose_by_crate(message, seen, out),
+            // The crate has no such choice.
+            Reading::Current => {
+                self.judged.by_model += 1;
+                Model::FAULTLESS.choose(reading, message, seen, out).choice
+            },
+        }
+    }
+
+    fn choose_by_crate(&mut self, message: &[u8], seen: bool, out: &mut [u8]) -> Choice {
+        let model = Model::FAULTLESS.choose(Reading::Crate, message, seen, &mut []);
         let refusal = match model.choice {
             Choice::Refused(refusal) => Some(refusal),
             _ => None,
@@ -83,7 +94,7 @@ impl Truth {
         }
         if too_large(model.claim, message) {
             self.judged.unasked += 1;
-            return Choice::Refused(placed(Reading::Short, refusal));
+            return Choice::Refused(placed(nfsserve::Reading::Short, refusal));
         }
         self.judged.by_crate += 1;
         let choice = self.wire.choose(message, seen, &mut self.reply);
@@ -159,10 +170,10 @@ fn too_large(claim: u32, source: &[u8]) -> bool {
 }
 
 /// The crate's refusal, with the place and the count that the model has for it. A model that refuses otherwise gives none.
-fn placed(refused: Reading, model: Option<Refusal>) -> Refusal {
+fn placed(refused: nfsserve::Reading, model: Option<Refusal>) -> Refusal {
     let number = match refused {
-        Reading::Short => 1,
-        Reading::Undeclared => 2,
+        nfsserve::Reading::Short => 1,
+        nfsserve::Reading::Undeclared => 2,
         other => panic!("docs/SCOPE.md has no refusal for the crate's answer {other:?}"),
     };
     let nowhere = Refusal { number, place: NO_PLACE, wanting: NO_PLACE as u64 };

@@ -1,11 +1,12 @@
 //! What the readers and writers of single values must answer. The crate holds the fields of what it took, and makes the
-//! bytes of what is written; the places of pieces are the model's, where the message has the crate's bytes there.
-use nfsserve::{Field, Reading};
+//! bytes of what is written; the places of pieces are the model's, where the message has the crate's bytes there. All of
+//! the current reading is the model's.
+use nfsserve::Field;
 
 use super::{placed, put, too_large, Truth, NO_PLACE};
 use crate::answers::{AuthUnix, Choice, Refusal, Unwritten, Wrote, BOUND, WIDE_NUMBER};
 use crate::model::Model;
-use crate::shapes::kind;
+use crate::shapes::{kind, Reading};
 use crate::values::{Value, Writer};
 
 impl Truth {
@@ -14,7 +15,11 @@ impl Truth {
         let took = self.read(kind(value.kind()).expect("the kind is known"), message, at)?;
         let model = Model::FAULTLESS.value(value, message, at).answer.ok();
         let mut figures = vec![took.next as u64, u64::from(took.plain)];
-        append(value, &message[at..], message, model.as_deref(), &mut figures);
+        if value == Value::Message(Reading::Current) {
+            figures.extend(&model.expect("the model took it")[2..]);
+        } else {
+            append(value, &message[at..], message, model.as_deref(), &mut figures);
+        }
         Ok(figures)
     }
 
@@ -30,13 +35,13 @@ impl Truth {
         };
         if too_large(model.claim, message) {
             self.judged.unasked += 1;
-            return Err(placed(Reading::Short, model.answer.err()));
+            return Err(placed(nfsserve::Reading::Short, model.answer.err()));
         }
         let kind = kind(Value::AuthUnix.kind()).expect("the kind is known");
         let number = self.in_crate[kind].expect("the crate has it");
         self.judged.by_crate += 1;
         match nfsserve::read(number, body, &mut self.rewriting) {
-            Reading::Took(used) => {
+            nfsserve::Reading::Took(used) => {
                 let plain = body[..used] == self.rewriting;
                 let mut figures = vec![(at + used) as u64, u64::from(plain)];
                 append(Value::AuthUnix, body, message, model.answer.ok().as_deref(), &mut figures);
@@ -46,10 +51,18 @@ impl Truth {
         }
     }
 
-    /// The answer of a writer, and what it leaves in `out`. `fields` are enough. 253 where the crate's types cannot hold
-    /// them.
+    /// The answer of a writer, and what it leaves in `out`. `fields` are enough. 253 where the crate's types, or those of the
+    /// current reading, cannot hold them.
     pub fn write(&mut self, writer: Writer, sources: [&[u8]; 2], fields: &[u64], out: &mut [u8], start: usize) -> Wrote {
         let refused = |number| Err(Unwritten::plain(number));
+        if writer == Writer::Reply(Reading::Current) {
+            return match Model::FAULTLESS.written(writer, sources, fields) {
+                Err(WIDE_NUMBER) => refused(WIDE_NUMBER),
+                _ if start > out.len() => refused(9),
+                Err(number) => refused(number),
+                Ok(bytes) => put(&bytes, out, start),
+            };
+        }
         let (held, all_inside) = held(writer, sources, fields);
         let Some(bytes) = nfsserve::written(writer.name(), &held) else { return refused(WIDE_NUMBER) };
         if start > out.len() {
@@ -84,7 +97,7 @@ pub(super) fn auth_unix(bytes: &[u8], message: &[u8], model: &Choice) -> AuthUni
 fn held(writer: Writer, sources: [&[u8]; 2], fields: &[u64]) -> (Vec<Field>, bool) {
     let (mut held, mut all_inside, mut at) = (Vec::new(), true, 0);
     // Only an accepted reply has a verifier; where there is none, these two fields are numbers as all others.
-    let has_pieces = writer != Writer::Reply || fields[1] == 1;
+    let has_pieces = !matches!(writer, Writer::Reply(_)) || fields[1] == 1;
     while at < writer.fields() {
         let Some(piece) = writer.pieces().iter().find(|piece| piece.at == at && has_pieces) else {
             held.push(Field::Number(fields[at]));
