@@ -27,8 +27,8 @@ fn link() -> Result<(), String> {
     if !bytes.starts_with(b"!<arch>\n") {
         return Err(format!("{} is no static library", archive.display()));
     }
-    // This name is new in version 0.2.0. In older archives some functions have the same names and other parameters.
-    let name = b"yugerzat_rewrite";
+    // The newest function. Older archives lack it, and kinds; in the oldest, functions have other parameters.
+    let name = b"yugerzat_current_choose";
     if !bytes.windows(name.len()).any(|bytes| bytes == name) {
         return Err(format!("{} is not the library of version {}", archive.display(), cargo("CARGO_PKG_VERSION")?));
     }

@@ -7,18 +7,21 @@
 //! 2: 84 bytes, plain: call 2 of nfs 3 LOOKUP, cred AUTH_UNIX uid 1000 gid 100
 //! 3: 84 bytes, loose (the credential): call 3 of nfs 3 LOOKUP, cred AUTH_UNIX uid 1000 gid 100
 //! 4: 24 bytes, loose (the header): reply 3, accepted: GarbageArgs
-//! 5: 20 bytes, plain: reply 4, denied: AuthError(TooWeak)
-//! 6: 40 bytes, refused: refusal 2 at place 24: a number that must be declared is not
-//! 7: 12 bytes, refused: refusal 1 at place 12: the message ends inside an item, 4 bytes are wanting
+//! 5: 24 bytes, plain: reply 4, accepted: SystemErr
+//! 6: 20 bytes, plain: reply 5, denied: AuthError(TooWeak)
+//! 7: 40 bytes, refused: refusal 2 at place 24: a number that must be declared is not
+//! 8: 12 bytes, refused: refusal 1 at place 12: the message ends inside an item, 4 bytes are wanting
 //! the stream ends inside a record, after 3 bytes of it; 5 more are wanting
 //! ```
 //!
-//! A record is plain here if its header and its `AUTH_UNIX` credential are; arguments and results are not looked at.
+//! A record is plain here if its header and its `AUTH_UNIX` credential are; arguments and results are not looked at. Replies
+//! are read as RFC 5531 has them, in the current reading: in nfsserve's, the fifth record would say `GarbageArgs` too.
 use std::fs::File;
 use std::io::{self, BufReader, Read, Write};
 use std::process::ExitCode;
 
-use yugerzat::{AuthFlavor, AuthUnix, Body, Call, Message, Records, Refusal, Reply};
+use yugerzat::current::{Body, Message, Reply};
+use yugerzat::{AuthFlavor, AuthUnix, Call, Records, Refusal};
 
 /// The procedures of NFS version 3 (RFC 1813, section 3.3).
 const NFS3: [&str; 22] = [

@@ -2,7 +2,7 @@
 use std::vec::Vec;
 
 use crate::{
-    judge, rewrite, write_fragment, Arguments, AuthUnix, Call, Diropargs3, Fattr3, Getattr3args, Getattr3res, Kind,
+    current, judge, rewrite, write_fragment, Arguments, AuthUnix, Call, Diropargs3, Fattr3, Getattr3args, Getattr3res, Kind,
     Lookup3args, Lookup3res, Message, Read3args, Read3res, Refusal, Reply, Results, Rewritten, Sattr3, Setattr3args,
     Setattr3res, Write3args, Write3res,
 };
@@ -46,6 +46,7 @@ appending! {
     Diropargs3<'_>: "`TooLong`: the handle, the name or the whole.";
     AuthUnix<'_>: "`TooLong`: the name, the groups or the whole.";
     Message<'_>: "`TooLong`: a body or the whole.";
+    current::Message<'_>: "`TooLong`: a body or the whole.";
     Getattr3args<'_>: "`TooLong`: the handle or the whole.";
     Getattr3res: "None in practice: there is always room.";
     Setattr3args<'_>: "`TooLong`: the handle or the whole.";
@@ -81,16 +82,22 @@ impl Call<'_> {
     }
 }
 
-impl Reply<'_> {
-    /// Appends an `rpc_msg` with this reply to `out`; the results of a `Success` go behind it. A refusal leaves `out` as it
-    /// was.
-    ///
-    /// # Errors
-    /// `TooLong`: the verifier's body or the whole.
-    pub fn append(&self, xid: u32, out: &mut Vec<u8>) -> Result<(), Refusal> {
-        append(out, |room| self.write(xid, room, 0))
-    }
+/// Replies of both readings.
+macro_rules! appending_replies {
+    ($($type:ty),*) => { $(
+        impl $type {
+            /// Appends an `rpc_msg` with this reply to `out`; the results of a `Success` go behind it. A refusal leaves
+            /// `out` as it was.
+            ///
+            /// # Errors
+            /// `TooLong`: the verifier's body or the whole.
+            pub fn append(&self, xid: u32, out: &mut Vec<u8>) -> Result<(), Refusal> {
+                append(out, |room| self.write(xid, room, 0))
+            }
+        }
+    )* };
 }
+appending_replies!(Reply<'_>, current::Reply<'_>);
 
 /// Reads a message of a kind from place `at` of `bytes`, and appends it to `out` in published form; as [`rewrite`], which
 /// has more about it. A refusal leaves `out` as it was.

@@ -23,7 +23,8 @@ pub enum Choice<'a> {
     Silence,
 }
 
-/// Chooses what to do with a message. `seen` says whether the call came before.
+/// Chooses what to do with a message. `seen` says whether the call came before. [`current::choose`](crate::current::choose)
+/// is the same for a server that names the RPC version it serves.
 ///
 /// ```
 /// use yugerzat::{choose, Choice};
@@ -41,9 +42,18 @@ pub enum Choice<'a> {
 /// credential's body, and more bytes behind the message do not help; [`Message::read`](crate::Message::read) tells them
 /// apart, since it takes a message whose credential ends too soon.
 pub fn choose(message: &[u8], seen: bool) -> Result<Choice<'_>, Refusal> {
+    choose_by(sys::choose, message, seen)
+}
+
+/// Chooses by a function of the library, in whichever reading it is.
+pub(crate) fn choose_by(
+    choose: impl Fn(&[u8], bool, &mut [u8], &mut [u64]) -> u32,
+    message: &[u8],
+    seen: bool,
+) -> Result<Choice<'_>, Refusal> {
     let mut reply = [0; 24];
     let mut info = [0; figures::CHOOSE];
-    let answer = sys::choose(message, seen, &mut reply, &mut info);
+    let answer = choose(message, seen, &mut reply, &mut info);
     let choice = match answer {
         answer::HAND_OVER => hand_over(message, &info),
         answer::REPLY if info[figure::CHOOSE_REPLY_LENGTH] == 24 => Some(Choice::Reply(reply)),

@@ -7,7 +7,8 @@ use crate::{sys, Refusal};
 
 macro_rules! kinds {
     ($($kind:ident $name:literal,)*) => {
-        /// A kind of message, under the name of its RFC. More may be added.
+        /// A kind of message, under the name of its RFC. More may be added. Those whose names begin with `Current` are of
+        /// the [current reading](crate::current) of replies.
         ///
         /// ```
         /// use yugerzat::Kind;
@@ -32,7 +33,7 @@ macro_rules! kinds {
             /// In the order of their numbers.
             const ALL: [Kind; [$($name),*].len()] = [$(Kind::$kind),*];
 
-            /// The name that the RFC and the crate nfsserve have for it.
+            /// The name that the RFC and the crate nfsserve have for it, with `current_` before it in the current reading.
             #[must_use]
             pub const fn name(self) -> &'static str {
                 match self {
@@ -105,6 +106,14 @@ kinds! {
     Read3res "read3res",
     Write3args "write3args",
     Write3res "write3res",
+    CurrentAcceptStat "current_accept_stat",
+    CurrentAuthStat "current_auth_stat",
+    CurrentAcceptBody "current_accept_body",
+    CurrentAcceptedReply "current_accepted_reply",
+    CurrentRejectedReply "current_rejected_reply",
+    CurrentReplyBody "current_reply_body",
+    CurrentRpcBody "current_rpc_body",
+    CurrentRpcMsg "current_rpc_msg",
 }
 // end of kinds
 

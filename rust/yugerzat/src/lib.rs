@@ -43,6 +43,7 @@
 //! | a stream of records | `Records`, or [`Assembler`] where you read yourself |
 //! | a message of any [kind](Kind) | [`judge`]: is it plain? [`rewrite`]: what is its published form? |
 //! | a call or a reply | [`Message::read`], then [`AuthUnix::read`] for the caller |
+//! | a reply, and you look for the cause | [`current::Message::read`]: [two readings](#two-readings-of-replies) |
 //! | a [procedure](Procedure)'s arguments or results | [`Arguments`], [`Results`], or the one type: [`Setattr3args`] |
 //! | attributes, a change, a name in a directory | [`Fattr3`], [`Sattr3`], [`Diropargs3`] |
 //! | a call to be served | [`choose`]: hand it over, answer it, or keep silent |
@@ -87,6 +88,34 @@
 //! The folder `examples/` has such a relay, a program that judges a stream, and one that passes on a SETATTR of the old
 //! client, and says what it sets.
 //!
+//! # Two readings of replies
+//!
+//! nfsserve's lists of two numbers in a reply are older than RFC 5531's: it takes an accept status of 5, `SYSTEM_ERR`, for
+//! `GARBAGE_ARGS`, and of the fifteen `auth_stat`s it takes 1 to 5 and no others. The types and functions at the top of this
+//! crate do as nfsserve does. Those of the module [`current`] have the RFC's lists, and [`current::choose`] names RPC version
+//! 2 in its reply to a call of another, where nfsserve has 0.
+//!
+//! If you must answer just as nfsserve does, use those at the top. If you pass replies on, or look for the cause of a
+//! failure, use [`current`]: the server's failed disk is then not taken for your mistake.
+//!
+//! ```
+//! use yugerzat::{current, AcceptStat, Auth, Body, Message, Reply};
+//!
+//! // xid 42, REPLY, MSG_ACCEPTED, AUTH_NULL, no body, and status 5
+//! let came = [0, 0, 0, 42, 0, 0, 0, 1, 0, 0, 0, 0, 0, 0, 0, 0, 0, 0, 0, 0, 0, 0, 0, 5];
+//! let verf = Auth::default();
+//!
+//! let read = Message::read(&came, 0)?;
+//! assert_eq!(read.value.body, Body::Reply(Reply::Accepted { verf, stat: AcceptStat::GarbageArgs }));
+//! assert!(!read.plain);
+//!
+//! let read = current::Message::read(&came, 0)?;
+//! let stat = current::AcceptStat::SystemErr;
+//! assert_eq!(read.value.body, current::Body::Reply(current::Reply::Accepted { verf, stat }));
+//! assert!(read.plain);
+//! # Ok::<(), yugerzat::Refusal>(())
+//! ```
+//!
 //! # What plain does not say
 //!
 //! **Plain is not "what a strict server takes".** No upper bounds are held against a message, as nfsserve has none: a
@@ -102,8 +131,8 @@
 //!
 //! # Limits
 //!
-//! A message has at most [`LIMIT`] bytes. Credentials of flavors above 3 are refused, `RPCSEC_GSS` among them, and so are
-//! `auth_stat`s above 5, because nfsserve does not know them.
+//! A message has at most [`LIMIT`] bytes. Credentials of flavors above 3 are refused, `RPCSEC_GSS` among them, because
+//! nfsserve does not know them. So are `auth_stat`s other than 1 to 5; the [`current`] reading has 0 to 14.
 //!
 //! # What is promised
 //!
@@ -144,6 +173,7 @@ compile_error!("the library is built for machines with 64-bit addresses");
 mod append;
 mod attributes;
 mod choice;
+pub mod current;
 mod kind;
 mod message;
 mod names;

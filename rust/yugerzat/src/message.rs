@@ -1,5 +1,5 @@
-use crate::names::{figure, figures, tag};
-use crate::{part, reading, sys, written, Reading, Refusal, Words};
+use crate::names::{figure, figures};
+use crate::{current, part, reading, sys, written, Reading, Refusal, Words};
 
 /// The flavor of a credential or verifier. Others are refused ([`Undeclared`](Refusal::Undeclared)), `RPCSEC_GSS` among
 /// them.
@@ -36,7 +36,7 @@ pub struct Auth<'a> {
 }
 
 impl<'a> Auth<'a> {
-    fn of(bytes: &'a [u8], flavor: u64, at: u64, count: u64) -> Option<Auth<'a>> {
+    pub(crate) fn of(bytes: &'a [u8], flavor: u64, at: u64, count: u64) -> Option<Auth<'a>> {
         Some(Auth { flavor: AuthFlavor::of(flavor)?, body: part(bytes, at, count)? })
     }
 }
@@ -85,7 +85,8 @@ impl Call<'_> {
     }
 }
 
-/// What became of an accepted call: `accept_stat`, with the versions where it has them.
+/// What became of an accepted call: `accept_stat`, with the versions where it has them. A status above 4 is read as
+/// `GarbageArgs`; [`current::AcceptStat`] has `SystemErr`.
 #[allow(missing_docs)]
 #[derive(Clone, Copy, Debug, PartialEq, Eq, Hash)]
 pub enum AcceptStat {
@@ -96,31 +97,8 @@ pub enum AcceptStat {
     GarbageArgs,
 }
 
-impl AcceptStat {
-    fn of(number: u64, low: u64, high: u64) -> Option<AcceptStat> {
-        Some(match number {
-            0 => AcceptStat::Success,
-            1 => AcceptStat::ProgUnavail,
-            2 => AcceptStat::ProgMismatch { low: low as u32, high: high as u32 },
-            3 => AcceptStat::ProcUnavail,
-            4 => AcceptStat::GarbageArgs,
-            _ => return None,
-        })
-    }
-
-    /// The number, and the versions or zeros.
-    fn figures(self) -> [u64; 3] {
-        match self {
-            AcceptStat::Success => [0; 3],
-            AcceptStat::ProgUnavail => [1, 0, 0],
-            AcceptStat::ProgMismatch { low, high } => [2, low.into(), high.into()],
-            AcceptStat::ProcUnavail => [3, 0, 0],
-            AcceptStat::GarbageArgs => [4, 0, 0],
-        }
-    }
-}
-
-/// Why authentication failed: `auth_stat`.
+/// Why authentication failed: `auth_stat`. Others are refused ([`Undeclared`](Refusal::Undeclared));
+/// [`current::AuthStat`] has all of RFC 5531's.
 #[allow(missing_docs)]
 #[derive(Clone, Copy, Debug, PartialEq, Eq, Hash)]
 #[repr(u32)]
@@ -130,19 +108,6 @@ pub enum AuthStat {
     BadVerf = 3,
     RejectedVerf = 4,
     TooWeak = 5,
-}
-
-impl AuthStat {
-    fn of(number: u64) -> Option<AuthStat> {
-        Some(match number {
-            1 => AuthStat::BadCred,
-            2 => AuthStat::RejectedCred,
-            3 => AuthStat::BadVerf,
-            4 => AuthStat::RejectedVerf,
-            5 => AuthStat::TooWeak,
-            _ => return None,
-        })
-    }
 }
 
 /// The header of a reply, without its xid: `reply_body`.
@@ -184,32 +149,7 @@ impl Reply<'_> {
     /// # Errors
     /// `PastEnd`, `TooLong` (the verifier's body or the whole) and `NoRoom`.
     pub fn write(&self, xid: u32, out: &mut [u8], start: usize) -> Result<usize, Refusal> {
-        let mut list = [0; figure::FIELDS + figures::WRITE_REPLY];
-        list[figure::RPC_MSG_XID] = xid.into();
-        let mut body: &[u8] = &[];
-        match *self {
-            Reply::Accepted { verf, stat } => {
-                body = verf.body;
-                let [number, low, high] = stat.figures();
-                list[figure::RPC_MSG_TAG] = tag::ACCEPTED;
-                list[figure::RPC_MSG_ACCEPTED_VERF_FLAVOR] = verf.flavor as u64;
-                list[figure::RPC_MSG_ACCEPTED_VERF_COUNT] = verf.body.len() as u64;
-                list[figure::RPC_MSG_ACCEPTED_STAT] = number;
-                list[figure::RPC_MSG_ACCEPTED_LOW] = low;
-                list[figure::RPC_MSG_ACCEPTED_HIGH] = high;
-            },
-            Reply::RpcMismatch { low, high } => {
-                list[figure::RPC_MSG_TAG] = tag::DENIED_VERSION;
-                list[figure::RPC_MSG_DENIED_LOW] = low.into();
-                list[figure::RPC_MSG_DENIED_HIGH] = high.into();
-            },
-            Reply::AuthError(why) => {
-                list[figure::RPC_MSG_TAG] = tag::DENIED_AUTH;
-                list[figure::RPC_MSG_DENIED_AUTH_STAT] = why as u64;
-            },
-        }
-        let mut info = [0; figures::WRITTEN];
-        written(sys::write_reply(body, &list[figure::FIELDS..], out, start, &mut info), info)
+        current::Reply::from(*self).write_by(sys::write_reply, xid, out, start)
     }
 }
 
@@ -250,9 +190,7 @@ impl<'a> Message<'a> {
     /// # Errors
     /// `Ends`, `Undeclared`, `TooLong` and `PastEnd`.
     pub fn read(bytes: &'a [u8], at: usize) -> Result<Reading<Message<'a>>, Refusal> {
-        let mut info = [0; figures::RPC_MSG];
-        let answer = sys::read_rpc_msg(bytes, at, &mut info);
-        reading(answer, &info, || Some(Message { xid: info[figure::RPC_MSG_XID] as u32, body: Body::of(bytes, &info)? }))
+        current::Message::read_by(sys::read_rpc_msg, bytes, at)
     }
 
     /// Writes from place `start` of `out`, and gives the place after it; as [`Call::write`] and [`Reply::write`].
@@ -264,41 +202,6 @@ impl<'a> Message<'a> {
             Body::Call(call) => call.write(self.xid, out, start),
             Body::Reply(reply) => reply.write(self.xid, out, start),
         }
-    }
-}
-
-impl<'a> Body<'a> {
-    fn of(bytes: &'a [u8], info: &[u64; figures::RPC_MSG]) -> Option<Body<'a>> {
-        let word = |place: usize| info[place] as u32;
-        let auth = |flavor: usize, at: usize, count: usize| Auth::of(bytes, info[flavor], info[at], info[count]);
-        Some(match info[figure::RPC_MSG_TAG] {
-            tag::CALL => Body::Call(Call {
-                rpcvers: word(figure::RPC_MSG_CALL_RPCVERS),
-                prog: word(figure::RPC_MSG_CALL_PROG),
-                vers: word(figure::RPC_MSG_CALL_VERS),
-                proc: word(figure::RPC_MSG_CALL_PROC),
-                cred: auth(figure::RPC_MSG_CALL_CRED_FLAVOR, figure::RPC_MSG_CALL_CRED_AT, figure::RPC_MSG_CALL_CRED_COUNT)?,
-                verf: auth(figure::RPC_MSG_CALL_VERF_FLAVOR, figure::RPC_MSG_CALL_VERF_AT, figure::RPC_MSG_CALL_VERF_COUNT)?,
-            }),
-            tag::ACCEPTED => Body::Reply(Reply::Accepted {
-                verf: auth(
-                    figure::RPC_MSG_ACCEPTED_VERF_FLAVOR,
-                    figure::RPC_MSG_ACCEPTED_VERF_AT,
-                    figure::RPC_MSG_ACCEPTED_VERF_COUNT,
-                )?,
-                stat: AcceptStat::of(
-                    info[figure::RPC_MSG_ACCEPTED_STAT],
-                    info[figure::RPC_MSG_ACCEPTED_LOW],
-                    info[figure::RPC_MSG_ACCEPTED_HIGH],
-                )?,
-            }),
-            tag::DENIED_VERSION => Body::Reply(Reply::RpcMismatch {
-                low: word(figure::RPC_MSG_DENIED_LOW),
-                high: word(figure::RPC_MSG_DENIED_HIGH),
-            }),
-            tag::DENIED_AUTH => Body::Reply(Reply::AuthError(AuthStat::of(info[figure::RPC_MSG_DENIED_AUTH_STAT])?)),
-            _ => return None,
-        })
     }
 }
 

@@ -187,7 +187,7 @@ mod tests {
     use std::{format, println};
 
     use super::{answer, figure, figures, tag};
-    use crate::{AuthFlavor, AuthStat, Fattr3, Ftype3, Kind, Nfsfail3, Procedure, StableHow, LIMIT};
+    use crate::{current, AuthFlavor, AuthStat, Fattr3, Ftype3, Kind, Nfsfail3, Procedure, StableHow, LIMIT};
 
     /// The headers without their comments.
     fn headers() -> String {
@@ -251,6 +251,27 @@ mod tests {
         due("YUGERZAT_AUTH_BADVERF", AuthStat::BadVerf as u64);
         due("YUGERZAT_AUTH_REJECTEDVERF", AuthStat::RejectedVerf as u64);
         due("YUGERZAT_AUTH_TOOWEAK", AuthStat::TooWeak as u64);
+        due("YUGERZAT_SUCCESS", current::AcceptStat::Success.figures()[0]);
+        due("YUGERZAT_PROG_UNAVAIL", current::AcceptStat::ProgUnavail.figures()[0]);
+        due("YUGERZAT_PROG_MISMATCH", current::AcceptStat::ProgMismatch { low: 7, high: 8 }.figures()[0]);
+        due("YUGERZAT_PROC_UNAVAIL", current::AcceptStat::ProcUnavail.figures()[0]);
+        due("YUGERZAT_GARBAGE_ARGS", current::AcceptStat::GarbageArgs.figures()[0]);
+        due("YUGERZAT_SYSTEM_ERR", current::AcceptStat::SystemErr.figures()[0]);
+        due("YUGERZAT_AUTH_OK", current::AuthStat::Ok as u64);
+        due("YUGERZAT_AUTH_BADCRED", current::AuthStat::BadCred as u64);
+        due("YUGERZAT_AUTH_REJECTEDCRED", current::AuthStat::RejectedCred as u64);
+        due("YUGERZAT_AUTH_BADVERF", current::AuthStat::BadVerf as u64);
+        due("YUGERZAT_AUTH_REJECTEDVERF", current::AuthStat::RejectedVerf as u64);
+        due("YUGERZAT_AUTH_TOOWEAK", current::AuthStat::TooWeak as u64);
+        due("YUGERZAT_AUTH_INVALIDRESP", current::AuthStat::InvalidResp as u64);
+        due("YUGERZAT_AUTH_FAILED", current::AuthStat::Failed as u64);
+        due("YUGERZAT_AUTH_KERB_GENERIC", current::AuthStat::KerbGeneric as u64);
+        due("YUGERZAT_AUTH_TIMEEXPIRE", current::AuthStat::TimeExpire as u64);
+        due("YUGERZAT_AUTH_TKT_FILE", current::AuthStat::TktFile as u64);
+        due("YUGERZAT_AUTH_DECODE", current::AuthStat::Decode as u64);
+        due("YUGERZAT_AUTH_NET_ADDR", current::AuthStat::NetAddr as u64);
+        due("YUGERZAT_RPCSEC_GSS_CREDPROBLEM", current::AuthStat::RpcsecGssCredProblem as u64);
+        due("YUGERZAT_RPCSEC_GSS_CTXPROBLEM", current::AuthStat::RpcsecGssCtxProblem as u64);
         due("YUGERZAT_NF3REG", Ftype3::Reg as u64);
         due("YUGERZAT_NF3DIR", Ftype3::Dir as u64);
         due("YUGERZAT_NF3BLK", Ftype3::Blk as u64);
@@ -295,7 +316,7 @@ mod tests {
             assert!(here.map(|(_, rust)| rust).eq(there.map(type_of)), "{name}");
             seen += 1;
         }
-        assert_eq!(seen, 16);
+        assert_eq!(seen, 19);
         println!("{seen} functions have the parameters of the headers");
     }
 }

@@ -22,6 +22,13 @@ mod raw {
             info: *mut u64,
             info_len: usize,
         ) -> u32;
+        pub fn yugerzat_read_current_rpc_msg(
+            message: *const u8,
+            message_len: usize,
+            at: usize,
+            info: *mut u64,
+            info_len: usize,
+        ) -> u32;
         pub fn yugerzat_write_call(
             cred_source: *const u8,
             cred_source_len: usize,
@@ -36,6 +43,17 @@ mod raw {
             info_len: usize,
         ) -> u32;
         pub fn yugerzat_write_reply(
+            source: *const u8,
+            source_len: usize,
+            fields: *const u64,
+            fields_len: usize,
+            out: *mut u8,
+            out_len: usize,
+            start: usize,
+            info: *mut u64,
+            info_len: usize,
+        ) -> u32;
+        pub fn yugerzat_write_current_reply(
             source: *const u8,
             source_len: usize,
             fields: *const u64,
@@ -129,6 +147,15 @@ mod raw {
             info: *mut u64,
             info_len: usize,
         ) -> u32;
+        pub fn yugerzat_current_choose(
+            message: *const u8,
+            message_len: usize,
+            seen: u32,
+            out: *mut u8,
+            out_len: usize,
+            info: *mut u64,
+            info_len: usize,
+        ) -> u32;
     }
 }
 
@@ -146,6 +173,7 @@ macro_rules! readers {
 }
 readers! {
     read_rpc_msg over yugerzat_read_rpc_msg;
+    read_current_rpc_msg over yugerzat_read_current_rpc_msg;
     read_fattr3 over yugerzat_read_fattr3;
     read_sattr3 over yugerzat_read_sattr3;
     read_diropargs3 over yugerzat_read_diropargs3;
@@ -170,6 +198,7 @@ writers! {
     write_diropargs3(dir, name) over yugerzat_write_diropargs3;
     write_call(cred, verf) over yugerzat_write_call;
     write_reply(verf) over yugerzat_write_reply;
+    write_current_reply(verf) over yugerzat_write_current_reply;
     write_auth_unix(name, gids) over yugerzat_write_auth_unix;
 }
 
@@ -188,18 +217,22 @@ pub fn read_auth_unix(body: &[u8], info: &mut [u64]) -> u32 {
     unsafe { raw::yugerzat_read_auth_unix(body.as_ptr(), body.len(), 0, body.len(), info.as_mut_ptr(), info.len()) }
 }
 
-pub fn choose(message: &[u8], seen: bool, out: &mut [u8], info: &mut [u64]) -> u32 {
-    unsafe {
-        raw::yugerzat_choose(
-            message.as_ptr(),
-            message.len(),
-            u32::from(seen),
-            out.as_mut_ptr(),
-            out.len(),
-            info.as_mut_ptr(),
-            info.len(),
-        )
-    }
+/// Choices of program, in each reading of replies.
+macro_rules! choices {
+    ($($name:ident over $raw:ident;)*) => { $(
+        pub fn $name(message: &[u8], seen: bool, out: &mut [u8], info: &mut [u64]) -> u32 {
+            unsafe {
+                raw::$raw(
+                    message.as_ptr(), message.len(), u32::from(seen),
+                    out.as_mut_ptr(), out.len(), info.as_mut_ptr(), info.len(),
+                )
+            }
+        }
+    )* };
+}
+choices! {
+    choose over yugerzat_choose;
+    current_choose over yugerzat_current_choose;
 }
 
 pub fn feed(state: &mut [u64], run: &[u8], buf: &mut [u8], info: &mut [u64]) -> u32 {

@@ -46,7 +46,7 @@ macro_rules! values {
         }
     )* };
 }
-values!(Fattr3, Sattr3, Diropargs3<'_>, AuthUnix<'_>, Message<'_>);
+values!(Fattr3, Sattr3, Diropargs3<'_>, AuthUnix<'_>, Message<'_>, current::Message<'_>);
 
 /// Compares a value's reading and writing with judging and rewriting, in one round.
 fn agree<T: Value>(kind: Kind, message: &[u8], at: usize, read: Result<Reading<T>, Refusal>) -> bool {
@@ -118,6 +118,74 @@ fn messages_agree() {
     });
     println!("{replies} of these were replies");
     assert!(replies > 1000 && taken - replies > 1000);
+}
+
+/// The message, with the body tag of a reply.
+fn reply(message: &[u8], at: usize) -> Vec<u8> {
+    let mut message = message.to_vec();
+    if let Some(tag) = message.get_mut(at + 4..at + 8) {
+        tag.copy_from_slice(&[0, 0, 0, 1]);
+    }
+    message
+}
+
+#[test]
+fn current_messages_agree() {
+    let mut new = 0;
+    let taken = rounds(|message, at| {
+        let reply = reply(message, at);
+        let read = current::Message::read(&reply, at);
+        new += u32::from(matches!(read, Ok(read) if Message::try_from(read.value).is_err()));
+        agree(Kind::CurrentRpcMsg, &reply, at, read);
+        agree(Kind::CurrentRpcMsg, message, at, current::Message::read(message, at))
+    });
+    println!("{new} of these have a case of the current reading alone");
+    assert!(new > 1000 && taken > 1000);
+}
+
+/// What nfsserve's reading is, where the current one of that place is known.
+fn elder(read: Reading<current::Message<'_>>, at: usize) -> Result<Reading<Message<'_>>, Refusal> {
+    let Reading { value, next, plain } = read;
+    match (Message::try_from(value), value.body) {
+        (Ok(value), _) => Ok(Reading { value, next, plain }),
+        (_, current::Body::Reply(current::Reply::Accepted { verf, stat: current::AcceptStat::SystemErr })) => {
+            let body = Body::Reply(Reply::Accepted { verf, stat: AcceptStat::GarbageArgs });
+            Ok(Reading { value: Message { xid: value.xid, body }, next, plain: false })
+        },
+        (_, current::Body::Reply(current::Reply::AuthError(_))) => Err(Refusal::Undeclared { place: at + 16 }),
+        (_, body) => panic!("nfsserve has {body:?}"),
+    }
+}
+
+/// The two readings, and the two choices, differ by the lists, and by nothing else.
+#[test]
+fn readings_agree_but_for_the_lists() {
+    let (mut statuses, mut numbers, mut versions) = (0, 0, 0);
+    rounds(|message, at| {
+        for message in [message, &reply(message, at)] {
+            let read = current::Message::read(message, at);
+            let due = read.and_then(|read| elder(read, at));
+            assert_eq!(Message::read(message, at), due, "{message:02x?} {at}");
+            statuses += u32::from(due.is_ok() && matches!(read, Ok(read) if Message::try_from(read.value).is_err()));
+            numbers += u32::from(due.is_err() && read.is_ok());
+
+            let (from, seen) = (&message[at.min(message.len())..], at % 2 == 1);
+            let (mut choice, read) = (current::choose(from, seen), current::Message::read(from, 0));
+            match (&mut choice, read.and_then(|read| elder(read, 0))) {
+                (Err(Refusal::ReplyCame), Err(refusal)) => choice = Err(refusal),
+                // MSG_DENIED, RPC_MISMATCH, 2, 2
+                (Ok(Choice::Reply(reply)), _) if reply[8..] == [0, 0, 0, 1, 0, 0, 0, 0, 0, 0, 0, 2, 0, 0, 0, 2] => {
+                    reply[16..].fill(0);
+                    versions += 1;
+                },
+                _ => {},
+            }
+            assert_eq!(choose(from, seen), choice, "{from:02x?}");
+        }
+        true
+    });
+    println!("{statuses} statuses, {numbers} authentication numbers and {versions} versions differ");
+    assert!(statuses > 200 && numbers > 1000 && versions > 1000);
 }
 
 #[test]

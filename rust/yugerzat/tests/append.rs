@@ -38,6 +38,7 @@ fn values_are_appended_as_they_are_written() {
     let verf = Auth { flavor: AuthFlavor::Short, body: &[9; 5] };
     let call = Call { rpcvers: 2, prog: 100_003, vers: 3, proc: 6, cred: verf, verf };
     let reply = Reply::Accepted { verf, stat: AcceptStat::ProgMismatch { low: 2, high: 4 } };
+    let failed = current::Reply::Accepted { verf, stat: current::AcceptStat::SystemErr };
     let name = Diropargs3 { dir: &[1; 7], name: b"notes" };
     let change = Sattr3 { size: Some(9), atime: SetTime::ToServerTime, ..Sattr3::default() };
     let attributes = Fattr3::read(&words(&[2, 1, 2, 3, 4, 5, 6, 7, 8, 9, 10, 11, 12, 13, 14, 15, 16, 17, 18, 19, 20]), 0);
@@ -50,6 +51,11 @@ fn values_are_appended_as_they_are_written() {
     appends(|out| reply.append(42, out), |out, start| reply.write(42, out, start));
     for body in [Body::Call(call), Body::Reply(reply)] {
         let message = Message { xid: 42, body };
+        appends(|out| message.append(out), |out, start| message.write(out, start));
+    }
+    appends(|out| failed.append(42, out), |out, start| failed.write(42, out, start));
+    for body in [current::Body::Call(call), current::Body::Reply(failed)] {
+        let message = current::Message { xid: 42, body };
         appends(|out| message.append(out), |out, start| message.write(out, start));
     }
     let failed = Read3res::Failed(Nfsfail3::Io, Read3resfail { file_attributes: Some(attributes) });
@@ -106,6 +112,9 @@ fn what_is_too_long_leaves_a_vector_as_it_was() {
     refuses(|out| Call { verf, ..Call::default() }.append(42, out));
     refuses(|out| Reply::Accepted { verf, stat: AcceptStat::Success }.append(42, out));
     refuses(|out| Message { xid: 42, body: Body::Call(Call { verf, ..Call::default() }) }.append(out));
+    let failed = current::Reply::Accepted { verf, stat: current::AcceptStat::SystemErr };
+    refuses(|out| failed.append(42, out));
+    refuses(|out| current::Message { xid: 42, body: current::Body::Reply(failed) }.append(out));
     refuses(|out| Getattr3args { object: &long[..LIMIT] }.append(out));
     refuses(|out| Setattr3args { object: &long[..LIMIT], ..Setattr3args::default() }.append(out));
     refuses(|out| Lookup3args { what: Diropargs3 { dir: b"", name: &long[..LIMIT] } }.append(out));
@@ -121,11 +130,12 @@ fn what_is_too_long_leaves_a_vector_as_it_was() {
 
 #[test]
 fn rewritings_are_appended() {
-    // A flag, a name and a header, all of them loose; the last one grows.
+    // A flag, a name and two headers, all of them loose; the first of these grows.
     let cases = [
         (Kind::Bool, words(&[0, 0xFFFF_FFFF]), words(&[1])),
         (Kind::Nfsstring, words(&[0, 1, 0x6101_0203]), words(&[1, 0x6100_0000])),
         (Kind::RpcMsg, words(&[0, 42, 2]), words(&[42, 0, 0, 0, 0, 0, 0, 0, 0, 0])),
+        (Kind::CurrentRpcMsg, words(&[0, 42, 1, 0, 0, 0, 6]), words(&[42, 1, 0, 0, 0, 4])),
     ];
     for (kind, message, due) in cases {
         let mut out = vec![0x55; 3];
@@ -174,6 +184,8 @@ fn refusals_are_errors() {
     assert_eq!(unknown.to_string(), "there is no known procedure of that number");
     let unknown: Box<dyn Error> = Nfsfail3::try_from(0).unwrap_err().into();
     assert_eq!(unknown.to_string(), "that number is not declared");
+    let new: Box<dyn Error> = AcceptStat::try_from(current::AcceptStat::SystemErr).unwrap_err().into();
+    assert_eq!(new.to_string(), "that is a case of the current reading alone");
     let failure: Box<dyn Error> = Nfsfail3::Stale.into();
     assert_eq!(failure.to_string(), "NFS3ERR_STALE");
 }

@@ -1,5 +1,6 @@
 //! The relay of `examples/relay.rs` over what real programs sent: every call passes byte for byte, as plain. Only where
-//! fragments begin may change. Arguments and results are read into their types, and written back as they came.
+//! fragments begin may change. Arguments and results are read into their types, and written back as they came. Both readings
+//! of replies take all of them alike.
 //!
 //! The captures are those of the folder that CAPTURES names, or else of `captures` in the folder `shared` beside the
 //! repository. Where they are not there, the test says so and ends.
@@ -8,7 +9,10 @@ use std::collections::{BTreeMap, HashMap};
 use std::path::{Path, PathBuf};
 use std::{env, fs};
 
-use yugerzat::{AcceptStat, Arguments, AuthFlavor, AuthUnix, Body, Message, Records, Reply, Results};
+use yugerzat::{
+    choose, current, judge, AcceptStat, Arguments, AuthFlavor, AuthUnix, Body, Kind, Message, Reading, Records, Reply,
+    Results,
+};
 
 #[allow(dead_code)]
 #[path = "../examples/relay.rs"]
@@ -154,4 +158,27 @@ fn captured_arguments_and_results_are_written_as_they_were_read() {
         println!("{procedure}: {calls} calls and {replies} results came back");
     }
     assert!(!seen.is_empty(), "the captures have no call of a known procedure");
+}
+
+#[test]
+fn captured_messages_are_the_same_in_both_readings() {
+    let mut messages = 0;
+    for direction in ["c2s", "s2c"] {
+        for file in files(direction).unwrap_or_default() {
+            for record in records(&fs::read(&file).unwrap()).0 {
+                let Reading { value, next, plain } = Message::read(&record, 0).unwrap();
+                let read = current::Message::read(&record, 0).unwrap();
+                assert_eq!(read, Reading { value: value.into(), next, plain }, "{}", file.display());
+                let mut written = Vec::new();
+                read.value.append(&mut written).unwrap();
+                assert_eq!(written, record[..next], "{}", file.display());
+                assert_eq!(judge(Kind::CurrentRpcMsg, &record, 0), judge(Kind::RpcMsg, &record, 0), "{}", file.display());
+                for seen in [false, true] {
+                    assert_eq!(current::choose(&record, seen), choose(&record, seen), "{}", file.display());
+                }
+                messages += 1;
+            }
+        }
+    }
+    println!("{messages} messages are the same in both readings");
 }

@@ -43,6 +43,7 @@ fn kinds_have_their_numbers_and_names() {
     assert_eq!((Kind::RpcMsg.number(), Kind::RpcMsg.name()), (20, "rpc_msg"));
     assert_eq!((Kind::Symlinkdata3.number(), Kind::Symlinkdata3.name()), (46, "symlinkdata3"));
     assert_eq!((Kind::Write3res.number(), Kind::Write3res.name()), (58, "write3res"));
+    assert_eq!((Kind::CurrentRpcMsg.number(), Kind::CurrentRpcMsg.name()), (66, "current_rpc_msg"));
 }
 
 #[test]
@@ -58,9 +59,9 @@ fn kinds_are_found_by_number_and_name() {
     for name in ["", "sattr", "sattr33", "Sattr3", "SATTR3", " sattr3", "44"] {
         assert!(name.parse::<Kind>().is_err(), "{name:?}");
     }
-    let unknown = Kind::try_from(59).unwrap_err();
+    let unknown = Kind::try_from(67).unwrap_err();
     assert_eq!(unknown.to_string(), "there is no kind of message of that name or number");
-    assert_eq!(Kind::all().next_back(), Some(Kind::Write3res));
+    assert_eq!(Kind::all().next_back(), Some(Kind::CurrentRpcMsg));
 }
 
 #[test]
@@ -155,6 +156,9 @@ fn what_is_wanting_finishes_the_item() {
     finishes("Sattr3", &hex(SATTR3), 0, |bytes| Sattr3::read(bytes, 0).map(|read| read.next));
     finishes("Diropargs3", &sample(Kind::Diropargs3), 0, |bytes| Diropargs3::read(bytes, 0).map(|read| read.next));
     finishes("Message", &sample(Kind::RpcMsg), 0, |bytes| Message::read(bytes, 0).map(|read| read.next));
+    for kind in [Kind::RpcMsg, Kind::CurrentRpcMsg] {
+        finishes("current::Message", &sample(kind), 0, |bytes| current::Message::read(bytes, 0).map(|read| read.next));
+    }
     for procedure in Procedure::all() {
         let (arguments, results) = (sample(procedure.arguments()), sample(procedure.results()));
         finishes(procedure.name(), &arguments, 0, |bytes| Arguments::read(procedure, bytes, 0).map(|read| read.next));
@@ -193,8 +197,10 @@ fn a_message_has_a_largest_size() {
     refused(Sattr3::read(&message, 0), Refusal::TooLong);
     refused(Diropargs3::read(&message, 0), Refusal::TooLong);
     refused(Message::read(&message, 0), Refusal::TooLong);
+    refused(current::Message::read(&message, 0), Refusal::TooLong);
     refused(AuthUnix::read(&message), Refusal::TooLong);
     refused(choose(&message, false), Refusal::TooLong);
+    refused(current::choose(&message, false), Refusal::TooLong);
     refused(write_fragment(&message, &mut out, 0), Refusal::TooLong);
     refused(Assembler::new(LIMIT + 1), Refusal::TooLong);
     refused(Assembler::new(usize::MAX), Refusal::TooLong);
@@ -228,6 +234,7 @@ fn what_is_written_has_a_largest_size() {
     // The largest of each: the limit less what stands around it.
     let call = |cred: usize, verf: usize| Call { cred: auth(cred), verf: auth(verf), ..Call::default() };
     let reply = |verf: usize| Reply::Accepted { verf: auth(verf), stat: AcceptStat::Success };
+    let current = |verf: usize| current::Reply::Accepted { verf: auth(verf), stat: current::AcceptStat::SystemErr };
     let unix = |name: usize, gids: usize| AuthUnix {
         machinename: &long[..name],
         gids: Words::new(&long[..gids * 4]).expect("whole words"),
@@ -239,6 +246,7 @@ fn what_is_written_has_a_largest_size() {
     assert_eq!(call(0, LIMIT - 40).write(1, &mut out, 1), Ok(LIMIT + 1));
     assert_eq!(call(half - 20, half - 20).write(1, &mut out, 0), Ok(LIMIT));
     assert_eq!(reply(LIMIT - 24).write(1, &mut out, 0), Ok(LIMIT));
+    assert_eq!(current(LIMIT - 24).write(1, &mut out, 0), Ok(LIMIT));
     assert_eq!(unix(LIMIT - 20, 0).write(&mut out, 0), Ok(LIMIT));
     assert_eq!(unix(0, LIMIT / 4 - 5).write(&mut out, 0), Ok(LIMIT));
     assert_eq!(dir(LIMIT - 8, 0).write(&mut out, 0), Ok(LIMIT));
@@ -252,6 +260,8 @@ fn what_is_written_has_a_largest_size() {
         ("verf alone", call(0, LIMIT + 1).write(1, &mut out, 0)),
         ("reply", reply(LIMIT - 23).write(1, &mut out, 0)),
         ("reply's verf", reply(LIMIT + 1).write(1, &mut out, 0)),
+        ("current reply", current(LIMIT - 23).write(1, &mut out, 0)),
+        ("current reply's verf", current(LIMIT + 1).write(1, &mut out, 0)),
         ("name", unix(LIMIT - 19, 0).write(&mut out, 0)),
         ("name alone", unix(LIMIT + 1, 0).write(&mut out, 0)),
         ("gids", unix(0, LIMIT / 4 - 4).write(&mut out, 0)),
