@@ -1,7 +1,7 @@
 /*
  * A relay between an old client and a strict server, in small: a SETATTR call comes in whose size flag is FFFFFFFF, and
  * whose credential has rubbish in the padding behind the machine's name. It is taken as meant, reported as loose (not
- * in published form), and passed on clean.
+ * in published form), and passed on clean. The server's disk fails, and the cause is told from its reply.
  */
 #include <stdio.h>
 
@@ -22,6 +22,12 @@ static const uint8_t call[] = {
     0x00, 0x00, 0x00, 0x00, 0x00, 0x00, 0x00, 0x00, /* to 0 */
     0x00, 0x00, 0x00, 0x00, 0x00, 0x00, 0x00, 0x00, /* times: not set */
     0x00, 0x00, 0x00, 0x00,                         /* no guard */
+};
+
+static const uint8_t reply[] = {
+    0x00, 0x00, 0x00, 0x2A, 0x00, 0x00, 0x00, 0x01, /* xid 42, REPLY */
+    0x00, 0x00, 0x00, 0x00, 0x00, 0x00, 0x00, 0x00, /* accepted; no verifier */
+    0x00, 0x00, 0x00, 0x00, 0x00, 0x00, 0x00, 0x05, /* the accept_stat: SYSTEM_ERR */
 };
 
 /* The clean credential, and the clean call. Neither is longer than it came. */
@@ -96,5 +102,15 @@ int main(void)
         return refused("arguments, written", &writing.refusal);
     print("as it came:", call, sizeof call);
     print("as it leaves:", out, writing.after);
+
+    /* The reply. In nfsserve's reading its status is that of a bad call; the current reading tells the cause. */
+    if (yugerzat_get_rpc_msg(reply, sizeof reply, 0, &header, &reading) != YUGERZAT_DONE)
+        return refused("reply", &reading.refusal);
+    if (header.tag == YUGERZAT_TAG_ACCEPTED && header.body.accepted.stat == YUGERZAT_GARBAGE_ARGS)
+        printf("the reply as nfsserve reads it: GARBAGE_ARGS, %s\n", form(&reading));
+    if (yugerzat_get_current_rpc_msg(reply, sizeof reply, 0, &header, &reading) != YUGERZAT_DONE)
+        return refused("reply", &reading.refusal);
+    if (header.tag == YUGERZAT_TAG_ACCEPTED && header.body.accepted.stat == YUGERZAT_SYSTEM_ERR)
+        printf("the reply in the current reading: SYSTEM_ERR, %s\n", form(&reading));
     return 0;
 }

@@ -83,7 +83,10 @@ static void test_names(void)
 
 /* ---- messages to try */
 
-/* More messages of kinds that have structs than kinds.txt has: loose ones, all arms of every union, refused ones. */
+/*
+ * More messages of kinds that have structs than kinds.txt has: loose ones, all arms of every union, refused ones. Those
+ * of an rpc_msg are tried in both readings.
+ */
 static const struct {
     enum yugerzat_kind kind;
     const char *message;
@@ -98,11 +101,14 @@ static const struct {
     {YUGERZAT_KIND_RPC_MSG, "0000002A 00000001 00000000 00000000 00000000 00000003"},
     {YUGERZAT_KIND_RPC_MSG, "0000002A 00000001 00000000 00000000 00000000 00000002 00000003 00000004"},
     {YUGERZAT_KIND_RPC_MSG, "0000002A 00000001 00000000 00000000 00000000 00000005"},
+    {YUGERZAT_KIND_RPC_MSG, "0000002A 00000001 00000000 00000002 00000001 99000001 00000005"},
+    {YUGERZAT_KIND_RPC_MSG, "0000002A 00000001 00000000 00000000 00000000 00000006"},
     {YUGERZAT_KIND_RPC_MSG, "0000002A 00000001 00000002"},
     {YUGERZAT_KIND_RPC_MSG, "0000002A 00000001 00000001 00000000 00000002 00000003"},
     {YUGERZAT_KIND_RPC_MSG, "0000002A 00000001 00000001 00000007"},
     {YUGERZAT_KIND_RPC_MSG, "0000002A 00000001 00000001 00000001 00000005"},
     {YUGERZAT_KIND_RPC_MSG, "0000002A 00000001 00000001 00000001 00000006"},
+    {YUGERZAT_KIND_RPC_MSG, "0000002A 00000001 00000001 00000001 0000000F"},
     {YUGERZAT_KIND_AUTH_UNIX, "00000001 00000000 00000002 00000003 00000000"},
     {YUGERZAT_KIND_AUTH_UNIX, "FFFFFFFF 00000001 61000001 FFFFFFFF FFFFFFFE 00000003 00000001 00000002 00000003"},
     {YUGERZAT_KIND_AUTH_UNIX, "00000001 00000000 00000002 00000003 FFFFFFFF 00000001"},
@@ -250,6 +256,7 @@ static enum yugerzat_answer get(enum yugerzat_kind kind, const uint8_t *src, siz
 {
     switch (kind) {
     case YUGERZAT_KIND_RPC_MSG: return yugerzat_get_rpc_msg(src, count, at, &v->rpc_msg, reading);
+    case YUGERZAT_KIND_CURRENT_RPC_MSG: return yugerzat_get_current_rpc_msg(src, count, at, &v->rpc_msg, reading);
     case YUGERZAT_KIND_AUTH_UNIX: return yugerzat_get_auth_unix(src, count, at, &v->auth_unix, reading);
     case YUGERZAT_KIND_FATTR3: return yugerzat_get_fattr3(src, count, at, &v->fattr3, reading);
     case YUGERZAT_KIND_SATTR3: return yugerzat_get_sattr3(src, count, at, &v->sattr3, reading);
@@ -262,6 +269,7 @@ static enum yugerzat_answer put(enum yugerzat_kind kind, const union value *v, u
 {
     switch (kind) {
     case YUGERZAT_KIND_RPC_MSG: return yugerzat_put_rpc_msg(&v->rpc_msg, to, room, start, writing);
+    case YUGERZAT_KIND_CURRENT_RPC_MSG: return yugerzat_put_current_rpc_msg(&v->rpc_msg, to, room, start, writing);
     case YUGERZAT_KIND_AUTH_UNIX: return yugerzat_put_auth_unix(&v->auth_unix, to, room, start, writing);
     case YUGERZAT_KIND_FATTR3: return yugerzat_put_fattr3(&v->fattr3, to, room, start, writing);
     case YUGERZAT_KIND_SATTR3: return yugerzat_put_sattr3(&v->sattr3, to, room, start, writing);
@@ -272,7 +280,8 @@ static enum yugerzat_answer put(enum yugerzat_kind kind, const union value *v, u
 static void figures_of(enum yugerzat_kind kind, const union value *v, const uint8_t *src, uint64_t *figures)
 {
     switch (kind) {
-    case YUGERZAT_KIND_RPC_MSG: rpc_msg_figures(&v->rpc_msg, src, figures); break;
+    case YUGERZAT_KIND_RPC_MSG:
+    case YUGERZAT_KIND_CURRENT_RPC_MSG: rpc_msg_figures(&v->rpc_msg, src, figures); break;
     case YUGERZAT_KIND_AUTH_UNIX: auth_unix_figures(&v->auth_unix, src, figures); break;
     case YUGERZAT_KIND_FATTR3: fattr3_figures(&v->fattr3, figures); break;
     case YUGERZAT_KIND_SATTR3: sattr3_figures(&v->sattr3, figures); break;
@@ -285,7 +294,8 @@ static size_t size_of(enum yugerzat_kind kind)
 {
     union value v;
     switch (kind) {
-    case YUGERZAT_KIND_RPC_MSG: return sizeof v.rpc_msg;
+    case YUGERZAT_KIND_RPC_MSG:
+    case YUGERZAT_KIND_CURRENT_RPC_MSG: return sizeof v.rpc_msg;
     case YUGERZAT_KIND_AUTH_UNIX: return sizeof v.auth_unix;
     case YUGERZAT_KIND_FATTR3: return sizeof v.fattr3;
     case YUGERZAT_KIND_SATTR3: return sizeof v.sattr3;
@@ -299,6 +309,7 @@ static enum yugerzat_answer list_read(
 {
     switch (kind) {
     case YUGERZAT_KIND_RPC_MSG: return yugerzat_read_rpc_msg(src, count, at, figures, FIGURES);
+    case YUGERZAT_KIND_CURRENT_RPC_MSG: return yugerzat_read_current_rpc_msg(src, count, at, figures, FIGURES);
     case YUGERZAT_KIND_AUTH_UNIX: return yugerzat_read_auth_unix(src, count, at, count - at, figures, FIGURES);
     case YUGERZAT_KIND_FATTR3: return yugerzat_read_fattr3(src, count, at, figures, FIGURES);
     case YUGERZAT_KIND_SATTR3: return yugerzat_read_sattr3(src, count, at, figures, FIGURES);
@@ -314,8 +325,10 @@ static enum yugerzat_answer list_write(enum yugerzat_kind kind, const uint8_t *s
     uint64_t call[11];
     switch (kind) {
     case YUGERZAT_KIND_RPC_MSG:
+    case YUGERZAT_KIND_CURRENT_RPC_MSG:
         if (figures[YUGERZAT_FIGURE_RPC_MSG_TAG] != YUGERZAT_TAG_CALL)
-            return yugerzat_write_reply(src, count, fields, 8, to, room, start, told, 1);
+            return (kind == YUGERZAT_KIND_RPC_MSG ? yugerzat_write_reply : yugerzat_write_current_reply)(
+                src, count, fields, 8, to, room, start, told, 1);
         call[0] = figures[2];
         memcpy(call + 1, figures + 4, 10 * sizeof *call);
         return yugerzat_write_call(src, count, src, count, call, 11, to, room, start, told, 1);
@@ -342,7 +355,7 @@ static enum yugerzat_answer ask(enum yugerzat_kind kind, const uint8_t *src, siz
         /* Every member is 0, and no piece is left. */
         figures_of(kind, v, src, told);
         CHECK(memcmp(told, listed, sizeof told) == 0);
-        if (kind == YUGERZAT_KIND_RPC_MSG || kind == YUGERZAT_KIND_AUTH_UNIX || kind == YUGERZAT_KIND_DIROPARGS3) {
+        if (kind != YUGERZAT_KIND_FATTR3 && kind != YUGERZAT_KIND_SATTR3) {
             static const uint8_t zeros[sizeof(union value)] = {0};
             CHECK(memcmp(v, zeros, size_of(kind)) == 0);
         }
@@ -442,13 +455,19 @@ static void try_message(enum yugerzat_kind kind, const char *message)
 
 static void test_values(void)
 {
-    static const enum yugerzat_kind kinds[] = {YUGERZAT_KIND_RPC_MSG, YUGERZAT_KIND_AUTH_UNIX, YUGERZAT_KIND_FATTR3,
-        YUGERZAT_KIND_SATTR3, YUGERZAT_KIND_DIROPARGS3};
+    static const enum yugerzat_kind kinds[] = {YUGERZAT_KIND_RPC_MSG, YUGERZAT_KIND_CURRENT_RPC_MSG,
+        YUGERZAT_KIND_AUTH_UNIX, YUGERZAT_KIND_FATTR3, YUGERZAT_KIND_SATTR3, YUGERZAT_KIND_DIROPARGS3};
     size_t i;
     for (i = 0; i < sizeof kinds / sizeof *kinds; i++)
         try_message(kinds[i], samples[kinds[i]].message);
-    for (i = 0; i < sizeof more / sizeof *more; i++)
+    for (i = 0; i < sizeof more / sizeof *more; i++) {
         try_message(more[i].kind, more[i].message);
+        if (more[i].kind == YUGERZAT_KIND_RPC_MSG) {
+            in = "the current reading";
+            try_message(YUGERZAT_KIND_CURRENT_RPC_MSG, more[i].message);
+            in = "";
+        }
+    }
 }
 
 /* ---- values that were never read */
@@ -533,13 +552,33 @@ static struct yugerzat_piece piece_of(const struct bytes *b)
     return piece;
 }
 
+/* The two readings of replies. */
+static const struct replies {
+    const char *name;
+    bool current;
+    enum yugerzat_answer (*get)(const uint8_t *, size_t, size_t, struct yugerzat_rpc_msg *, struct yugerzat_reading *);
+    enum yugerzat_answer (*put)(const struct yugerzat_rpc_msg *, uint8_t *, size_t, size_t, struct yugerzat_writing *);
+    enum yugerzat_answer (*choose)(const uint8_t *, size_t, bool, uint8_t *, size_t, struct yugerzat_chosen *);
+    enum yugerzat_answer (*choose_list)(const uint8_t *, size_t, uint32_t, uint8_t *, size_t, uint64_t *, size_t);
+    const char *mismatch; /* what xid 42 gets where the RPC version is not 2 */
+} readings[] = {
+    {"nfsserve's reading", false, yugerzat_get_rpc_msg, yugerzat_put_rpc_msg, yugerzat_choose_program, yugerzat_choose,
+        "0000002A 00000001 00000001 00000000 00000000 00000000"},
+    {"the current reading", true, yugerzat_get_current_rpc_msg, yugerzat_put_current_rpc_msg,
+        yugerzat_choose_current_program, yugerzat_current_choose,
+        "0000002A 00000001 00000001 00000000 00000002 00000002"},
+};
+
+/* The one that is tested. */
+static const struct replies *replies = readings;
+
 /* Whether an rpc_msg is written as these bytes, and nothing else of out is touched. */
 static bool put_as(const struct yugerzat_rpc_msg *v, const char *due)
 {
     struct yugerzat_writing writing;
     struct bytes b = hex(due);
     fresh();
-    return yugerzat_put_rpc_msg(v, out, BUFFER, 3, &writing) == YUGERZAT_DONE &&
+    return replies->put(v, out, BUFFER, 3, &writing) == YUGERZAT_DONE &&
            writing_is(&writing, YUGERZAT_DONE, b.count + 3, 0) && out_untouched_before(3) && out_is(3, due) &&
            out_untouched_from(b.count + 3);
 }
@@ -550,18 +589,14 @@ static bool put_refused(const struct yugerzat_rpc_msg *v, enum yugerzat_answer a
     struct yugerzat_writing writing;
     fresh();
     memset(&writing, 0xEE, sizeof writing);
-    return yugerzat_put_rpc_msg(v, out, BUFFER, 0, &writing) == answer && writing_is(&writing, answer, 0, 0) &&
+    return replies->put(v, out, BUFFER, 0, &writing) == answer && writing_is(&writing, answer, 0, 0) &&
            out_untouched_from(0);
 }
 
-static void test_parts(void)
+static void test_rpc_parts(void)
 {
-    struct bytes cred = hex("AABBCC"), verf = hex("1122334455"), name = hex("616263"), gids = hex("00000004 00000005");
+    struct bytes cred = hex("AABBCC"), verf = hex("1122334455");
     struct yugerzat_rpc_msg v;
-    struct yugerzat_auth_unix unix_value;
-    struct yugerzat_diropargs3 place;
-    struct yugerzat_writing writing;
-    uint8_t wire[8];
     memset(&v, 0, sizeof v);
     v.xid = 42;
     v.tag = YUGERZAT_TAG_CALL;
@@ -610,7 +645,7 @@ static void test_parts(void)
     CHECK(put_as(&v, "0000002A 00000001 00000000 00000002 00000003 AABBCC00 00000003"));
     v.body.accepted.stat = YUGERZAT_GARBAGE_ARGS;
     CHECK(put_as(&v, "0000002A 00000001 00000000 00000002 00000003 AABBCC00 00000004"));
-    v.body.accepted.stat = (enum yugerzat_accept_stat)5;
+    v.body.accepted.stat = (enum yugerzat_accept_stat)6;
     CHECK(put_refused(&v, YUGERZAT_WIDE_NUMBER));
     v.body.accepted.stat = YUGERZAT_SUCCESS;
     v.body.accepted.verf.flavor = (enum yugerzat_auth_flavor)4;
@@ -632,12 +667,132 @@ static void test_parts(void)
     CHECK(put_as(&v, "0000002A 00000001 00000001 00000001 00000001"));
     v.body.denied_auth = YUGERZAT_AUTH_TOOWEAK;
     CHECK(put_as(&v, "0000002A 00000001 00000001 00000001 00000005"));
-    v.body.denied_auth = (enum yugerzat_auth_stat)0;
-    CHECK(put_refused(&v, YUGERZAT_WIDE_NUMBER));
-    v.body.denied_auth = (enum yugerzat_auth_stat)6;
+    v.body.denied_auth = (enum yugerzat_auth_stat)15;
     CHECK(put_refused(&v, YUGERZAT_WIDE_NUMBER));
     v.tag = (enum yugerzat_tag)4;
     CHECK(put_refused(&v, YUGERZAT_WIDE_NUMBER));
+}
+
+/* ---- the numbers of replies, in both readings */
+
+/* Those of RFC 5531, and whether nfsserve's reading declares them too. */
+static const struct {
+    enum yugerzat_accept_stat stat;
+    uint32_t number;
+    bool crate;
+} accept_stats[] = {
+    {YUGERZAT_SUCCESS, 0, true},
+    {YUGERZAT_PROG_UNAVAIL, 1, true},
+    {YUGERZAT_PROG_MISMATCH, 2, true},
+    {YUGERZAT_PROC_UNAVAIL, 3, true},
+    {YUGERZAT_GARBAGE_ARGS, 4, true},
+    {YUGERZAT_SYSTEM_ERR, 5, false},
+};
+
+static const struct {
+    enum yugerzat_auth_stat stat;
+    uint32_t number;
+    bool crate;
+} auth_stats[] = {
+    {YUGERZAT_AUTH_OK, 0, false},
+    {YUGERZAT_AUTH_BADCRED, 1, true},
+    {YUGERZAT_AUTH_REJECTEDCRED, 2, true},
+    {YUGERZAT_AUTH_BADVERF, 3, true},
+    {YUGERZAT_AUTH_REJECTEDVERF, 4, true},
+    {YUGERZAT_AUTH_TOOWEAK, 5, true},
+    {YUGERZAT_AUTH_INVALIDRESP, 6, false},
+    {YUGERZAT_AUTH_FAILED, 7, false},
+    {YUGERZAT_AUTH_KERB_GENERIC, 8, false},
+    {YUGERZAT_AUTH_TIMEEXPIRE, 9, false},
+    {YUGERZAT_AUTH_TKT_FILE, 10, false},
+    {YUGERZAT_AUTH_DECODE, 11, false},
+    {YUGERZAT_AUTH_NET_ADDR, 12, false},
+    {YUGERZAT_RPCSEC_GSS_CREDPROBLEM, 13, false},
+    {YUGERZAT_RPCSEC_GSS_CTXPROBLEM, 14, false},
+};
+
+#define ACCEPT_STATS (sizeof accept_stats / sizeof *accept_stats)
+#define AUTH_STATS (sizeof auth_stats / sizeof *auth_stats)
+
+/* Whether a reply is taken to its end, or refused at its auth_stat, and what is told besides the value fits that. */
+static bool got(const char *message, enum yugerzat_answer answer, bool plain, struct yugerzat_rpc_msg *v)
+{
+    struct yugerzat_reading reading;
+    struct bytes b = hex(message);
+    uint64_t told[2] = {0, 0};
+    memset(v, 0xEE, sizeof *v);
+    memset(&reading, 0xEE, sizeof reading);
+    told[0] = answer == YUGERZAT_DONE ? b.count : 16;
+    told[1] = plain;
+    return replies->get(b.at, b.count, 0, v, &reading) == answer && reading_of(&reading, answer, told);
+}
+
+static void test_accept_stat(uint32_t number)
+{
+    bool declared = number < ACCEPT_STATS && (replies->current || accept_stats[number].crate);
+    uint32_t low = number == 2 ? 7 : 0, high = number == 2 ? 8 : 0;
+    struct yugerzat_rpc_msg v;
+    char message[100];
+    snprintf(message, sizeof message, "0000002A 00000001 00000000 00000000 00000000 %08lX%s", (unsigned long)number,
+        number == 2 ? " 00000007 00000008" : "");
+    of = message;
+    CHECK(got(message, YUGERZAT_DONE, declared, &v) && v.xid == 42 && v.tag == YUGERZAT_TAG_ACCEPTED);
+    CHECK(v.body.accepted.stat == (declared ? accept_stats[number].stat : YUGERZAT_GARBAGE_ARGS));
+    CHECK(v.body.accepted.mismatch.low == low && v.body.accepted.mismatch.high == high);
+    CHECK(v.body.accepted.verf.flavor == YUGERZAT_AUTH_NULL && v.body.accepted.verf.body.count == 0);
+    CHECK(put_as(&v, declared ? message : "0000002A 00000001 00000000 00000000 00000000 00000004"));
+    v.body.accepted.stat = (enum yugerzat_accept_stat)number;
+    CHECK(declared ? put_as(&v, message) : put_refused(&v, YUGERZAT_WIDE_NUMBER));
+    of = "";
+}
+
+static void test_auth_stat(uint32_t number)
+{
+    bool declared = number < AUTH_STATS && (replies->current || auth_stats[number].crate);
+    struct yugerzat_rpc_msg v;
+    char message[100];
+    snprintf(message, sizeof message, "0000002A 00000001 00000001 00000001 %08lX", (unsigned long)number);
+    of = message;
+    if (declared) {
+        CHECK(got(message, YUGERZAT_DONE, true, &v) && v.xid == 42 && v.tag == YUGERZAT_TAG_DENIED_AUTH);
+        CHECK(v.body.denied_auth == auth_stats[number].stat);
+        CHECK(put_as(&v, message));
+    } else {
+        CHECK(got(message, YUGERZAT_UNDECLARED, false, &v) && v.xid == 0 && v.tag == YUGERZAT_TAG_CALL);
+        CHECK(v.body.denied_auth == (enum yugerzat_auth_stat)0);
+    }
+    memset(&v, 0, sizeof v);
+    v.xid = 42;
+    v.tag = YUGERZAT_TAG_DENIED_AUTH;
+    v.body.denied_auth = (enum yugerzat_auth_stat)number;
+    CHECK(declared ? put_as(&v, message) : put_refused(&v, YUGERZAT_WIDE_NUMBER));
+    of = "";
+}
+
+static void test_reply_numbers(void)
+{
+    uint32_t number;
+    for (number = 0; number < ACCEPT_STATS; number++)
+        CHECK(accept_stats[number].number == number && (uint32_t)accept_stats[number].stat == number);
+    for (number = 0; number < AUTH_STATS; number++)
+        CHECK(auth_stats[number].number == number && (uint32_t)auth_stats[number].stat == number);
+    for (number = 0; number <= 8; number++)
+        test_accept_stat(number);
+    test_accept_stat(0xFFFFFFFF);
+    for (number = 0; number <= 16; number++)
+        test_auth_stat(number);
+    test_auth_stat(0xFFFFFFFF);
+}
+
+/* ---- auth_unix and diropargs3 from parts */
+
+static void test_parts(void)
+{
+    struct bytes cred = hex("AABBCC"), name = hex("616263"), gids = hex("00000004 00000005");
+    struct yugerzat_auth_unix unix_value;
+    struct yugerzat_diropargs3 place;
+    struct yugerzat_writing writing;
+    uint8_t wire[8];
 
     /* an auth_unix from a name and words; words are as on the wire */
     memset(&unix_value, 0, sizeof unix_value);
@@ -827,8 +982,8 @@ static enum yugerzat_answer choose_both(const uint8_t *message, size_t count, bo
     fresh();
     memset(&chosen, 0xEE, sizeof chosen);
     memset(written, 0xEE, sizeof written);
-    answer = yugerzat_choose(message, count, seen ? 0xFFFFFFFF : 0, out, room, info, FIGURES);
-    CHECK(yugerzat_choose_program(message, count, seen, written, room, &chosen) == answer);
+    answer = replies->choose_list(message, count, seen ? 0xFFFFFFFF : 0, out, room, info, FIGURES);
+    CHECK(replies->choose(message, count, seen, written, room, &chosen) == answer);
     CHECK(memcmp(written, out, sizeof written) == 0);
     /* the figures of a hand-over, or of a reply; both have none of the other's */
     told[0] = answer == YUGERZAT_REPLY ? chosen.reply_length : chosen.prog;
@@ -873,6 +1028,8 @@ static void test_choice(void)
         {"0000002A 00000002", YUGERZAT_REPLY},
         {"0000002A 00000000 00000002 00000007 00000003 00000006 00000000 00000000 00000000 00000000", YUGERZAT_REPLY},
         {"0000002A 00000001 00000000 00000000 00000000 00000000", YUGERZAT_REPLY_CAME},
+        {"0000002A 00000001 00000000 00000000 00000000 00000005", YUGERZAT_REPLY_CAME},
+        {"0000002A 00000001 00000001 00000001 0000000F", YUGERZAT_UNDECLARED},
         {"0000002A 00000000 00000002 000186A3 00000003 00000006 00000004 00000000 00000000 00000000",
             YUGERZAT_UNDECLARED},
         {"0000002A 00000000 00000002 000186A3 00000003 00000006 00000001 00000003 00000000 00000000 00000000",
@@ -896,6 +1053,25 @@ static void test_choice(void)
     }
     CHECK(choose_both(NULL, 0, false, 0) == YUGERZAT_ENDS);
     CHECK(choose_both(long_message, YUGERZAT_LIMIT_BYTES + 1, false, BUFFER) == YUGERZAT_TOO_LONG);
+    /* what is sent where the RPC version is not 2 */
+    CHECK(choose_both(bytes_of("0000002A 00000002"), 8, true, BUFFER) == YUGERZAT_REPLY);
+    CHECK(out_is(0, replies->mismatch) && out_untouched_from(YUGERZAT_REPLY_BYTES));
+    /* a reply with the auth_stat RPCSEC_GSS_CREDPROBLEM */
+    CHECK(choose_both(bytes_of("0000002A 00000001 00000001 00000001 0000000D"), 20, false, BUFFER) ==
+          (replies->current ? YUGERZAT_REPLY_CAME : YUGERZAT_UNDECLARED));
+}
+
+static void test_replies(void)
+{
+    size_t i;
+    for (i = 0; i < sizeof readings / sizeof *readings; i++) {
+        replies = readings + i;
+        in = replies->name;
+        test_rpc_parts();
+        test_reply_numbers();
+        test_choice();
+        in = "";
+    }
 }
 
 int main(void)
@@ -908,6 +1084,6 @@ int main(void)
     test_parts();
     test_credential();
     test_records();
-    test_choice();
+    test_replies();
     return total();
 }

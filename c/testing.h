@@ -15,8 +15,8 @@
 
 static unsigned long passed, failed;
 
-/* What the checks are about, where one line serves many cases. */
-static const char *of = "";
+/* What the checks are about, where one line serves many cases, and in which reading of replies. */
+static const char *of = "", *in = "";
 
 static inline void check(bool good, const char *what, const char *file, int line)
 {
@@ -25,7 +25,7 @@ static inline void check(bool good, const char *what, const char *file, int line
         return;
     }
     failed++;
-    printf("%s:%d: %s%s%s\n", file, line, what, *of ? ", of " : "", of);
+    printf("%s:%d: %s%s%s%s%s\n", file, line, what, *of ? ", of " : "", of, *in ? ", in " : "", in);
 }
 
 #define CHECK(condition) check((condition), #condition, __FILE__, __LINE__)

@@ -305,6 +305,14 @@ static void test_kinds(void)
         "0000002A 00000001 00000000 00000000 00000000 00000004");
     loose(YUGERZAT_KIND_REPLY_BODY, "00000002", 4, "00000000 00000000 00000000 00000000");
     loose(YUGERZAT_KIND_REJECTED_REPLY, "00000007", 4, "00000000 00000000 00000000");
+    loose(YUGERZAT_KIND_CURRENT_RPC_MSG, "0000002A 00000002", 8,
+        "0000002A 00000000 00000000 00000000 00000000 00000000 00000000 00000000 00000000 00000000");
+    loose(YUGERZAT_KIND_CURRENT_RPC_BODY, "FFFFFFFF", 4,
+        "00000000 00000000 00000000 00000000 00000000 00000000 00000000 00000000 00000000");
+    loose(YUGERZAT_KIND_CURRENT_REPLY_BODY, "00000002", 4, "00000000 00000000 00000000 00000000");
+    loose(YUGERZAT_KIND_CURRENT_REJECTED_REPLY, "00000007", 4, "00000000 00000000 00000000");
+    loose(YUGERZAT_KIND_CURRENT_ACCEPTED_REPLY, "00000002 00000001 99000001 00000005", 16,
+        "00000002 00000001 99000000 00000005");
 
     undeclared(YUGERZAT_KIND_MSG_TYPE, "00000002", 0);
     undeclared(YUGERZAT_KIND_REPLY_STAT, "00000002", 0);
@@ -560,13 +568,42 @@ static void test_feed(void)
     CHECK(long_out[YUGERZAT_LIMIT_BYTES] == 0xEE);
 }
 
-/* ---- yugerzat_choose */
+/* ---- the two readings of replies */
+
+typedef enum yugerzat_answer reader(const uint8_t *, size_t, size_t, uint64_t *, size_t);
+typedef enum yugerzat_answer reply_writer(
+    const uint8_t *, size_t, const uint64_t *, size_t, uint8_t *, size_t, size_t, uint64_t *, size_t);
+typedef enum yugerzat_answer chooser(const uint8_t *, size_t, uint32_t, uint8_t *, size_t, uint64_t *, size_t);
+
+/* Their functions, and wherein they differ. */
+static const struct replies {
+    const char *name;
+    reader *read;
+    reply_writer *write;
+    chooser *choose;
+    uint32_t last_accept; /* accept_stat: 0 to this is declared */
+    uint32_t first_auth;  /* auth_stat: from this .. */
+    uint32_t last_auth;   /* .. to this */
+    const char *mismatch; /* what xid 42 gets where the RPC version is not 2 */
+} readings[] = {
+    {"nfsserve's reading", yugerzat_read_rpc_msg, yugerzat_write_reply, yugerzat_choose, 4, 1, 5,
+        "0000002A 00000001 00000001 00000000 00000000 00000000"},
+    {"the current reading", yugerzat_read_current_rpc_msg, yugerzat_write_current_reply, yugerzat_current_choose, 5, 0,
+        14, "0000002A 00000001 00000001 00000000 00000002 00000002"},
+};
+
+#define READINGS (sizeof readings / sizeof *readings)
+
+/* The one that is tested stands here, so that the signatures of others serve. */
+static const struct replies *replies = readings;
+
+/* ---- yugerzat_choose and yugerzat_current_choose */
 
 static enum yugerzat_answer choose(const char *message, uint32_t seen, size_t room)
 {
     struct bytes b = hex(message);
     fresh();
-    return yugerzat_choose(b.at, b.count, seen, out, room, info, 12);
+    return replies->choose(b.at, b.count, seen, out, room, info, 12);
 }
 
 #define CALL_NFS "0000002A 00000000 00000002 000186A3 00000003 00000006 00000000 00000000 00000000 00000000"
@@ -580,7 +617,7 @@ static enum yugerzat_answer choose(const char *message, uint32_t seen, size_t ro
 
 static enum yugerzat_answer choose_by_message(const uint8_t *message, size_t count, size_t first)
 {
-    return yugerzat_choose(message + first, count - first, 0, out, BUFFER, info, 12);
+    return replies->choose(message + first, count - first, 0, out, BUFFER, info, 12);
 }
 
 /* A credential's body, as long as it is, in a message that is whole: 32 bytes before it, pad and a verifier behind. */
@@ -593,7 +630,7 @@ static enum yugerzat_answer choose_by_body(const uint8_t *message, size_t count,
     call.count += length;
     memset(call.at + call.count, 0, pad + 8);
     call.count += pad + 8;
-    return yugerzat_choose(call.at, call.count, 0, out, BUFFER, info, 12);
+    return replies->choose(call.at, call.count, 0, out, BUFFER, info, 12);
 }
 
 static void test_choose(void)
@@ -603,7 +640,7 @@ static void test_choose(void)
     struct bytes b = hex(CALL_NFS);
     CHECK(choose(CALL_NFS, 0, 0) == YUGERZAT_HAND_OVER && figures(12, nfs) && out_untouched_from(0));
     fresh();
-    CHECK(yugerzat_choose(b.at, b.count, 0, NULL, 0, info, 12) == YUGERZAT_HAND_OVER && figures(12, nfs));
+    CHECK(replies->choose(b.at, b.count, 0, NULL, 0, info, 12) == YUGERZAT_HAND_OVER && figures(12, nfs));
     CHECK(
         choose(CALL_UNIX ARGUMENTS, 0, BUFFER) == YUGERZAT_HAND_OVER && figures(12, portmap) && out_untouched_from(0));
     CHECK(choose(CALL_NFS, 1, 24) == YUGERZAT_SILENCE && refused_at(12, 0) && out_untouched_from(0));
@@ -611,8 +648,11 @@ static void test_choose(void)
 
     /* the RPC version is not 2 */
     CHECK(choose("0000002A 00000002", 0, 24) == YUGERZAT_REPLY && refused_at(12, 24));
-    CHECK(out_is(0, "0000002A 00000001 00000001 00000000 00000000 00000000") && out_untouched_from(24));
+    CHECK(out_is(0, replies->mismatch) && out_untouched_from(24));
     CHECK(choose("0000002A 00000002", 0, 23) == YUGERZAT_NO_ROOM && refused_at(12, 0) && out_untouched_from(0));
+    CHECK(choose("0000002A 00000000 00000003 000186A3 00000003 00000006 00000000 00000000 00000000 00000000", 1,
+              BUFFER) == YUGERZAT_REPLY);
+    CHECK(refused_at(12, 24) && out_is(0, replies->mismatch) && out_untouched_from(24));
     /* a program that is not served */
     CHECK(choose("0000002A 00000000 00000002 00000007 00000003 00000006 00000000 00000000 00000000 00000000", 0,
               BUFFER) == YUGERZAT_REPLY);
@@ -651,24 +691,22 @@ static void test_choose(void)
               BUFFER) == YUGERZAT_UNDECLARED);
     CHECK(refused_at(12, 24) && out_untouched_from(0));
     fresh();
-    CHECK(yugerzat_choose(NULL, 0, 0, NULL, 0, info, 12) == YUGERZAT_ENDS && ended_at(12, 0, 4));
+    CHECK(replies->choose(NULL, 0, 0, NULL, 0, info, 12) == YUGERZAT_ENDS && ended_at(12, 0, 4));
     fresh();
-    CHECK(yugerzat_choose(b.at, b.count, 0, out, BUFFER, info, 11) == YUGERZAT_SHORT_LIST && all_untouched());
-    CHECK(yugerzat_choose(b.at, b.count, 0, out, BUFFER, NULL, 0) == YUGERZAT_SHORT_LIST && all_untouched());
+    CHECK(replies->choose(b.at, b.count, 0, out, BUFFER, info, 11) == YUGERZAT_SHORT_LIST && all_untouched());
+    CHECK(replies->choose(b.at, b.count, 0, out, BUFFER, NULL, 0) == YUGERZAT_SHORT_LIST && all_untouched());
 
     memset(long_message, 0, sizeof long_message);
     memcpy(long_message, b.at, b.count);
     fresh();
-    CHECK(yugerzat_choose(long_message, YUGERZAT_LIMIT_BYTES, 0, out, BUFFER, info, 12) == YUGERZAT_HAND_OVER &&
+    CHECK(replies->choose(long_message, YUGERZAT_LIMIT_BYTES, 0, out, BUFFER, info, 12) == YUGERZAT_HAND_OVER &&
           figures(12, nfs));
     fresh();
-    CHECK(yugerzat_choose(long_message, YUGERZAT_LIMIT_BYTES + 1, 0, out, BUFFER, info, 12) == YUGERZAT_TOO_LONG);
+    CHECK(replies->choose(long_message, YUGERZAT_LIMIT_BYTES + 1, 0, out, BUFFER, info, 12) == YUGERZAT_TOO_LONG);
     CHECK(refused_at(12, 0) && out_untouched_from(0));
 }
 
 /* ---- readers of values: what is common to all of one signature */
-
-typedef enum yugerzat_answer reader(const uint8_t *, size_t, size_t, uint64_t *, size_t);
 
 static enum yugerzat_answer read_at(reader *read, const char *message, size_t at, size_t count)
 {
@@ -729,7 +767,7 @@ static void reader_limits(const char *name, reader *read, size_t count, const ch
     of = "";
 }
 
-/* ---- yugerzat_read_rpc_msg */
+/* ---- yugerzat_read_rpc_msg and yugerzat_read_current_rpc_msg */
 
 static void header(const char *message, uint64_t next, uint64_t plain, uint64_t xid, uint64_t tag, const uint64_t *ten)
 {
@@ -740,7 +778,7 @@ static void header(const char *message, uint64_t next, uint64_t plain, uint64_t 
     due[2] = xid;
     due[3] = tag;
     memcpy(due + 4, ten, 10 * sizeof *ten);
-    CHECK(read_at(yugerzat_read_rpc_msg, message, 0, 14) == YUGERZAT_DONE && figures(14, due));
+    CHECK(read_at(replies->read, message, 0, 14) == YUGERZAT_DONE && figures(14, due));
     of = "";
 }
 
@@ -755,11 +793,10 @@ static void test_rpc_msg(void)
     static const uint64_t garbage[10] = {0, 20, 0, 4, 0, 0};
     static const uint64_t denied[10] = {2, 3};
     static const uint64_t weak[10] = {5};
-    reader_limits("yugerzat_read_rpc_msg", yugerzat_read_rpc_msg, 14, samples[YUGERZAT_KIND_RPC_MSG].message);
-    reader_limits("yugerzat_read_rpc_msg of a reply", yugerzat_read_rpc_msg, 14,
+    reader_limits("an rpc_msg", replies->read, 14, samples[YUGERZAT_KIND_RPC_MSG].message);
+    reader_limits("an rpc_msg of a reply", replies->read, 14,
         "0000002A 00000001 00000000 00000000 00000000 00000002 00000003 00000004");
-    reader_limits(
-        "yugerzat_read_rpc_msg of a denial", yugerzat_read_rpc_msg, 14, "0000002A 00000001 00000001 00000001 00000005");
+    reader_limits("an rpc_msg of a denial", replies->read, 14, "0000002A 00000001 00000001 00000001 00000005");
     header("0000002A 00000000 00000002 000186A3 00000003 00000001 00000001 00000003 01020300 00000000 00000000", 44, 1,
         42, 0, call);
     header("FFFFFFFF 00000000 00000002 000186A3 00000003 00000001 00000003 00000001 01020300 00000002 00000000", 44, 0,
@@ -768,15 +805,15 @@ static void test_rpc_msg(void)
     header("0000002A 00000001 00000000 00000000 00000002 AABB0000 00000000", 28, 1, 42, 1, accepted);
     header("0000002A 00000001 00000000 00000000 00000000 00000003", 24, 1, 42, 1, unavailable);
     header("0000002A 00000001 00000000 00000000 00000000 00000002 00000003 00000004", 32, 1, 42, 1, mismatch);
-    header("0000002A 00000001 00000000 00000000 00000000 00000005", 24, 0, 42, 1, garbage);
+    header("0000002A 00000001 00000000 00000000 00000000 00000006", 24, 0, 42, 1, garbage);
     header("0000002A 00000001 00000002", 12, 0, 42, 1, zeros);
     header("0000002A 00000001 00000001 00000000 00000002 00000003", 24, 1, 42, 2, denied);
     header("0000002A 00000001 00000001 00000007", 16, 0, 42, 2, zeros);
     header("0000002A 00000001 00000001 00000001 00000005", 20, 1, 42, 3, weak);
-    CHECK(read_at(yugerzat_read_rpc_msg, "0000002A 00000001 00000001 00000001 00000006", 0, 14) == YUGERZAT_UNDECLARED);
+    CHECK(read_at(replies->read, "0000002A 00000001 00000001 00000001 0000000F", 0, 14) == YUGERZAT_UNDECLARED);
     CHECK(refused_at(14, 16));
-    CHECK(read_at(yugerzat_read_rpc_msg, "0000002A 00000001 00000000 00000004 00000000 00000000", 0, 14) ==
-          YUGERZAT_UNDECLARED);
+    CHECK(
+        read_at(replies->read, "0000002A 00000001 00000000 00000004 00000000 00000000", 0, 14) == YUGERZAT_UNDECLARED);
     CHECK(refused_at(14, 12));
 }
 
@@ -1284,14 +1321,14 @@ static void test_call(void)
     pair_limits(&call_pair);
 }
 
-/* ---- reply */
+/* ---- yugerzat_write_reply and yugerzat_write_current_reply */
 
 static struct bytes reply_source;
 
 static enum yugerzat_answer write_reply(
     const uint64_t *fields, size_t count, uint8_t *to, size_t room, size_t start, uint64_t *list, size_t lists)
 {
-    return yugerzat_write_reply(reply_source.at, reply_source.count, fields, count, to, room, start, list, lists);
+    return replies->write(reply_source.at, reply_source.count, fields, count, to, room, start, list, lists);
 }
 
 /* What is read of a plain reply is written as it was; so is what has rubbish where the tag has no use for it. */
@@ -1301,7 +1338,7 @@ static void reply_back(const char *message, uint64_t tag, size_t used)
     size_t i;
     of = message;
     reply_source = hex(message);
-    CHECK(read_at(yugerzat_read_rpc_msg, message, 0, 14) == YUGERZAT_DONE && info[1] == 1 && info[3] == tag);
+    CHECK(read_at(replies->read, message, 0, 14) == YUGERZAT_DONE && info[1] == 1 && info[3] == tag);
     memcpy(fields, info + YUGERZAT_FIGURE_FIELDS, sizeof fields);
     writer_limits(message, write_reply, fields, YUGERZAT_FIGURES_WRITE_REPLY, message);
     for (i = used; i < 8; i++)
@@ -1365,14 +1402,14 @@ static void test_reply(void)
     CHECK(writes(write_reply, success, 8, "0000002A 00000001 00000000 00000002 00000003 AABBCC00 00000000"));
     reply_range(success, 0, 0, 0xFFFFFFFF);
     reply_range(success, 2, YUGERZAT_AUTH_NULL, YUGERZAT_AUTH_DES);
-    reply_range(success, 5, YUGERZAT_SUCCESS, YUGERZAT_GARBAGE_ARGS);
+    reply_range(success, 5, YUGERZAT_SUCCESS, replies->last_accept);
     reply_range(mismatch, 6, 0, 0xFFFFFFFF);
     reply_range(mismatch, 7, 0, 0xFFFFFFFF);
     reply_range(version, 0, 0, 0xFFFFFFFF);
     reply_range(version, 2, 0, 0xFFFFFFFF);
     reply_range(version, 3, 0, 0xFFFFFFFF);
     reply_range(weak, 0, 0, 0xFFFFFFFF);
-    reply_range(weak, 2, YUGERZAT_AUTH_BADCRED, YUGERZAT_AUTH_TOOWEAK);
+    reply_range(weak, 2, replies->first_auth, replies->last_auth);
     for (i = 0; i < sizeof tags / sizeof *tags; i++) {
         memcpy(fields, success, sizeof fields);
         fields[1] = tags[i];
@@ -1392,8 +1429,8 @@ static void test_reply(void)
         fresh();
         CHECK(write_reply(fields, 8, out, 0, 1, info, 1) == YUGERZAT_PAST_END && refused_writing(0));
         fresh();
-        CHECK(yugerzat_write_reply(long_message, YUGERZAT_LIMIT_BYTES + 1, fields, 8, out, 0, 0, info, 1) ==
-              YUGERZAT_TOO_LONG);
+        CHECK(
+            replies->write(long_message, YUGERZAT_LIMIT_BYTES + 1, fields, 8, out, 0, 0, info, 1) == YUGERZAT_TOO_LONG);
         CHECK(refused_writing(0));
     }
     memset(long_message, 0x5A, sizeof long_message);
@@ -1402,26 +1439,175 @@ static void test_reply(void)
     fields[3] = 0;
     fields[4] = YUGERZAT_LIMIT_BYTES - 24;
     fresh();
-    CHECK(yugerzat_write_reply(long_message, YUGERZAT_LIMIT_BYTES, fields, 8, long_out, sizeof long_out, 0, info, 1) ==
+    CHECK(replies->write(long_message, YUGERZAT_LIMIT_BYTES, fields, 8, long_out, sizeof long_out, 0, info, 1) ==
           YUGERZAT_DONE);
     CHECK(told(YUGERZAT_LIMIT_BYTES) && long_out[YUGERZAT_LIMIT_BYTES] == 0xEE);
     fresh();
-    CHECK(yugerzat_write_reply(long_message, YUGERZAT_LIMIT_BYTES, fields, 8, out, BUFFER, 0, info, 1) ==
-          YUGERZAT_NO_ROOM);
+    CHECK(replies->write(long_message, YUGERZAT_LIMIT_BYTES, fields, 8, out, BUFFER, 0, info, 1) == YUGERZAT_NO_ROOM);
     CHECK(refused_writing(YUGERZAT_LIMIT_BYTES));
     fields[4]++;
     memset(long_out, 0xEE, sizeof long_out);
     fresh();
-    CHECK(yugerzat_write_reply(long_message, YUGERZAT_LIMIT_BYTES, fields, 8, long_out, sizeof long_out, 0, info, 1) ==
+    CHECK(replies->write(long_message, YUGERZAT_LIMIT_BYTES, fields, 8, long_out, sizeof long_out, 0, info, 1) ==
           YUGERZAT_TOO_LONG);
     CHECK(told(0) && long_out_untouched());
     /* a denial has no verifier, but a source that is too long is refused all the same */
     fresh();
-    CHECK(yugerzat_write_reply(long_message, YUGERZAT_LIMIT_BYTES + 1, weak, 8, out, BUFFER, 0, info, 1) ==
-          YUGERZAT_TOO_LONG);
+    CHECK(
+        replies->write(long_message, YUGERZAT_LIMIT_BYTES + 1, weak, 8, out, BUFFER, 0, info, 1) == YUGERZAT_TOO_LONG);
     CHECK(refused_writing(0));
     fresh();
-    CHECK(yugerzat_write_reply(NULL, 0, weak, 8, out, BUFFER, 0, info, 1) == YUGERZAT_DONE && told(20));
+    CHECK(replies->write(NULL, 0, weak, 8, out, BUFFER, 0, info, 1) == YUGERZAT_DONE && told(20));
+}
+
+/* ---- the numbers of replies, in both readings */
+
+#define ACCEPTED "0000002A 00000001 00000000 00000000 00000000"
+#define DENIED "0000002A 00000001 00000001 00000001"
+
+/* The kinds that hold a number, in the one reading and in the other, and what stands before it. */
+struct holder {
+    enum yugerzat_kind kind[READINGS];
+    const char *before;
+};
+
+static const struct holder accept_holders[] = {
+    {{YUGERZAT_KIND_ACCEPT_BODY, YUGERZAT_KIND_CURRENT_ACCEPT_BODY}, ""},
+    {{YUGERZAT_KIND_ACCEPTED_REPLY, YUGERZAT_KIND_CURRENT_ACCEPTED_REPLY}, "00000000 00000000"},
+    {{YUGERZAT_KIND_REPLY_BODY, YUGERZAT_KIND_CURRENT_REPLY_BODY}, "00000000 00000000 00000000"},
+    {{YUGERZAT_KIND_RPC_BODY, YUGERZAT_KIND_CURRENT_RPC_BODY}, "00000001 00000000 00000000 00000000"},
+    {{YUGERZAT_KIND_RPC_MSG, YUGERZAT_KIND_CURRENT_RPC_MSG}, ACCEPTED},
+};
+
+static const struct holder auth_holders[] = {
+    {{YUGERZAT_KIND_AUTH_STAT, YUGERZAT_KIND_CURRENT_AUTH_STAT}, ""},
+    {{YUGERZAT_KIND_REJECTED_REPLY, YUGERZAT_KIND_CURRENT_REJECTED_REPLY}, "00000001"},
+    {{YUGERZAT_KIND_REPLY_BODY, YUGERZAT_KIND_CURRENT_REPLY_BODY}, "00000001 00000001"},
+    {{YUGERZAT_KIND_RPC_BODY, YUGERZAT_KIND_CURRENT_RPC_BODY}, "00000001 00000001 00000001"},
+    {{YUGERZAT_KIND_RPC_MSG, YUGERZAT_KIND_CURRENT_RPC_MSG}, DENIED},
+};
+
+static const enum yugerzat_kind accept_stats[READINGS] = {YUGERZAT_KIND_ACCEPT_STAT, YUGERZAT_KIND_CURRENT_ACCEPT_STAT};
+
+/* A message in hex: what stands before a number, the number, and the versions that follow it in a PROG_MISMATCH. */
+struct text {
+    char hex[100];
+};
+
+static struct text text_of(const char *before, uint32_t number, bool versions)
+{
+    struct text text;
+    snprintf(
+        text.hex, sizeof text.hex, "%s %08lX%s", before, (unsigned long)number, versions ? " 00000007 00000008" : "");
+    return text;
+}
+
+/* A kind by its number: the message is plain, and so its own rewriting. */
+static void plain(enum yugerzat_kind kind, const char *message)
+{
+    uint64_t due[3];
+    struct bytes b = hex(message);
+    of = message;
+    due[0] = due[2] = b.count;
+    due[1] = 1;
+    CHECK(read_kind(kind, &b, 0, BUFFER) == YUGERZAT_DONE);
+    CHECK(figures(3, due) && out_is(0, message) && out_untouched_from(b.count));
+    of = "";
+}
+
+static void test_accept_stat(size_t which, uint32_t number)
+{
+    bool declared = number <= replies->last_accept, versions = number == YUGERZAT_PROG_MISMATCH;
+    uint32_t meaning = declared ? number : YUGERZAT_GARBAGE_ARGS;
+    struct text message = text_of(ACCEPTED, number, versions), rewriting = text_of(ACCEPTED, meaning, versions);
+    struct text alone = text_of("", number, false);
+    uint64_t next = hex(message.hex).count;
+    uint64_t ten[10] = {0, 20, 0}, fields[8] = {42, YUGERZAT_TAG_ACCEPTED, 0, 0, 0, 0, 7, 8};
+    size_t i;
+    for (i = 0; i < sizeof accept_holders / sizeof *accept_holders; i++) {
+        struct text held = text_of(accept_holders[i].before, number, versions);
+        struct text again = text_of(accept_holders[i].before, meaning, versions);
+        if (declared)
+            plain(accept_holders[i].kind[which], held.hex);
+        else
+            loose(accept_holders[i].kind[which], held.hex, hex(held.hex).count, again.hex);
+    }
+    /* as a kind of its own it is closed */
+    if (declared)
+        plain(accept_stats[which], alone.hex);
+    else
+        undeclared(accept_stats[which], alone.hex, 0);
+
+    /* what is read, and that it is written and read back */
+    ten[3] = meaning;
+    ten[4] = versions ? 7 : 0;
+    ten[5] = versions ? 8 : 0;
+    header(message.hex, next, declared, 42, YUGERZAT_TAG_ACCEPTED, ten);
+    fields[5] = number;
+    reply_source = hex("");
+    of = message.hex;
+    CHECK(declared ? writes(write_reply, fields, 8, message.hex) : wide(write_reply, fields, 8));
+    fields[5] = meaning;
+    CHECK(writes(write_reply, fields, 8, rewriting.hex));
+    header(rewriting.hex, next, 1, 42, YUGERZAT_TAG_ACCEPTED, ten);
+    if (declared) {
+        reader_limits(message.hex, replies->read, 14, message.hex);
+        reply_back(message.hex, YUGERZAT_TAG_ACCEPTED, versions ? 8 : 6);
+    }
+    /* no number makes a call of it */
+    of = message.hex;
+    CHECK(choose(message.hex, 0, BUFFER) == YUGERZAT_REPLY_CAME && refused_at(12, 0) && out_untouched_from(0));
+    of = "";
+}
+
+static void test_auth_stat(size_t which, uint32_t number)
+{
+    bool declared = number >= replies->first_auth && number <= replies->last_auth;
+    struct text message = text_of(DENIED, number, false);
+    uint64_t ten[10] = {0}, fields[8] = {42, YUGERZAT_TAG_DENIED_AUTH};
+    size_t i;
+    for (i = 0; i < sizeof auth_holders / sizeof *auth_holders; i++) {
+        struct text held = text_of(auth_holders[i].before, number, false);
+        if (declared)
+            plain(auth_holders[i].kind[which], held.hex);
+        else
+            undeclared(auth_holders[i].kind[which], held.hex, hex(auth_holders[i].before).count);
+    }
+    ten[0] = fields[2] = number;
+    if (declared) {
+        header(message.hex, 20, 1, 42, YUGERZAT_TAG_DENIED_AUTH, ten);
+        reader_limits(message.hex, replies->read, 14, message.hex);
+        reply_back(message.hex, YUGERZAT_TAG_DENIED_AUTH, 3);
+        of = message.hex;
+        CHECK(writes(write_reply, fields, 8, message.hex));
+        CHECK(choose(message.hex, 0, BUFFER) == YUGERZAT_REPLY_CAME && refused_at(12, 0) && out_untouched_from(0));
+    } else {
+        of = message.hex;
+        CHECK(read_at(replies->read, message.hex, 0, 14) == YUGERZAT_UNDECLARED && refused_at(14, 16));
+        CHECK(wide(write_reply, fields, 8));
+        CHECK(choose(message.hex, 0, BUFFER) == YUGERZAT_UNDECLARED && refused_at(12, 16) && out_untouched_from(0));
+    }
+    of = "";
+}
+
+static void test_replies(void)
+{
+    size_t i;
+    uint32_t number;
+    for (i = 0; i < READINGS; i++) {
+        replies = readings + i;
+        in = replies->name;
+        test_choose();
+        test_rpc_msg();
+        test_reply();
+        for (number = 0; number <= 8; number++)
+            test_accept_stat(i, number);
+        test_accept_stat(i, 0xFFFFFFFF);
+        for (number = 0; number <= 16; number++)
+            test_auth_stat(i, number);
+        test_auth_stat(i, 0xFFFFFFFF);
+        in = "";
+    }
 }
 
 /* ---- yugerzat_part */
@@ -1458,15 +1644,13 @@ int main(void)
     test_kinds();
     test_fragment();
     test_feed();
-    test_choose();
-    test_rpc_msg();
     test_auth_unix();
     test_write_auth_unix();
     test_fattr3();
     test_sattr3();
     test_diropargs3();
     test_call();
-    test_reply();
+    test_replies();
     test_part();
     return total();
 }

@@ -20,6 +20,8 @@
  *     yugerzat_rewrite_kind     reads a message of any kind, and writes it in published form
  *     yugerzat_feed_run         assembles records from a stream
  *     yugerzat_choose_program   says what to do with a message that came in
+ *     yugerzat_get_current_rpc_msg, yugerzat_put_current_rpc_msg, yugerzat_choose_current_program
+ *                               the same for rpc_msg in the current reading: see TWO READINGS
  *     yugerzat_procedure_kinds  says of which kinds the arguments and results of a procedure are
  *     yugerzat_strerror, yugerzat_kind_name, yugerzat_kind_by_name
  *
@@ -50,6 +52,13 @@
  *   - It covers only the bytes that were read. The body of a credential stays opaque in a plain rpc_msg, so an odd
  *     byte inside an AUTH_UNIX credential is seen by yugerzat_get_auth_unix alone. The arguments of a call come after
  *     its rpc_msg, and are to be read by themselves.
+ *
+ * TWO READINGS OF REPLIES. In nfsserve's, accept_stat is 0 to 4 and auth_stat 1 to 5; in the CURRENT READING, which is
+ * RFC 5531's, accept_stat is 0 to 5 and auth_stat 0 to 14. A larger accept_stat reads as GARBAGE_ARGS, so in the first
+ * reading 5, SYSTEM_ERR, a server's own failure, looks like the caller's. Whoever must answer just as nfsserve does
+ * takes the functions without `current` in their names; whoever relays replies, or looks for the cause of a failure,
+ * takes those with it. The kinds whose names begin with current_ are the current reading too, for the functions that
+ * take any kind. A call is the same in both readings.
  *
  * ANSWERS. Every call of every function returns an answer. 0, and those from 100 on, hand something over. 1 to 9 are
  * REFUSALS, a numbered "no": nothing is handed over, and every lent buffer stays as it was. (One exception: after
@@ -83,7 +92,7 @@
 #endif
 
 /* made by tools/generate: version */
-#define YUGERZAT_VERSION "0.3.0"
+#define YUGERZAT_VERSION "0.4.0"
 /* end of version */
 
 /* The compiler warns where an answer is not looked at. */
@@ -230,8 +239,16 @@ enum yugerzat_kind YUGERZAT_32_BITS {
     YUGERZAT_KIND_READ3RES = 56,
     YUGERZAT_KIND_WRITE3ARGS = 57,
     YUGERZAT_KIND_WRITE3RES = 58,
+    YUGERZAT_KIND_CURRENT_ACCEPT_STAT = 59,
+    YUGERZAT_KIND_CURRENT_AUTH_STAT = 60,
+    YUGERZAT_KIND_CURRENT_ACCEPT_BODY = 61,
+    YUGERZAT_KIND_CURRENT_ACCEPTED_REPLY = 62,
+    YUGERZAT_KIND_CURRENT_REJECTED_REPLY = 63,
+    YUGERZAT_KIND_CURRENT_REPLY_BODY = 64,
+    YUGERZAT_KIND_CURRENT_RPC_BODY = 65,
+    YUGERZAT_KIND_CURRENT_RPC_MSG = 66,
 };
-#define YUGERZAT_KINDS 59 /* how many there are: their numbers are below this */
+#define YUGERZAT_KINDS 67 /* how many there are: their numbers are below this */
 /* end of kinds */
 
 typedef char yugerzat_kind_has_32_bits[sizeof(enum yugerzat_kind) == 4 ? 1 : -1];
@@ -301,6 +318,14 @@ static inline const char *yugerzat_kind_name(enum yugerzat_kind kind)
         "read3res",
         "write3args",
         "write3res",
+        "current_accept_stat",
+        "current_auth_stat",
+        "current_accept_body",
+        "current_accepted_reply",
+        "current_rejected_reply",
+        "current_reply_body",
+        "current_rpc_body",
+        "current_rpc_msg",
         /* end of kind names */
         /* clang-format on */
     };
@@ -563,6 +588,9 @@ enum yugerzat_accept_stat YUGERZAT_32_BITS {
     YUGERZAT_PROG_MISMATCH = 2,
     YUGERZAT_PROC_UNAVAIL = 3,
     YUGERZAT_GARBAGE_ARGS = 4,
+
+    /* The current reading alone: the other functions never give it, and refuse to write it. */
+    YUGERZAT_SYSTEM_ERR = 5,
 };
 
 enum yugerzat_auth_stat YUGERZAT_32_BITS {
@@ -571,6 +599,18 @@ enum yugerzat_auth_stat YUGERZAT_32_BITS {
     YUGERZAT_AUTH_BADVERF = 3,
     YUGERZAT_AUTH_REJECTEDVERF = 4,
     YUGERZAT_AUTH_TOOWEAK = 5,
+
+    /* The current reading alone: the other functions never give them, and refuse to write them. */
+    YUGERZAT_AUTH_OK = 0,
+    YUGERZAT_AUTH_INVALIDRESP = 6,
+    YUGERZAT_AUTH_FAILED = 7,
+    YUGERZAT_AUTH_KERB_GENERIC = 8,
+    YUGERZAT_AUTH_TIMEEXPIRE = 9,
+    YUGERZAT_AUTH_TKT_FILE = 10,
+    YUGERZAT_AUTH_DECODE = 11,
+    YUGERZAT_AUTH_NET_ADDR = 12,
+    YUGERZAT_RPCSEC_GSS_CREDPROBLEM = 13,
+    YUGERZAT_RPCSEC_GSS_CTXPROBLEM = 14,
 };
 
 /* Which of its four forms an rpc_msg has. */
@@ -613,12 +653,13 @@ struct yugerzat_rpc_msg {
     } body;
 };
 
-/* The arguments of a call, or the results of a reply, begin at reading->next. */
-YUGERZAT_MUST_USE static inline enum yugerzat_answer yugerzat_get_rpc_msg(
-    const uint8_t *src, size_t src_len, size_t at, struct yugerzat_rpc_msg *value, struct yugerzat_reading *reading)
+/* Both readings have the same figures: `current` says which of the library's functions is called. */
+static inline enum yugerzat_answer yugerzat_private_get_rpc_msg(bool current, const uint8_t *src, size_t src_len,
+    size_t at, struct yugerzat_rpc_msg *value, struct yugerzat_reading *reading)
 {
     uint64_t info[YUGERZAT_FIGURES_RPC_MSG];
-    enum yugerzat_answer answer = yugerzat_read_rpc_msg(src, src_len, at, info, YUGERZAT_FIGURES_RPC_MSG);
+    enum yugerzat_answer answer = (current ? yugerzat_read_current_rpc_msg : yugerzat_read_rpc_msg)(
+        src, src_len, at, info, YUGERZAT_FIGURES_RPC_MSG);
     memset(value, 0, sizeof *value);
     value->xid = (uint32_t)info[YUGERZAT_FIGURE_RPC_MSG_XID];
     value->tag = (enum yugerzat_tag)info[YUGERZAT_FIGURE_RPC_MSG_TAG];
@@ -650,6 +691,20 @@ YUGERZAT_MUST_USE static inline enum yugerzat_answer yugerzat_get_rpc_msg(
     return yugerzat_private_read(answer, info, reading);
 }
 
+/* The arguments of a call, or the results of a reply, begin at reading->next. */
+YUGERZAT_MUST_USE static inline enum yugerzat_answer yugerzat_get_rpc_msg(
+    const uint8_t *src, size_t src_len, size_t at, struct yugerzat_rpc_msg *value, struct yugerzat_reading *reading)
+{
+    return yugerzat_private_get_rpc_msg(false, src, src_len, at, value, reading);
+}
+
+/* The same in the current reading. */
+YUGERZAT_MUST_USE static inline enum yugerzat_answer yugerzat_get_current_rpc_msg(
+    const uint8_t *src, size_t src_len, size_t at, struct yugerzat_rpc_msg *value, struct yugerzat_reading *reading)
+{
+    return yugerzat_private_get_rpc_msg(true, src, src_len, at, value, reading);
+}
+
 static inline enum yugerzat_answer yugerzat_private_put_call(
     uint32_t xid, const struct yugerzat_call *call, uint8_t *out, size_t out_len, size_t start, uint64_t *info)
 {
@@ -671,7 +726,7 @@ static inline enum yugerzat_answer yugerzat_private_put_call(
 }
 
 static inline enum yugerzat_answer yugerzat_private_put_reply(
-    const struct yugerzat_rpc_msg *value, uint8_t *out, size_t out_len, size_t start, uint64_t *info)
+    bool current, const struct yugerzat_rpc_msg *value, uint8_t *out, size_t out_len, size_t start, uint64_t *info)
 {
     uint64_t figures[YUGERZAT_FIGURES_RPC_MSG] = {0};
     const uint64_t *fields = figures + YUGERZAT_FIGURE_FIELDS;
@@ -692,20 +747,33 @@ static inline enum yugerzat_answer yugerzat_private_put_reply(
     } else if (value->tag == YUGERZAT_TAG_DENIED_AUTH) {
         figures[YUGERZAT_FIGURE_RPC_MSG_DENIED_AUTH_STAT] = (uint64_t)value->body.denied_auth;
     }
-    return yugerzat_write_reply(verf.bytes, verf.count, fields, YUGERZAT_FIGURES_WRITE_REPLY, out, out_len, start, info,
-        YUGERZAT_FIGURES_WRITTEN);
+    return (current ? yugerzat_write_current_reply : yugerzat_write_reply)(verf.bytes, verf.count, fields,
+        YUGERZAT_FIGURES_WRITE_REPLY, out, out_len, start, info, YUGERZAT_FIGURES_WRITTEN);
+}
+
+static inline enum yugerzat_answer yugerzat_private_put_rpc_msg(bool current, const struct yugerzat_rpc_msg *value,
+    uint8_t *out, size_t out_len, size_t start, struct yugerzat_writing *writing)
+{
+    uint64_t info[YUGERZAT_FIGURES_WRITTEN] = {0};
+    enum yugerzat_answer answer =
+        value->tag == YUGERZAT_TAG_CALL
+            ? yugerzat_private_put_call(value->xid, &value->body.call, out, out_len, start, info)
+            : yugerzat_private_put_reply(current, value, out, out_len, start, info);
+    return yugerzat_private_written(answer, info, writing);
 }
 
 /* Writes a call or a reply, as the tag says. A call's credential and verifier may lie in different buffers. */
 YUGERZAT_MUST_USE static inline enum yugerzat_answer yugerzat_put_rpc_msg(
     const struct yugerzat_rpc_msg *value, uint8_t *out, size_t out_len, size_t start, struct yugerzat_writing *writing)
 {
-    uint64_t info[YUGERZAT_FIGURES_WRITTEN] = {0};
-    enum yugerzat_answer answer =
-        value->tag == YUGERZAT_TAG_CALL
-            ? yugerzat_private_put_call(value->xid, &value->body.call, out, out_len, start, info)
-            : yugerzat_private_put_reply(value, out, out_len, start, info);
-    return yugerzat_private_written(answer, info, writing);
+    return yugerzat_private_put_rpc_msg(false, value, out, out_len, start, writing);
+}
+
+/* The same in the current reading. */
+YUGERZAT_MUST_USE static inline enum yugerzat_answer yugerzat_put_current_rpc_msg(
+    const struct yugerzat_rpc_msg *value, uint8_t *out, size_t out_len, size_t start, struct yugerzat_writing *writing)
+{
+    return yugerzat_private_put_rpc_msg(true, value, out, out_len, start, writing);
 }
 
 /* ------------------------------------------------------------------ auth_unix: the body of an AUTH_UNIX credential */
@@ -1072,24 +1140,12 @@ struct yugerzat_chosen {
 
 #define YUGERZAT_REPLY_BYTES ((size_t)24) /* of every reply that is chosen */
 
-/*
- * Chooses what to do with a message that came in; `seen` says whether its call came before.
- *
- * YUGERZAT_HAND_OVER: it is a call for NFS (100003), the port mapper (100000) or mount (100005). out is untouched.
- * YUGERZAT_REPLY: a reply to send back stands at the start of out: the RPC version is not 2, or the program is not
- * served.
- * YUGERZAT_SILENCE: the call was seen before.
- * Refusals: YUGERZAT_TOO_LONG, YUGERZAT_ENDS, YUGERZAT_UNDECLARED, YUGERZAT_REPLY_CAME, and YUGERZAT_NO_ROOM where a
- * reply is due and out is shorter than YUGERZAT_REPLY_BYTES. The auth_unix of a credential may be what ends: then
- * bytes are wanting in the credential's body, and more bytes behind the message do not help; yugerzat_get_rpc_msg
- * tells, since it takes such a message.
- */
-YUGERZAT_MUST_USE static inline enum yugerzat_answer yugerzat_choose_program(
-    const uint8_t *message, size_t message_len, bool seen, uint8_t *out, size_t out_len, struct yugerzat_chosen *chosen)
+static inline enum yugerzat_answer yugerzat_private_choose_program(bool current, const uint8_t *message,
+    size_t message_len, bool seen, uint8_t *out, size_t out_len, struct yugerzat_chosen *chosen)
 {
     uint64_t info[YUGERZAT_FIGURES_CHOOSE];
-    enum yugerzat_answer answer =
-        yugerzat_choose(message, message_len, seen ? 1 : 0, out, out_len, info, YUGERZAT_FIGURES_CHOOSE);
+    enum yugerzat_answer answer = (current ? yugerzat_current_choose : yugerzat_choose)(
+        message, message_len, seen ? 1 : 0, out, out_len, info, YUGERZAT_FIGURES_CHOOSE);
     memset(chosen, 0, sizeof *chosen);
     if (answer == YUGERZAT_HAND_OVER) {
         chosen->prog = (uint32_t)info[YUGERZAT_FIGURE_CHOOSE_PROG];
@@ -1112,6 +1168,34 @@ YUGERZAT_MUST_USE static inline enum yugerzat_answer yugerzat_choose_program(
     if (answer == YUGERZAT_NO_ROOM)
         chosen->refusal.needed = YUGERZAT_REPLY_BYTES;
     return answer;
+}
+
+/*
+ * Chooses what to do with a message that came in; `seen` says whether its call came before.
+ *
+ * YUGERZAT_HAND_OVER: it is a call for NFS (100003), the port mapper (100000) or mount (100005). out is untouched.
+ * YUGERZAT_REPLY: a reply to send back stands at the start of out: the RPC version is not 2 (it names the versions 0
+ * and 0, as nfsserve does), or the program is not served.
+ * YUGERZAT_SILENCE: the call was seen before.
+ * Refusals: YUGERZAT_TOO_LONG, YUGERZAT_ENDS, YUGERZAT_UNDECLARED, YUGERZAT_REPLY_CAME, and YUGERZAT_NO_ROOM where a
+ * reply is due and out is shorter than YUGERZAT_REPLY_BYTES. The auth_unix of a credential may be what ends: then
+ * bytes are wanting in the credential's body, and more bytes behind the message do not help; yugerzat_get_rpc_msg
+ * tells, since it takes such a message.
+ */
+YUGERZAT_MUST_USE static inline enum yugerzat_answer yugerzat_choose_program(
+    const uint8_t *message, size_t message_len, bool seen, uint8_t *out, size_t out_len, struct yugerzat_chosen *chosen)
+{
+    return yugerzat_private_choose_program(false, message, message_len, seen, out, out_len, chosen);
+}
+
+/*
+ * The same in the current reading. Two things differ: where the RPC version is not 2 the reply names the versions 2
+ * and 2, and a reply that came is YUGERZAT_REPLY_CAME with every auth_stat from 0 to 14.
+ */
+YUGERZAT_MUST_USE static inline enum yugerzat_answer yugerzat_choose_current_program(
+    const uint8_t *message, size_t message_len, bool seen, uint8_t *out, size_t out_len, struct yugerzat_chosen *chosen)
+{
+    return yugerzat_private_choose_program(true, message, message_len, seen, out, out_len, chosen);
 }
 
 /* ------------------------------------------------------------------ arguments and results of procedures */

@@ -94,7 +94,7 @@ enum {
     YUGERZAT_FIGURE_RPC_MSG_ACCEPTED_VERF_FLAVOR = 4,
     YUGERZAT_FIGURE_RPC_MSG_ACCEPTED_VERF_AT = 5,
     YUGERZAT_FIGURE_RPC_MSG_ACCEPTED_VERF_COUNT = 6,
-    YUGERZAT_FIGURE_RPC_MSG_ACCEPTED_STAT = 7, /* enum yugerzat_accept_stat */
+    YUGERZAT_FIGURE_RPC_MSG_ACCEPTED_STAT = 7, /* enum yugerzat_accept_stat: 0 to 4; 0 to 5 in the current reading */
     YUGERZAT_FIGURE_RPC_MSG_ACCEPTED_LOW = 8,  /* 0 unless that is YUGERZAT_PROG_MISMATCH */
     YUGERZAT_FIGURE_RPC_MSG_ACCEPTED_HIGH = 9,
 
@@ -103,7 +103,7 @@ enum {
     YUGERZAT_FIGURE_RPC_MSG_DENIED_HIGH = 5,
 
     /* YUGERZAT_TAG_DENIED_AUTH; the other nine are 0 */
-    YUGERZAT_FIGURE_RPC_MSG_DENIED_AUTH_STAT = 4, /* enum yugerzat_auth_stat */
+    YUGERZAT_FIGURE_RPC_MSG_DENIED_AUTH_STAT = 4, /* enum yugerzat_auth_stat: 1 to 5; 0 to 14 in the current reading */
 
     YUGERZAT_FIGURES_RPC_MSG = 14
 };
@@ -113,6 +113,10 @@ enum {
  * Refusals: YUGERZAT_ENDS, YUGERZAT_UNDECLARED, YUGERZAT_TOO_LONG, YUGERZAT_PAST_END.
  */
 YUGERZAT_MUST_USE enum yugerzat_answer yugerzat_read_rpc_msg(
+    const uint8_t *message, size_t message_len, size_t at, uint64_t *info, size_t info_len);
+
+/* The same in the current reading. */
+YUGERZAT_MUST_USE enum yugerzat_answer yugerzat_read_current_rpc_msg(
     const uint8_t *message, size_t message_len, size_t at, uint64_t *info, size_t info_len);
 
 /* The fields of a call: those of the reader for YUGERZAT_TAG_CALL, without the tag. */
@@ -145,6 +149,11 @@ YUGERZAT_MUST_USE enum yugerzat_answer yugerzat_write_call(const uint8_t *cred_s
 enum { YUGERZAT_FIGURES_WRITE_REPLY = 8 };
 
 YUGERZAT_MUST_USE enum yugerzat_answer yugerzat_write_reply(const uint8_t *source, size_t source_len,
+    const uint64_t *fields, size_t fields_len, uint8_t *out, size_t out_len, size_t start, uint64_t *info,
+    size_t info_len);
+
+/* The same in the current reading: YUGERZAT_SYSTEM_ERR is written too, and so are the auth_stat 0 and 6 to 14. */
+YUGERZAT_MUST_USE enum yugerzat_answer yugerzat_write_current_reply(const uint8_t *source, size_t source_len,
     const uint64_t *fields, size_t fields_len, uint8_t *out, size_t out_len, size_t start, uint64_t *info,
     size_t info_len);
 
@@ -342,7 +351,8 @@ enum {
  *
  * YUGERZAT_HAND_OVER: it is a call for NFS (100003), the port mapper (100000) or mount (100005). out is untouched.
  * YUGERZAT_REPLY: a reply to send back stands at the start of out, YUGERZAT_REPLY_BYTES bytes: the RPC version is not
- * 2, or the program is not served. YUGERZAT_SILENCE: the call was seen before.
+ * 2 (it names the versions 0 and 0, as nfsserve does), or the program is not served. YUGERZAT_SILENCE: the call was
+ * seen before.
  * Refusals: YUGERZAT_TOO_LONG, YUGERZAT_ENDS, YUGERZAT_UNDECLARED, YUGERZAT_REPLY_CAME, and YUGERZAT_NO_ROOM where a
  * reply is due and out is shorter than that. The first two figures are YUGERZAT_FIGURE_PLACE and
  * YUGERZAT_FIGURE_WANTING. Where the auth_unix of the credential ends, bytes are wanting in the credential's body,
@@ -351,6 +361,13 @@ enum {
  */
 YUGERZAT_MUST_USE enum yugerzat_answer yugerzat_choose(const uint8_t *message, size_t message_len, uint32_t seen,
     uint8_t *out, size_t out_len, uint64_t *info, size_t info_len);
+
+/*
+ * The same in the current reading. Two things differ: where the RPC version is not 2 the reply names the versions 2
+ * and 2, and a reply that came is YUGERZAT_REPLY_CAME with every auth_stat from 0 to 14.
+ */
+YUGERZAT_MUST_USE enum yugerzat_answer yugerzat_current_choose(const uint8_t *message, size_t message_len,
+    uint32_t seen, uint8_t *out, size_t out_len, uint64_t *info, size_t info_len);
 
 #ifdef __cplusplus
 }
