@@ -1,8 +1,8 @@
 // The messages of RPC (RFC 5531), as the crate nfsserve reads and writes them, with the crate's names and its tolerances 3 to 6.
 //
 // `read_X(src, at)` reads an X of a message from a place on; `write_X(.., out, at)` writes one into a buffer from a place on, with the
-// source that its pieces are of. The six makers make the replies that a server gives by itself. Every input gets an answer. What the
-// answers mean stands in specs/Meaning.
+// source that its pieces are of. The six makers make the replies that a server gives by itself. `current` has replies by RFC 5531's own
+// lists, which are longer than the crate's. Every input gets an answer. What the answers mean stands in specs/Meaning.
 pub mod answer;
 pub mod auth;
 pub mod current;

@@ -1,5 +1,5 @@
 -- A reading of RFC 5531: which accept statuses and which authentication numbers it declares. Two are built: the crate's, with its older lists
--- (Meaning/Crate), and the current one, with RFC 5531's own (the crate `current`). What depends on the lists is defined over a reading
+-- (Meaning/Crate), and the current one, with RFC 5531's own (Meaning/Current). What depends on the lists is defined over a reading
 -- (Meaning/Reply, Meaning/Message); all else is the same in both.
 -- Assumes nothing.
 use mathlib.Core.Path.{_≡_, refl}
