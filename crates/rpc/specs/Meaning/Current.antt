@@ -1,4 +1,4 @@
--- The current reading: RFC 5531's own lists (sections 8.2 and 9), and the types that the code has for them.
+-- The current reading: RFC 5531's own lists (section 9), and the types that the code has for them.
 -- Assumes nothing.
 use mathlib.Core.Path.{_≡_, refl}
 use mathlib.Core.Logic.{_⊎_, inl, inr}

@@ -1,10 +1,10 @@
-// Replies in the current reading: what RFC 5531 declares in its sections 8.2 and 9.
+// Replies in the current reading (RFC 5531, section 9).
 ghost use mathlib.Core.Path.{_≡_};
 ghost use Rattle.rpc.specs.Meaning.Current.{acceptStatNumber, authStatNumber};
 use crate::auth::opaque_auth;
 use crate::reply::mismatch_info;
 
-// Why a call was not answered: RFC 5531's own lists (sections 9 and 8.2), which are longer than the crate's.
+// What became of an accepted call; and below, why authentication failed. Both lists are longer than the crate's.
 pub enum accept_stat {
     SUCCESS,
     PROG_UNAVAIL,
