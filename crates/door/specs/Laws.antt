@@ -7,3 +7,4 @@ pub mod One
 pub mod Again
 pub mod Replies
 pub mod Judged
+pub mod Streams

@@ -6,3 +6,4 @@ pub mod Worked
 pub mod Procedures
 pub mod EveryAnswer
 pub mod Readings
+pub mod Streams

@@ -17,6 +17,7 @@ use Rattle.rpcwire.specs.Meaning.Fragment.{WritesFragment}
 use Rattle.rpc.specs.Meaning.Reading.{Reading}
 use Rattle.rpcwire.specs.Meaning.Choice.{Chosen, turned-away, replied, silent, handed, Chooses}
 use Rattle.rpcwire.specs.Meaning.Stream.{Said, more, complete, refused, Feeds}
+use Rattle.rpcwire.specs.Meaning.Promise.{usedSaid}
 use Rattle.rpcwire.specs.declared.assembler.Assembler.{Assembler}
 use Rattle.door.specs.Meaning.Copy.{Copy, unknown, unread, unmade, made}
 use Rattle.door.specs.Meaning.Kinds.{kinds, CopiesOf}
@@ -168,3 +169,12 @@ pub record FeedTold (l run d i : List ℕ) (r : ℕ) (l′ d′ i′ : List ℕ)
 pub record FeedCalled (l run d i : List ℕ) (r : ℕ) (l′ d′ i′ : List ℕ) : Type 0 where
   pub room : 7 ≤ length l → 2 ≤ length i → FeedTold l run d i r l′ d′ i′
   pub short : (length l < 7) ⊎ (length i < 2) → (r ≡ 254) × (l′ ≡ l) × (d′ ≡ d) × (i′ ≡ i)
+
+-- A stream can be fed through it: the answer is one that `feed` may give of the state that the list said, and the list then says the state to
+-- go on with. So what `rpcwire` Meaning/Session promises of every way of feeding holds of such calls
+pub record FedOn (l run d l′ d′ i′ : List ℕ) : Type 0 where
+  pub said : Said
+  pub answers : Feeds (stateOf l) run d said d′
+  pub state : stateOf l′ ≡ fedState said
+  pub used : getD i′ 0 0 ≡ usedSaid said
+  pub again : (7 ≤ length l′) × (2 ≤ length i′)

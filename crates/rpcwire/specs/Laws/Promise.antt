@@ -4,7 +4,7 @@ use mathlib.Core.Path.{_≡_, refl, sym, ap, _∙_, subst}
 use mathlib.Core.Logic.{_↔_}
 use mathlib.Core.List.{List, [], _∷_, _++_, foldl, foldl-append}
 use mathlib.Core.Bool.{Bool, true, false}
-use Prim.Native.Nat.{ℕ, zero, suc, _+_, _-_, _≤_}
+use Prim.Native.Nat.{ℕ, zero, suc, _+_, _-_, _≤_, _<_}
 use native.Mathlib.Nat.{add-zero}
 use native.Mathlib.Omega.{arith}
 use lib.ListN.{length, take, length-set}
@@ -13,7 +13,7 @@ use Rattle.xdr.specs.Meaning.Answer.{most}
 use Rattle.rpcwire.specs.Meaning.Stream.{Said, more, complete, refused, Now, stand, fresh, begin, advance, after, stepAt, feedOf, fitsOf, Feeds}
 use Rattle.rpcwire.specs.Meaning.Promise.{numberSaid, stateSaid, shift, resumeSaid, resume, Promised, Promise}
 use Rattle.rpcwire.specs.Laws.Fits.{fits-header}
-use Rattle.rpcwire.specs.Laws.Steps.{begin-more, begin-stopped, begin-misfit, walk-ended, shift-walk, Sound, SoundNow, sound-walk, used, used-walk, used-begin, cut-walk, KeptNow, kept-walk, placed-begin}
+use Rattle.rpcwire.specs.Laws.Steps.{begin-more, begin-stopped, begin-misfit, walk-ended, shift-walk, Sound, SoundNow, sound-walk, used, used-step, used-walk, used-begin, cut-walk, KeptNow, kept-walk, placed-begin}
 use Rattle.rpcwire.specs.declared.assembler.Assembler.{Assembler}
 use Rattle.xdr.specs.declared.refusal.Refusal.the-variants.{Unfit, Overrun}
 use Rattle.xdr.specs.Meaning.Refusal.{numberOf}
@@ -77,6 +77,19 @@ split-at-fit s a b d hb false h = feed-misfit s (a ++ b) d h ∙ sym (ap (λ (n 
 pub split : (s : Assembler) (a b d : List ℕ) → Bytes a → feedOf s (a ++ b) d ≡ resume (feedOf s a d) b
 split s a b d hb = split-at-fit s a b d hb (fitsOf s (length d)) refl
 
+-- one byte by itself
+pub feed-byte : (s : Assembler) (d : List ℕ) (b : ℕ) → fitsOf s (length d) ≡ true → s .stopped ≡ false → feedOf s (b ∷ []) d ≡ stepAt (s .left) s d b (0 + 1)
+unfolding feedOf advance after
+feed-byte s d b k t = ap (λ (f : Said). advance (stand f d) b) (begin-more s (length d) k t)
+
+pub byte-used : (s : Assembler) (d : List ℕ) (b : ℕ) → fitsOf s (length d) ≡ true → s .stopped ≡ false → used (feedOf s (b ∷ []) d) ≡ 1
+byte-used s d b k t = ap used (feed-byte s d b k t) ∙ used-step (s .left) s d b (0 + 1)
+
+used-some : (s : Assembler) (run d : List ℕ) → fitsOf s (length d) ≡ true → s .stopped ≡ false → 0 < length run → 0 < used (feedOf s run d)
+used-some s [] d k t h = absurd (omega arith)
+used-some s (b ∷ bs) d k t h =
+    subst (λ (n : Now). 0 < used n) (sym (feed-append s (b ∷ []) bs d)) (omega (arith, used-walk (feedOf s (b ∷ []) d) bs .0, byte-used s d b k t))
+
 -- the count used
 used-bound : (s : Assembler) (run d : List ℕ) → used (feedOf s run d) ≤ length run
 unfolding feedOf
@@ -130,6 +143,7 @@ promised {s} {run} {d} {f} {d′} c =
       stays = λ h k. says (c .is ∙ feed-stopped s run d h k);
       again = λ h. sound-fits f d′ (subst SoundNow e (sound s run d b h));
       joins = λ next. split s run next d b ∙ ap (λ (n : Now). resume n next) e;
+      moves = λ h k n. subst (λ (m : Now). 0 < used m) e (used-some s run d h k n);
       within = subst (λ (n : Now). used n ≤ length run) e (used-bound s run d);
       alone = ap (λ (n : Now). feedOf s (take (used n) run) d) (c .is) ∙ used-only s run d ∙ e;
       kept = subst (KeptNow (s .placed) d) e (kept-feed s run d);

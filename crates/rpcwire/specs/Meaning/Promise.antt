@@ -4,7 +4,7 @@ use mathlib.Core.Path.{_≡_}
 use mathlib.Core.Logic.{_↔_}
 use mathlib.Core.Bool.{true, false}
 use mathlib.Core.List.{List, _++_}
-use Prim.Native.Nat.{ℕ, _+_, _≤_}
+use Prim.Native.Nat.{ℕ, _+_, _≤_, _<_}
 use lib.ListN.{length, take, drop}
 use Rattle.xdr.specs.Meaning.Answer.{most}
 use Rattle.rpcwire.specs.Meaning.Stream.{Said, more, complete, refused, Now, stand, fresh, fitsOf, feedOf, Feeds}
@@ -70,6 +70,8 @@ pub record Promised (s : Assembler) (run d : List ℕ) (f : Said) (d′ : List �
   pub again : fitsOf s (length d) ≡ true → fitsOf (stateSaid f) (length d′) ≡ true
   -- feeding this run and then another is feeding both at once; so no byte past a record's end is used
   pub joins : (next : List ℕ) → feedOf s (run ++ next) d ≡ resume (stand f d′) next
+  -- a state that fits and is not stopped uses a byte of every run that has one
+  pub moves : fitsOf s (length d) ≡ true → s .stopped ≡ false → 0 < length run → 0 < usedSaid f
   -- no more is used than there is, and the bytes used alone make the answer
   pub within : usedSaid f ≤ length run
   pub alone : feedOf s (take (usedSaid f) run) d ≡ stand f d′
