@@ -7,6 +7,7 @@ mod kinds;
 mod print;
 mod programs;
 mod records;
+mod streams;
 mod usage;
 mod why;
 mod words;
@@ -16,7 +17,7 @@ use stdio::Out;
 use stdio::flush;
 use stdio::say;
 
-// What a line asks for, by its first word; 9 where it is none of these.
+// What a line asks for, by its first word; 10 where it is none of these.
 fn verb_of(word: &[u8]) -> u32 {
     if check::same(word, b"read") {
         return 0;
@@ -45,7 +46,10 @@ fn verb_of(word: &[u8]) -> u32 {
     if check::same(word, b"current_choose") {
         return 8;
     }
-    9
+    if check::same(word, b"stream") {
+        return 9;
+    }
+    10
 }
 
 // The answer to a question about a message.
@@ -81,7 +85,8 @@ fn of_stream(
         5 => records::feed(line, s, message, room, out, at),
         6 => records::state(line, s, message, room, out, at),
         7 => programs::choose(false, line, s, message, room, out, at),
-        _ => programs::choose(true, line, s, message, room, out, at),
+        8 => programs::choose(true, line, s, message, room, out, at),
+        _ => streams::stream(line, s, message, room, out, at),
     }
 }
 
@@ -92,7 +97,7 @@ fn answer(line: &[u8], message: &mut [u8], room: &mut [u8], out: &mut [u8], at: 
     if verb < 4 {
         return of_message(verb, line, end + 1, message, room, out, at);
     }
-    if verb < 9 {
+    if verb < 10 {
         return of_stream(verb, line, end + 1, message, room, out, at);
     }
     why::question(line, out, at)

@@ -70,7 +70,7 @@ pub(crate) fn fragment(
 }
 
 // The state that an answer leaves, whatever the answer is.
-fn state_of(f: Fed) -> Assembler {
+pub(crate) fn state_of(f: Fed) -> Assembler {
     match f {
         Fed::Refused {
             refusal: _,
@@ -131,7 +131,7 @@ fn state_words(out: &mut [u8], at: Out, s: Assembler) -> Out {
 }
 
 // The state and the buffer, with which a line about the assembler ends.
-fn state_and_buffer(out: &mut [u8], at: Out, s: Assembler, buf: &[u8]) -> Out {
+pub(crate) fn state_and_buffer(out: &mut [u8], at: Out, s: Assembler, buf: &[u8]) -> Out {
     let n = state_words(out, at, s);
     let n = say(out, n, b"; buffer");
     print::hex(out, n, buf)

@@ -35,6 +35,11 @@ space. Bytes are hex, - for none; numbers are decimal and fit 64 bits.
                                the same for one feed of that state with a buffer of LENGTH bytes
       state 4 0 0 0 2 1 0 4 AB
       more 1; state 4 1 0 0 1 1 0; buffer abeeeeee
+  stream CAPACITY HEX LENGTH LENGTH ..
+                               record LENGTH RECORD of each record, refused N AFTER for a stop, used TOTAL, and where that
+                               leads: HEX fed in runs of these lengths, and then whole; the same whatever they are
+      stream 4 80000002ABCD80000000 1 0 6
+      record 2 abcd; record 0 -; used 10; state 4 0 0 0 0 0 0; buffer abcdeeee
 ",
     )
 }
