@@ -1,6 +1,7 @@
 /*
  * Holds the structs and inline functions of include/yugerzat.h to the library's own functions: both are asked the
- * same, and must say the same. What the library's own functions say is tested by tests.c.
+ * same, and must say the same. What the library's own functions say is tested by tests.c. A stream is also held to
+ * itself, cut in other ways.
  */
 #include "testing.h"
 
@@ -905,7 +906,8 @@ static unsigned feed_both(const struct bytes *stream, size_t run, size_t capacit
         CHECK(fed.used == told[0] && fed.length == told[1] && same_state(&state, listed) &&
               memcmp(record, out, sizeof out) == 0);
         CHECK(yugerzat_inside_record(&state) == (listed[1] || listed[2] || listed[4] || listed[6]));
-        if (*last != YUGERZAT_MORE && *last != YUGERZAT_COMPLETE)
+        CHECK(fed.used > 0);
+        if (fed.used == 0 || (*last != YUGERZAT_MORE && *last != YUGERZAT_COMPLETE))
             break;
         if (*last == YUGERZAT_COMPLETE) {
             records++;
@@ -969,6 +971,215 @@ static void test_records(void)
     CHECK(yugerzat_put_fragment(long_message, YUGERZAT_LIMIT_BYTES + 1, long_out, sizeof long_out, 0, &writing) ==
           YUGERZAT_TOO_LONG);
     CHECK(writing_is(&writing, YUGERZAT_TOO_LONG, 0, 0));
+}
+
+/* ---- a stream, however it is cut */
+
+#define CAPACITY 5
+#define LENT (CAPACITY + 3) /* the library is not told of the last three bytes */
+#define RECORDS 5
+
+#define WHOLE_RECORDS                        \
+    "00000002 ABCD 00000000 80000003 EF0123" \
+    "80000000"                               \
+    "00000000 00000000 80000004 80000001"    \
+    "00000001 55 00000003 667788 80000000"   \
+    "00000000 80000000"
+
+/* Streams, and what is due at their end: the bytes used, the state, the record buffer, and how many records. */
+static const struct {
+    const char *name;
+    const char *stream;
+    size_t total;
+    struct yugerzat_state state;
+    const char *held;
+    size_t records;
+} streams[] = {
+    {"whole records", WHOLE_RECORDS, 61, {CAPACITY, 0, 0, 0, 0, 0, 0}, "5566778823", RECORDS},
+    {"an end inside a header", WHOLE_RECORDS "00000002 0102 800001", 70, {CAPACITY, 2, 3, 0x800001, 0, 0, 0},
+        "0102778823", RECORDS},
+    {"an end inside a fragment", WHOLE_RECORDS "00000004 0102", 67, {CAPACITY, 2, 0, 0, 2, 0, 0}, "0102778823",
+        RECORDS},
+    {"an end inside a last fragment", WHOLE_RECORDS "00000001 01 80000004 0203", 72, {CAPACITY, 3, 0, 0, 2, 1, 0},
+        "0102038823", RECORDS},
+    {"a stop", WHOLE_RECORDS "00000002 0102 80000004 03040506 80000001 77", 71, {CAPACITY, 2, 0, 0, 0, 0, 1},
+        "0102778823", RECORDS},
+    {"a stop at once", "7FFFFFFF 80000001 77", 4, {CAPACITY, 0, 0, 0, 0, 0, 1}, "EEEEEEEEEE", 0},
+};
+
+static const char *const stream_records[RECORDS] = {"ABCDEF0123", "", "80000001", "55667788", ""};
+
+/* What was heard of a stream so far. */
+struct heard {
+    size_t total; /* bytes used */
+    struct yugerzat_state state;
+    uint8_t held[LENT]; /* the buffer that was lent last */
+    size_t records;     /* how many were complete .. */
+    size_t lengths[RECORDS];
+    uint8_t bytes[RECORDS][CAPACITY]; /* .. and their bytes, as they were then */
+};
+
+static struct heard unheard(void)
+{
+    struct heard h;
+    memset(&h, 0, sizeof h);
+    h.state = yugerzat_fresh_state(CAPACITY);
+    memset(h.held, 0xEE, sizeof h.held);
+    return h;
+}
+
+static struct heard due_of(size_t stream)
+{
+    struct heard h = unheard();
+    h.total = streams[stream].total;
+    h.state = streams[stream].state;
+    memcpy(h.held, bytes_of(streams[stream].held), CAPACITY);
+    for (; h.records < streams[stream].records; h.records++) {
+        struct bytes b = hex(stream_records[h.records]);
+        h.lengths[h.records] = b.count;
+        memcpy(h.bytes[h.records], b.at, b.count);
+    }
+    return h;
+}
+
+/* Feeds a run, and says whether what is told goes together. A byte is used where there is one, unless it is stopped. */
+static bool hear(struct heard *h, const uint8_t *run, size_t count, uint8_t *buf)
+{
+    bool stopped = h->state.stopped != 0;
+    struct yugerzat_fed fed = {SIZE_MAX, SIZE_MAX};
+    enum yugerzat_answer answer = yugerzat_feed_run(&h->state, count ? run : NULL, count, buf, CAPACITY, &fed);
+    if (fed.used > count || fed.length > CAPACITY || (fed.used > 0) != (count > 0 && !stopped))
+        return false;
+    h->total += fed.used;
+    memcpy(h->held, buf, LENT);
+    switch (answer) {
+    case YUGERZAT_MORE: return fed.used == count && fed.length == 0 && h->state.stopped == 0;
+    case YUGERZAT_FRAGMENT_TOO_LONG: return fed.length == 0 && h->state.stopped == 1;
+    case YUGERZAT_COMPLETE:
+        if (h->records == RECORDS)
+            return false;
+        memcpy(h->bytes[h->records], buf, fed.length);
+        h->lengths[h->records++] = fed.length;
+        return h->state.stopped == 0;
+    default: return false;
+    }
+}
+
+static bool same_records(const struct heard *h, const struct heard *due)
+{
+    return h->records == due->records && memcmp(h->lengths, due->lengths, sizeof h->lengths) == 0 &&
+           memcmp(h->bytes, due->bytes, sizeof h->bytes) == 0;
+}
+
+/* All seven members. */
+static bool same_end(const struct heard *h, const struct heard *due)
+{
+    return memcmp(&h->state, &due->state, sizeof h->state) == 0;
+}
+
+/* One buffer throughout; another for each record; or another for each feed, where what is placed is copied over. */
+enum lending { ONE_BUFFER, FOR_EACH_RECORD, FOR_EACH_FEED };
+
+/* One buffer holds the same from end to end; others hold the record so far. */
+static bool same_held(const struct heard *h, const struct heard *due, enum lending lending)
+{
+    return memcmp(h->held, due->held, lending == ONE_BUFFER ? LENT : (size_t)due->state.placed) == 0;
+}
+
+static size_t any_run(void)
+{
+    uint64_t most = any_number() % 16 + 1;
+    return (size_t)(any_number() % most);
+}
+
+/* What is heard after each byte, when the bytes of a stream come one by one. */
+static struct heard moments[sizeof(((struct bytes *)0)->at) + 1];
+
+static void hear_bytes(const struct bytes *stream)
+{
+    uint8_t buf[LENT];
+    size_t at;
+    memset(moments, 0, sizeof moments);
+    memset(buf, 0xEE, sizeof buf);
+    moments[0] = unheard();
+    for (at = 0; at < stream->count && !moments[at].state.stopped; at++) {
+        moments[at + 1] = moments[at];
+        CHECK(hear(moments + at + 1, stream->at + at, 1, buf));
+    }
+}
+
+/*
+ * Feeds a stream that is cut at place `first`, and from there on at every so many bytes, or at any places where that
+ * is 0. What was not used of a run is fed again. Only how many bytes were used may matter.
+ */
+static void hear_cut(
+    const struct bytes *stream, size_t first, size_t others, enum lending lending, const struct heard *due)
+{
+    static uint8_t lent[RECORDS + 1][LENT];
+    struct heard h = unheard();
+    uint8_t *buf = lent[0];
+    size_t feeds, i;
+    bool good = true;
+    memset(lent, 0xEE, sizeof lent);
+    for (feeds = 0; good && h.total < stream->count && !h.state.stopped; feeds++) {
+        size_t run = h.total < first ? first - h.total : others ? others - (h.total - first) % others : any_run();
+        if (run > stream->count - h.total)
+            run = stream->count - h.total;
+        if (lending == FOR_EACH_RECORD)
+            buf = lent[h.records];
+        if (lending == FOR_EACH_FEED) {
+            buf = lent[feeds % 2];
+            memset(buf, (int)(any_number() % 256), LENT);
+            memcpy(buf, h.held, (size_t)h.state.placed);
+        }
+        good = hear(&h, stream->at + h.total, run, buf) && same_records(&h, moments + h.total) &&
+               same_end(&h, moments + h.total) && same_held(&h, moments + h.total, lending);
+        CHECK(good);
+    }
+    if (!good)
+        return;
+    /* a stopped state uses nothing of the rest, and an empty run changes nothing */
+    CHECK(hear(&h, stream->at + h.total, stream->count - h.total, buf));
+    CHECK(hear(&h, stream->at + h.total, 0, buf));
+    CHECK(same_records(&h, due));
+    CHECK(h.total == due->total);
+    CHECK(same_end(&h, due));
+    CHECK(same_held(&h, due, lending));
+    /* records that have a buffer each are still there, and nothing behind them was touched */
+    for (i = 0; lending == FOR_EACH_RECORD && i < h.records; i++) {
+        CHECK(memcmp(lent[i], due->bytes[i], due->lengths[i]) == 0);
+        CHECK(memcmp(lent[i] + due->lengths[i], "\xEE\xEE\xEE\xEE\xEE\xEE\xEE\xEE", LENT - due->lengths[i]) == 0);
+    }
+}
+
+static void test_cuts(void)
+{
+    static const enum lending lendings[] = {ONE_BUFFER, FOR_EACH_RECORD, FOR_EACH_FEED};
+    char what[80];
+    size_t i, j, n;
+    for (i = 0; i < sizeof streams / sizeof *streams; i++) {
+        struct bytes stream = hex(streams[i].stream);
+        struct heard due = due_of(i);
+        of = streams[i].name;
+        hear_bytes(&stream);
+        CHECK(same_records(moments + due.total, &due) && same_end(moments + due.total, &due));
+        of = what;
+        for (j = 0; j < sizeof lendings / sizeof *lendings; j++) {
+            for (n = 1; n <= stream.count; n++) {
+                snprintf(what, sizeof what, "%s, runs of %u", streams[i].name, (unsigned)n);
+                hear_cut(&stream, 0, n, lendings[j], &due);
+            }
+            for (n = 0; n <= stream.count; n++) {
+                snprintf(what, sizeof what, "%s, cut at %u", streams[i].name, (unsigned)n);
+                hear_cut(&stream, n, stream.count, lendings[j], &due);
+            }
+            for (n = 0; n < 100; n++) {
+                snprintf(what, sizeof what, "%s, any runs, no. %u", streams[i].name, (unsigned)n);
+                hear_cut(&stream, 0, 0, lendings[j], &due);
+            }
+        }
+        of = "";
+    }
 }
 
 /* ---- the choice of program */
@@ -1084,6 +1295,7 @@ int main(void)
     test_parts();
     test_credential();
     test_records();
+    test_cuts();
     test_replies();
     return total();
 }

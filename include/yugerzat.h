@@ -92,7 +92,7 @@
 #endif
 
 /* made by tools/generate: version */
-#define YUGERZAT_VERSION "0.4.0"
+#define YUGERZAT_VERSION "0.4.1"
 /* end of version */
 
 /* The compiler warns where an answer is not looked at. */
@@ -1085,13 +1085,22 @@ struct yugerzat_fed {
 
 /*
  * Feeds a run of bytes from the stream to an assembler. The record is put at the start of buf, whose length must be
- * the capacity at every feed, and whose bytes the caller leaves alone while a record is begun.
+ * the capacity at every feed. From one feed to the next its first state->placed bytes, the record so far, have to
+ * stay. Another buffer may be lent if it is as long and begins with these bytes: between two records, any other.
  *
  * YUGERZAT_MORE: the run is used up, and the record is not complete.
  * YUGERZAT_COMPLETE: the record is the first fed->length bytes of buf. No byte after the record's end was used, and
- * the state is fresh. Feed the rest of the run next.
- * YUGERZAT_FRAGMENT_TOO_LONG: the state is stopped, and stays so: where the next record begins cannot be known.
+ * the state is fresh. Read the record, then feed the rest of the run: that may put the next record over it.
+ * YUGERZAT_FRAGMENT_TOO_LONG: the state is stopped, and stays so: where the next record begins cannot be known. No
+ * byte is used after that.
  * YUGERZAT_STATE_DOES_NOT_FIT: the state stays as it is, and no byte is used.
+ *
+ * However the stream is cut, the same comes of it. Feed it to a fresh state in runs of any lengths, empty ones too,
+ * each beginning with the first byte that was not used yet: you get the same records in the same order, the same
+ * number of bytes used in all, the same stop after the same byte, if there is one, and the same state at the end. On
+ * the way, too, what you have depends only on how many bytes were used. Of a run that is not empty a byte is always
+ * used unless the state is stopped or does not fit, so whoever feeds again what was not used comes to the end. This is
+ * proved of the library's own function; that nothing is lost between that and this one is tested.
  */
 YUGERZAT_MUST_USE static inline enum yugerzat_answer yugerzat_feed_run(struct yugerzat_state *state, const uint8_t *run,
     size_t run_len, uint8_t *buf, size_t buf_len, struct yugerzat_fed *fed)

@@ -306,8 +306,8 @@ enum {
 
 /*
  * Feeds a run of bytes from the stream to an assembler. The record is put at the start of buf, whose length must be
- * the capacity at every feed, and whose bytes the caller leaves alone while a record is begun. `state` becomes the
- * state to go on with.
+ * the capacity at every feed. From one feed to the next its first YUGERZAT_FIGURE_STATE_PLACED bytes have to stay;
+ * another buffer may be lent if it is as long and begins with these bytes. `state` becomes the state to go on with.
  *
  * YUGERZAT_MORE: the run is used up, and the record is not complete.
  * YUGERZAT_COMPLETE: the record is the first YUGERZAT_FIGURE_FEED_LENGTH bytes of buf. No byte after the record's end
@@ -315,6 +315,8 @@ enum {
  * YUGERZAT_STATE_DOES_NOT_FIT: the state stays as given and no byte is used; only a LAST or STOPPED that is neither 0
  * nor 1 comes back as 1, as after every other answer. YUGERZAT_FRAGMENT_TOO_LONG: the state is stopped, and stays so;
  * buf holds what was placed before. YUGERZAT_SHORT_LIST: state or info is too short.
+ *
+ * However a stream is cut into runs, the same comes of it: that is proved, and stands in full at yugerzat_feed_run.
  */
 YUGERZAT_MUST_USE enum yugerzat_answer yugerzat_feed(uint64_t *state, size_t state_len, const uint8_t *run,
     size_t run_len, uint8_t *buf, size_t buf_len, uint64_t *info, size_t info_len);

@@ -6,9 +6,15 @@ use std::io;
 use std::path::{Path, PathBuf};
 
 use crate::answers::{Choice, BOUND};
-use crate::cases::{Question, Room};
+use crate::cases::{run_lengths, Question, Room};
+use crate::list::{alike, SEED};
+use crate::random::Random;
 use crate::shapes::{kind, Reading};
 use crate::truth::Truth;
+
+/// A longer stream is not cut into bytes, because its line would have a length for each of them, and the list is to stay
+/// small.
+const CUT_INTO_BYTES: usize = 4_000;
 
 /// Kinds that stand one after another.
 type Form = &'static [&'static str];
@@ -93,7 +99,7 @@ fn sorted(folder: &Path) -> io::Result<Vec<PathBuf>> {
 fn connection(sent: &[u8], answered: &[u8], list: &mut Vec<String>) {
     let mut truth = Truth::new();
     let mut calls = HashMap::new();
-    for call in stream(&truth, sent, list) {
+    for call in stream(&mut truth, sent, list) {
         let arguments = judged(&mut truth, &call, list);
         for (reading, seen, room) in [
             (Reading::Crate, false, 24),
@@ -114,7 +120,7 @@ fn connection(sent: &[u8], answered: &[u8], list: &mut Vec<String>) {
             }
         }
     }
-    for reply in stream(&truth, answered, list) {
+    for reply in stream(&mut truth, answered, list) {
         let results = judged(&mut truth, &reply, list);
         let in_current = read(&mut truth, &reply, 0, "current_rpc_msg", list);
         assert_eq!(results, in_current, "both readings of a captured reply end at the same place");
@@ -126,9 +132,9 @@ fn connection(sent: &[u8], answered: &[u8], list: &mut Vec<String>) {
     }
 }
 
-/// A stream fed whole, in runs of several lengths, byte by byte, and into a buffer that is one byte too short. Gives its
-/// records: the crate's.
-fn stream(truth: &Truth, bytes: &[u8], list: &mut Vec<String>) -> Vec<Vec<u8>> {
+/// A stream fed whole, in runs of several lengths, byte by byte, and into a buffer that is one byte too short; and what it
+/// yields in several cuttings, into both buffers. Gives its records: the crate's.
+fn stream(truth: &mut Truth, bytes: &[u8], list: &mut Vec<String>) -> Vec<Vec<u8>> {
     let (records, too_long) = truth.records(bytes, BOUND);
     assert_eq!(too_long, None, "a captured record is not too long");
     let records: Vec<Vec<u8>> = records.complete.into_iter().map(|(record, _)| record).collect();
@@ -137,6 +143,15 @@ fn stream(truth: &Truth, bytes: &[u8], list: &mut Vec<String>) -> Vec<Vec<u8>> {
         list.push(Question::Feed { capacity: longest, runs: runs(bytes, lengths) }.line());
     }
     list.push(Question::Feed { capacity: longest - 1, runs: vec![bytes.to_vec()] }.line());
+    // Numbers that depend on nothing but this stream, so that the lines of other captures stay as they are.
+    let random = &mut Random::of(SEED, bytes.len() as u64);
+    for capacity in [longest, longest - 1] {
+        let mut cuttings = vec![Vec::new(), run_lengths(random, bytes.len())];
+        if bytes.len() <= CUT_INTO_BYTES {
+            cuttings.push(vec![1; bytes.len()]);
+        }
+        list.extend(alike(truth, capacity, bytes, &cuttings));
+    }
     records
 }
 

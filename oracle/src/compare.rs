@@ -1,11 +1,13 @@
 //! One case asked of both sides.
+use std::fmt::{self, Display, Formatter};
+
 use crate::answers::{
-    Fed, Refusal, State, Told, Took, CHOOSE_FIGURES, FEED_FIGURES, PART_FIGURES, READ_FIGURES, REPLY, STATE_FIGURES,
-    UNKNOWN_KIND, WRITE_FIGURES,
+    Fed, Refusal, State, Told, Took, CHOOSE_FIGURES, COMPLETE, FEED_FIGURES, MORE, PART_FIGURES, READ_FIGURES, REPLY,
+    STATE_FIGURES, UNKNOWN_KIND, WRITE_FIGURES,
 };
 use crate::cases::{call_with, Case, Cut, Lending, Question, Room, BODY};
 use crate::lent::{bytes, list, Left};
-use crate::lines::hex;
+use crate::lines::{self, hex};
 use crate::model::Model;
 use crate::proved::Proved;
 use crate::shapes::{kind, Reading, KINDS};
@@ -13,6 +15,7 @@ use crate::tally::Tally;
 use crate::truth::Truth;
 use crate::values::{Value, Writer};
 use crate::wanting::{broken, Said};
+use crate::yielded::Yielded;
 
 pub struct Sides {
     truth: Truth,
@@ -59,6 +62,7 @@ impl Sides {
             Question::Part { message, at, count } => self.part(message, *at, *count, lending),
             Question::Choose { reading, seen, room, message } => self.choose(*reading, *seen, *room, message, lending),
             Question::Feed { capacity, runs } => self.feed(*capacity, runs, lending),
+            Question::Stream { capacity, stream, cuttings } => self.stream(*capacity, stream, cuttings),
             Question::State { state, length, run } => self.state(*state, *length, run, lending),
             Question::Fragment { message, room, start } => self.fragment(message, *room, *start, lending),
             Question::Cuts { cut, message } => self.cuts(*cut, message, lending),
@@ -264,6 +268,35 @@ impl Sides {
         })
     }
 
+    /// Two cuttings of one stream are compared with each other, and then with what the stream must yield. (Single feeds, and
+    /// lists that are too short, are other questions.)
+    fn stream(&mut self, capacity: usize, stream: &[u8], cuttings: &[Vec<usize>; 2]) -> Option<Difference> {
+        let [first, second] = cuttings.each_ref().map(|lengths| self.in_all(capacity, stream, lengths));
+        let mut due = InAll::new(capacity, "whole", self.truth.yielded(stream, capacity));
+        let mut model = State::fresh(capacity as u64);
+        Yielded::by(stream, &[], due.left.out.slice(), |run, record| Model::FAULTLESS.feed(&mut model, run, record));
+        due.left.state.slice().copy_from_slice(&model.numbers());
+        self.tally.stream(due.yielded.refused.is_some());
+        let unlike = [(&second, &first), (&first, &due)].into_iter().find(|(got, due)| !got.is_same(due));
+        unlike.map(|(got, due)| Difference { proved: got.to_string(), expected: due.to_string() })
+    }
+
+    /// What the proved side yields for a stream in runs of these lengths.
+    fn in_all(&self, capacity: usize, stream: &[u8], lengths: &[usize]) -> InAll {
+        let mut all = InAll::new(capacity, &format!("runs of {lengths:?}"), Yielded::default());
+        let Left { out, info, state, .. } = &mut all.left;
+        all.yielded = Yielded::by(stream, lengths, out.slice(), |run, record| {
+            let answer = self.proved.feed(state.slice(), run, record, info.slice());
+            let [used, length] = [0, 1].map(|index| std::mem::take(&mut info.slice()[index]) as usize);
+            match answer {
+                MORE => Fed::More { used },
+                COMPLETE => Fed::Complete { length, used },
+                number => Fed::Refused { number, used },
+            }
+        });
+        all
+    }
+
     /// The crate has no states: the model is the judge.
     fn state(&mut self, state: State, length: usize, run: &[u8], lending: &Lending) -> Option<Difference> {
         let mut numbers = state.numbers();
@@ -338,6 +371,33 @@ impl Sides {
         self.said = Said { answer: got.answer, place: figure(0), wanting: figure(1) };
         self.tally.due(function, due.answer);
         (got != due).then(|| differ(function, got, due))
+    }
+}
+
+/// What a stream yields in one cutting, and what stands then in the state and in the record buffer.
+struct InAll {
+    cutting: String,
+    yielded: Yielded,
+    left: Left,
+}
+
+impl InAll {
+    /// With a fresh state of a capacity, and a buffer of as many bytes. (Figures are taken out of their list after each feed.)
+    fn new(capacity: usize, cutting: &str, yielded: Yielded) -> InAll {
+        let mut left = Left::new(capacity, FEED_FIGURES);
+        left.info.slice().fill(0);
+        left.state = list(&State::fresh(capacity as u64).numbers(), STATE_FIGURES);
+        InAll { cutting: cutting.to_owned(), yielded, left }
+    }
+
+    fn is_same(&self, other: &InAll) -> bool {
+        (&self.yielded, &self.left) == (&other.yielded, &other.left)
+    }
+}
+
+impl Display for InAll {
+    fn fmt(&self, f: &mut Formatter<'_>) -> fmt::Result {
+        write!(f, "{}: {}{}", self.cutting, lines::yielded(&self.yielded), self.left.standing())
     }
 }
 

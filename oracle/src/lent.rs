@@ -74,29 +74,35 @@ impl Left {
         self.answer = told.answer;
         self.info.slice()[..told.figures.len()].copy_from_slice(&told.figures);
     }
+
+    /// The state, if one was lent, and the buffer; and whether all around is as it was.
+    pub fn standing(&self) -> String {
+        let mut text = String::new();
+        if !self.state.get().is_empty() {
+            text += &format!("; state{}", figures(&self.state));
+        }
+        text += &format!("; buffer {}", hex(self.out.get()));
+        if !(self.out.is_kept_outside() && self.info.is_kept_outside() && self.state.is_kept_outside()) {
+            text += "; and something outside of what was lent";
+        }
+        text
+    }
 }
 
 impl Display for Left {
-    /// `-` stands for a figure that was not touched.
     fn fmt(&self, f: &mut Formatter<'_>) -> Result {
-        let figures = |list: &Lent<u64>| {
-            list.get().iter().fold(String::new(), |mut text, figure| {
-                if *figure == UNTOUCHED {
-                    text += " -";
-                } else {
-                    write!(text, " {figure}").expect("a string can be written");
-                }
-                text
-            })
-        };
-        write!(f, "{}; figures{}", self.answer, figures(&self.info))?;
-        if !self.state.get().is_empty() {
-            write!(f, "; state{}", figures(&self.state))?;
-        }
-        write!(f, "; buffer {}", hex(self.out.get()))?;
-        if !(self.out.is_kept_outside() && self.info.is_kept_outside() && self.state.is_kept_outside()) {
-            write!(f, "; and something outside of what was lent")?;
-        }
-        Ok(())
+        write!(f, "{}; figures{}{}", self.answer, figures(&self.info), self.standing())
     }
+}
+
+/// `-` stands for a figure that was not touched.
+fn figures(list: &Lent<u64>) -> String {
+    list.get().iter().fold(String::new(), |mut text, figure| {
+        if *figure == UNTOUCHED {
+            text += " -";
+        } else {
+            write!(text, " {figure}").expect("a string can be written");
+        }
+        text
+    })
 }

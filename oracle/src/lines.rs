@@ -4,6 +4,7 @@ use std::fmt::Write;
 use crate::answers::{Choice, Fed, Refusal, State, Took, Wrote};
 use crate::cases::{Cut, Question};
 use crate::shapes::KINDS;
+use crate::yielded::Yielded;
 
 /// The longest line that is read: a message of 1,048,576 bytes has room in it.
 pub const LONGEST: usize = 2_200_000;
@@ -66,6 +67,25 @@ pub fn fed(fed: &Fed, record: Option<&[u8]>) -> String {
     }
 }
 
+/// What a stream yields, but for the state and the buffer that it leaves.
+pub fn yielded(yielded: &Yielded) -> String {
+    let Yielded { records, refused, used } = yielded;
+    let mut text: Vec<String> =
+        records.iter().map(|(record, _)| format!("record {} {}", record.len(), hex(record))).collect();
+    text.extend(refused.map(|(number, after)| format!("refused {number} {after}")));
+    text.push(format!("used {used}"));
+    text.join("; ")
+}
+
+/// The line of a stream that is fed in runs of these lengths.
+pub fn stream(capacity: usize, stream: &[u8], lengths: &[usize]) -> String {
+    let mut line = format!("stream {capacity} {}", hex(stream));
+    for length in lengths {
+        write!(line, " {length}").expect("a string can be written");
+    }
+    line
+}
+
 /// What a line about the assembler ends with.
 pub fn state_and_buffer(state: &State, record: &[u8]) -> String {
     let State { capacity, placed, count, value, left, last, stopped } = state;
@@ -108,6 +128,7 @@ impl Question {
                 }
                 line
             },
+            Question::Stream { capacity, stream: bytes, cuttings: [lengths, _] } => stream(*capacity, bytes, lengths),
             Question::State { state, length, run } => {
                 let State { capacity, placed, count, value, left, last, stopped } = state;
                 let (last, stopped) = (u8::from(*last), u8::from(*stopped));

@@ -6,15 +6,17 @@ use std::path::Path;
 use crate::answers::State;
 use crate::captured;
 use crate::cases::{
-    append_call, append_message, call_with, cuts, damage, state, stream, with_pieces, Question, Room, Style, ACCEPTED,
-    ACCEPT_STATS, AUTH_STATS, DENIED,
+    append_call, append_message, call_with, cuts, damage, run_lengths, state, stream, with_pieces, Question, Room, Style,
+    ACCEPTED, ACCEPT_STATS, AUTH_STATS, DENIED,
 };
-use crate::lines::hex;
+use crate::lines::{self, hex};
+use crate::questions::answer;
 use crate::random::Random;
 use crate::shapes::{Reading, Shape, AUTH_UNIX, KINDS, NFSSTAT3};
+use crate::truth::Truth;
 
 /// The list is the same each time.
-const SEED: u64 = 4506;
+pub const SEED: u64 = 4506;
 
 /// The kinds that were there first share one row of random numbers. Each later one has its own, so that the lines
 /// before stay as they are.
@@ -43,6 +45,7 @@ pub fn lines(captures: &Path) -> io::Result<Vec<String>> {
     // Numbers of their own, so that the lines behind stay as they are.
     choices(&mut Random::of(SEED, 2), Reading::Current, 180, &mut list);
     streams(random, &mut list);
+    cut_streams(&mut Random::of(SEED, 3), &mut list);
     pieces(random, &mut list);
     example(&mut list);
     cut_everywhere(&mut list);
@@ -77,6 +80,14 @@ const WORKED: &[&str] = &[
     "feed 3 80000004",
     "feed 4 80000004",
     "feed 1048577 00",
+    "stream 10 0000000080000002ABCD 1 0 7",
+    "stream 3 8000000401020304 2",
+    "stream 4 80000004AA",
+    "stream 4 -",
+    "stream 4 - 0 18446744073709551615",
+    "stream 0 8000000080000000 9",
+    "stream 1048577 80000000 1",
+    "stream 18446744073709551615 -",
     "choose 0 24 0000002A00000002",
     "choose 0 23 0000002A00000002",
     "choose 1 24 0000002A00000002",
@@ -208,6 +219,21 @@ const ODD_LINES: &[&str] = &[
     "feed 8 80000000 ",
     "feed 8 80000000 -- 0",
     "feed 1048577 0",
+    "stream",
+    "stream  80000000 1",
+    "stream -1 80000000 1",
+    "stream 8",
+    "stream 8  1",
+    "stream 8 8000000g x",
+    "stream 8 8000000 x",
+    "stream 8 80000000 ",
+    "stream 8 80000000 1  1",
+    "stream 8 80000000 1 x",
+    "stream 8 80000000 1 -",
+    "stream 8 80000000 18446744073709551616",
+    "stream 1048577 0 x",
+    "stream 1048577 80000000 1 x",
+    "streams 8 80000000",
     "state 0 0 0 0 0",
     "state 0 0 0 0 0 0 0 1048577 -",
     "choose",
@@ -432,6 +458,38 @@ fn streams(random: &mut Random, list: &mut Vec<String>) {
             list.push(Question::Fragment { message: message.clone(), room, start }.line());
         }
     }
+}
+
+/// Streams in five cuttings each: whole, byte by byte, and three at random.
+fn cut_streams(random: &mut Random, list: &mut Vec<String>) {
+    const LEAST: usize = 12;
+    let mut truth = Truth::new();
+    let mut left = 40;
+    while left > 0 {
+        let (mut bytes, capacity) = stream(random);
+        // Shorter ones have few cuttings.
+        if bytes.len() < LEAST || bytes.len() > SHORT || capacity > SHORT {
+            continue;
+        }
+        left -= 1;
+        // Else few would end inside a header or a fragment.
+        if left % 2 == 0 {
+            bytes.truncate(random.between(LEAST, bytes.len()));
+        }
+        let mut cuttings = vec![Vec::new(), vec![1; bytes.len()]];
+        cuttings.extend((0..3).map(|_| run_lengths(random, bytes.len())));
+        list.extend(alike(&mut truth, capacity, &bytes, &cuttings));
+    }
+}
+
+/// A line for each cutting of a stream. They must all get the same answer.
+pub fn alike(truth: &mut Truth, capacity: usize, bytes: &[u8], cuttings: &[Vec<usize>]) -> Vec<String> {
+    let lines: Vec<String> = cuttings.iter().map(|lengths| lines::stream(capacity, bytes, lengths)).collect();
+    let answers: Vec<String> = lines.iter().map(|line| answer(truth, line.as_bytes())).collect();
+    for (line, said) in lines.iter().zip(&answers) {
+        assert_eq!(*said, answers[0], "every cutting of a stream yields the same: {line}");
+    }
+    lines
 }
 
 fn pieces(random: &mut Random, list: &mut Vec<String>) {

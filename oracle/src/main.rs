@@ -18,6 +18,7 @@ mod tally;
 mod truth;
 mod values;
 mod wanting;
+mod yielded;
 
 use std::io::{BufRead, BufWriter, Write};
 use std::panic::{catch_unwind, AssertUnwindSafe};

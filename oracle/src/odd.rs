@@ -104,6 +104,47 @@ const THOUGHT_OF: &[&[u8]] = &[
     b"feed 1048577",
     b"feed 18446744073709551615 -",
     b"feed 18446744073709551616 -",
+    b"stream 1",
+    b"stream 1 ",
+    b"stream 1 -",
+    b"stream 1 - ",
+    b"stream 1 -  ",
+    b"stream 1 - 0",
+    b"stream 1 - 0 ",
+    b"stream 1 - 0  0",
+    b"stream 1  - 0",
+    b"stream 1  0",
+    b"stream  1 - 0",
+    b"stream 0 -",
+    b"stream 0 80000000 -",
+    b"stream 0 80000000 4 x",
+    b"stream 0 80000001 4 x",
+    b"stream 0 80000001 4 4",
+    b"stream 0 8000000180000000 3 3 3",
+    b"stream 0 8000000080000000",
+    b"stream 0 800000008000000000 4 0 0 9",
+    b"stream 3 8000000401020304 8",
+    b"stream 3 00000003010203800000010480000000 6 0 6",
+    b"stream 3 8000000301020380000002aabb800000 18446744073709551615 18446744073709551615",
+    b"stream 3 80000003010203 18446744073709551616",
+    b"stream 3 80000003010203 00000000000000000000000000000000000000003",
+    b"stream 3 80000003010203 +1",
+    b"stream 3 80000003010203 1\r",
+    b"stream 3 80000003010203 1,2",
+    b"stream 3 80000003010203 \xff",
+    b"stream 3 80000003 01 02",
+    b"stream 3 80000003 0102zz",
+    b"stream 3 FfFfFfFf 1",
+    b"stream 1048577",
+    b"stream 1048577 -",
+    b"stream 1048577 zz",
+    b"stream 1048577 - 1 zz",
+    b"stream 1048577 - 1 ",
+    b"stream 18446744073709551615 - 1",
+    b"stream 18446744073709551616 - 1",
+    b"Stream 1 -",
+    b"streams 1 -",
+    b"strea 1 -",
     b"state 0 0 0 0 0 0 0 0 -",
     b"state 0 0 0 0 0 0 0 0",
     b"state 0 0 0 0 0 0 0 0 - -",
@@ -160,7 +201,20 @@ const THOUGHT_OF: &[&[u8]] = &[
 
 /// Each first word with few words behind it.
 fn words_alone() -> Vec<Vec<u8>> {
-    let firsts = ["read", "write", "fragment", "feed", "state", "choose", "current_choose", "part", "words", "reads", "rea"];
+    let firsts = [
+        "read",
+        "write",
+        "fragment",
+        "feed",
+        "stream",
+        "state",
+        "choose",
+        "current_choose",
+        "part",
+        "words",
+        "reads",
+        "rea",
+    ];
     let rests = ["", " ", " -", " 0", " 0 0", " - 0", " 0 -", " bool", " bool 0", " 0 0 0 0 0 0 0 0 0 0 0 0 0"];
     firsts.iter().flat_map(|first| rests.map(|rest| [*first, rest].concat().into_bytes())).collect()
 }
@@ -173,6 +227,7 @@ fn rooms() -> Vec<Vec<u8>> {
         lines.push(format!("current_choose 0 {room} 0000002a00000002"));
         lines.push(format!("state {room} 0 0 0 0 0 0 {room} 80000001aa"));
         lines.push(format!("feed {room} 80000001aa"));
+        lines.push(format!("stream {room} 80000001aa80000002bbcc {room} 1 0 {room}"));
         for start in [0, room.saturating_sub(4), room, room.saturating_add(1)] {
             lines.push(format!("write bool 0 00000002 {room} {start}"));
             lines.push(format!("write bool 0 000000 {room} {start}"));
@@ -194,6 +249,10 @@ fn long() -> Vec<Vec<u8>> {
             ("", " ", ""),
             ("feed 8 ", "- ", "-"),
             ("feed 70000 8000ffff", "0", " -"),
+            ("stream 70000 8000ffff", "0", " 3 0 70000"),
+            ("stream 16 80000000", "80000000", " 1 1"),
+            ("stream 8 00000001aa80000002bbcc80 ", "1 ", "0"),
+            ("stream 8 80000009 ", "0 ", "-"),
         ] {
             let mut line = filling.repeat((length - front.len() - end.len()).div_ceil(filling.len()));
             line.truncate(length - front.len() - end.len());
@@ -218,6 +277,9 @@ fn whole() -> Vec<Vec<u8>> {
         lines.push(format!("choose 0 24 0000002a00000000{}", &bytes[16..]));
         lines.push(format!("current_choose 0 24 0000002a00000000{}", &bytes[16..]));
         lines.push(format!("feed {BOUND} 80{}", &bytes[2..]));
+        lines.push(format!("stream {BOUND} 80{} 3 0 {} 1", &bytes[2..], length / 2));
+        lines.push(format!("stream {} 80{} 1 1 1 1 {BOUND}", length - 5, &bytes[2..]));
+        lines.push(format!("stream {BOUND} 00{}80000000 {BOUND}", &bytes[2..]));
         lines.push(format!("state {BOUND} 0 0 0 {BOUND} 1 0 {BOUND} {bytes}"));
         // READ's and WRITE's data, which end what is read.
         let (read, write) = (length - 20, length - 24);
@@ -259,6 +321,13 @@ fn said_otherwise(random: &mut Random, line: String) -> String {
         4 if line.starts_with("feed ") => {
             let mut words: Vec<&str> = line.split(' ').collect();
             words.insert(random.between(2, words.len()), "-");
+            words.join(" ")
+        },
+        3 if line.starts_with("stream ") => line.replacen(' ', " 0", 1) + " 0",
+        4 | 5 if line.starts_with("stream ") => {
+            let mut words: Vec<&str> = line.split(' ').collect();
+            let length = random.pick(&["0", "00", "01", "1", "1048577", "18446744073709551615"]);
+            words.insert(random.between(3, words.len()), length);
             words.join(" ")
         },
         _ => line,

@@ -7,6 +7,7 @@ use crate::lines;
 use crate::model::Model;
 use crate::shapes::{kind, Reading};
 use crate::truth::Truth;
+use crate::yielded::Yielded;
 
 /// The answer to a line; `?` and why, if the line has not the form of any. A line may have any bytes.
 pub fn answer(truth: &mut Truth, line: &[u8]) -> String {
@@ -47,6 +48,10 @@ fn try_answer(truth: &mut Truth, line: &[u8]) -> Result<String, String> {
         b"feed" => {
             let (capacity, runs) = (words.number()?, words.runs()?);
             Ok(feed(truth, capacity, &runs))
+        },
+        b"stream" => {
+            let (capacity, bytes, lengths) = (words.number()?, words.bytes()?, words.numbers()?);
+            Ok(stream(truth, capacity, &bytes, &lengths))
         },
         b"state" => {
             let mut state = State {
@@ -133,6 +138,15 @@ impl<'a> Words<'a> {
         Ok(runs)
     }
 
+    /// Numbers to the line's end. There may be none.
+    fn numbers(&mut self) -> Result<Vec<usize>, String> {
+        let mut numbers = Vec::new();
+        while self.0.len() > 0 {
+            numbers.push(self.number()?);
+        }
+        Ok(numbers)
+    }
+
     fn end(&mut self) -> Result<(), String> {
         match self.0.next() {
             Some(_) => Err(String::from("more words than the line takes")),
@@ -208,6 +222,18 @@ fn feed(truth: &mut Truth, capacity: usize, runs: &[Vec<u8>]) -> String {
     text.join("; ") + &lines::state_and_buffer(&state, &record)
 }
 
+/// What a stream yields in runs of these lengths, by the model, after a look whether the crate has the same.
+fn stream(truth: &mut Truth, capacity: usize, bytes: &[u8], lengths: &[usize]) -> String {
+    if capacity > BOUND {
+        return String::from("refused 3");
+    }
+    let mut state = State::fresh(capacity as u64);
+    let mut record = vec![EMPTY; capacity];
+    let yielded = Yielded::by(bytes, lengths, &mut record, |run, record| Model::FAULTLESS.feed(&mut state, run, record));
+    assert_eq!(yielded, truth.yielded(bytes, capacity), "the crate makes other records");
+    lines::yielded(&yielded) + &lines::state_and_buffer(&state, &record)
+}
+
 /// The bytes of a piece of items of that width. In 128 bits: neither the sum nor the product wraps.
 fn part(source: &[u8], place: usize, count: usize, width: usize) -> String {
     let end = place as u128 + count as u128 * width as u128;
@@ -257,6 +283,13 @@ mod tests {
         ("feed 1 80000000", "complete 0 4 -; state 1 0 0 0 0 0 0; buffer ee"),
         ("feed 3 80000004", "refused 7 4; state 3 0 0 0 0 0 1; buffer eeeeee"),
         ("feed 4 80000004", "more 4; state 4 0 0 0 4 1 0; buffer eeeeeeee"),
+        (
+            "stream 10 0000000080000002ABCD 1 0 7",
+            "record 2 abcd; used 10; state 10 0 0 0 0 0 0; buffer abcdeeeeeeeeeeeeeeee",
+        ),
+        ("stream 3 8000000401020304 2", "refused 7 4; used 4; state 3 0 0 0 0 0 1; buffer eeeeee"),
+        ("stream 4 80000004AA", "used 5; state 4 1 0 0 3 1 0; buffer aaeeeeee"),
+        ("stream 4 -", "used 0; state 4 0 0 0 0 0 0; buffer eeeeeeee"),
         ("choose 0 24 0000002A00000002", "reply 24 0000002a0000000100000001000000000000000000000000"),
         ("choose 0 23 0000002A00000002", "refused 5 eeeeeeeeeeeeeeeeeeeeeeeeeeeeeeeeeeeeeeeeeeeeee"),
         // The body of the credential has no byte of its first word, whatever stands behind it.
@@ -378,6 +411,21 @@ mod tests {
         (b"feed 0 80000001 -", "refused 7 4; state 0 0 0 0 0 0 1; buffer -"),
         (b"feed 1048577 -", "refused 3"),
         (b"feed 18446744073709551615 00", "refused 3"),
+        (b"stream 1 - 0 7 0", "used 0; state 1 0 0 0 0 0 0; buffer ee"),
+        (b"stream 1 80 0 1 9", "used 1; state 1 0 1 128 0 0 0; buffer ee"),
+        (b"stream 0 800000008000000000", "record 0 -; record 0 -; used 9; state 0 0 1 0 0 0 0; buffer -"),
+        // A run that a record ends in is not used up, and the next begins behind the record.
+        (
+            b"stream 2 00000001AA80000001BB80000001CC 12 18446744073709551615",
+            "record 2 aabb; record 1 cc; used 15; state 2 0 0 0 0 0 0; buffer ccbb",
+        ),
+        // It stops in the second record, whose first fragment stays in the buffer; and what is behind is not used.
+        (
+            b"stream 2 80000001AA00000001BB80000002CCDD80000000 6 6 0 1",
+            "record 1 aa; refused 7 14; used 14; state 2 1 0 0 0 0 1; buffer bbee",
+        ),
+        (b"stream 1048577 - 1", "refused 3"),
+        (b"stream 18446744073709551615 00", "refused 3"),
         (b"fragment - 0 18446744073709551615", "refused 9 -"),
         (b"state 18446744073709551615 0 0 0 0 0 0 0 -", "refused 6 0; state 18446744073709551615 0 0 0 0 0 0; buffer -"),
         (b"part 00 0000000000000000000000 1", "inside 00"),
@@ -419,6 +467,23 @@ mod tests {
         (b"feed 1  -", "? bytes are missing"),
         (b"feed 1048577 0", "? odd number of hex digits"),
         (b"feed 0 80000001 zz", "? not hex: zz"),
+        (b"stream", "? a number is missing"),
+        (b"stream  - 1", "? a number is missing"),
+        (b"stream - 1", "? not a number: -"),
+        (b"stream 1", "? bytes are missing"),
+        (b"stream 1 ", "? bytes are missing"),
+        (b"stream 1  1", "? bytes are missing"),
+        (b"stream 1 8 x", "? odd number of hex digits"),
+        (b"stream 1 8g x", "? not hex: 8g"),
+        (b"stream 1 - ", "? a number is missing"),
+        (b"stream 1 - 1 ", "? a number is missing"),
+        (b"stream 1 - 1  1", "? a number is missing"),
+        (b"stream 1 - 1 -", "? not a number: -"),
+        (b"stream 0 80000001 1 x", "? not a number: x"),
+        (b"stream 1 - 18446744073709551616", "? not a number: 18446744073709551616"),
+        (b"stream 1048577 0", "? odd number of hex digits"),
+        (b"stream 1048577 - 1 +1", "? not a number: +1"),
+        (b"streams 1 -", "? no question named streams"),
         (b"choose", "? a mark is missing"),
         (b"choose 00 x z", "? neither 0 nor 1: 00"),
         (b"current_choose", "? a mark is missing"),

@@ -23,6 +23,9 @@ pub struct Tally {
     /// What was cut at every byte, and how many counts of wanting bytes held in all.
     cut: BTreeSet<&'static str>,
     held: u64,
+    /// Streams that were fed in two cuttings, and how many of them stopped.
+    streams: u64,
+    stopped: u64,
 }
 
 impl Tally {
@@ -40,6 +43,12 @@ impl Tally {
         self.cut.insert(name);
         self.held += counts as u64;
     }
+
+    /// Two cuttings of a stream yielded the same.
+    pub fn stream(&mut self, is_stopped: bool) {
+        self.streams += 1;
+        self.stopped += u64::from(is_stopped);
+    }
 }
 
 impl AddAssign for Tally {
@@ -54,6 +63,8 @@ impl AddAssign for Tally {
         self.judged.by_model += other.judged.by_model;
         self.cut.extend(other.cut);
         self.held += other.held;
+        self.streams += other.streams;
+        self.stopped += other.stopped;
     }
 }
 
@@ -72,6 +83,7 @@ impl Display for Tally {
         let Judged { by_crate, unasked, by_model } = self.judged;
         write!(f, "\nread: by the crate {by_crate}; the crate not asked, for a large claim: {unasked}")?;
         write!(f, "; of kinds or a reading that it lacks, by the model alone: {by_model}")?;
-        write!(f, "\ncut at every byte: {} sorts of message; counts that held: {}", self.cut.len(), self.held)
+        write!(f, "\ncut at every byte: {} sorts of message; counts that held: {}", self.cut.len(), self.held)?;
+        write!(f, "\nfed in two cuttings: {} streams, {} of which stop", self.streams, self.stopped)
     }
 }

@@ -9,7 +9,7 @@ mod values;
 pub use damage::damage;
 pub use messages::{append_call, append_message, call_with, with_pieces, Style, BODY};
 pub use replies::{ACCEPTED, ACCEPT_STATS, AUTH_STATS, DENIED};
-pub use streams::{cuts, state, stream};
+pub use streams::{cuts, cutting, run_lengths, state, stream};
 
 use damage::beside;
 use messages::Word;
@@ -26,7 +26,7 @@ pub struct Case {
     pub lending: Lending,
 }
 
-/// What is asked. Most could be put to `answers` as a line.
+/// What is asked. Most could be put to `answers` as a line. (A stream is cut in two ways; its line has the first.)
 #[derive(Clone, Debug)]
 pub enum Question {
     Read { kind: u32, at: usize, message: Vec<u8>, room: Room },
@@ -36,6 +36,7 @@ pub enum Question {
     Part { message: Vec<u8>, at: usize, count: usize },
     Choose { reading: Reading, seen: bool, room: usize, message: Vec<u8> },
     Feed { capacity: usize, runs: Vec<Vec<u8>> },
+    Stream { capacity: usize, stream: Vec<u8>, cuttings: [Vec<usize>; 2] },
     State { state: State, length: usize, run: Vec<u8> },
     Fragment { message: Vec<u8>, room: usize, start: usize },
     Cuts { cut: Cut, message: Vec<u8> },
@@ -237,9 +238,14 @@ fn any(random: &mut Random) -> Question {
         62..=77 => values::write(random),
         78..=79 => values::part(random),
         80..=89 => choose(random),
-        90..=94 => {
+        90..=92 => {
             let (stream, capacity) = stream(random);
             Question::Feed { capacity, runs: cuts(random, &stream) }
+        },
+        93..=94 => {
+            let (stream, capacity) = stream(random);
+            let cuttings = [0; 2].map(|_| cutting(random, stream.len()));
+            Question::Stream { capacity, stream, cuttings }
         },
         95..=97 => state(random),
         _ => fragment(random),

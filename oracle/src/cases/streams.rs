@@ -73,6 +73,30 @@ pub fn cuts(random: &mut Random, stream: &[u8]) -> Vec<Vec<u8>> {
     runs
 }
 
+/// The lengths of runs for a stream of so many bytes: none (it is fed whole), bytes, or any.
+pub fn cutting(random: &mut Random, count: usize) -> Vec<usize> {
+    match random.below(6) {
+        0 => Vec::new(),
+        1 if count < 400 => vec![1; count],
+        _ => run_lengths(random, count),
+    }
+}
+
+/// Lengths of runs, some of them 0, for a stream of so many bytes. They may end before the stream does, and go past its end.
+pub fn run_lengths(random: &mut Random, count: usize) -> Vec<usize> {
+    let longest = random.pick(&[3, 12, 90, count + 8]);
+    let mut left = if random.once_in(4) { random.below(count + 1) } else { count };
+    let mut lengths = Vec::new();
+    loop {
+        let length = if random.once_in(8) { 0 } else { random.below(longest + 1) };
+        lengths.push(length);
+        if length >= left {
+            return lengths;
+        }
+        left -= length;
+    }
+}
+
 /// A state near the border between those that fit and those that don't, and a run for it.
 pub fn state(random: &mut Random) -> Question {
     let length = if random.once_in(3_000) { random.between(BOUND - 1, BOUND + 1) } else { random.below(24) };

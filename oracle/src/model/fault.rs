@@ -33,6 +33,11 @@ faults! {
     CompleteLate "complete-late" "an empty last fragment does not complete the record";
     FragmentNotLast "fragment-not-last" "write_fragment leaves out bit 31";
 
+    HeaderForgotten "header-forgotten" "header bytes at the end of a run are forgotten";
+    LeftForgotten "left-forgotten" "at the end of a run it is forgotten what is left of the fragment";
+    EmptyRunAnew "empty-run-anew" "an empty run begins the record anew";
+    StopUses "stop-uses" "after a stop a byte is used";
+
     StatusOpen "status-open" "an undeclared status of a result is a failure";
     StatusPlace "status-place" "an undeclared status is refused at the place behind it";
     FailureAsSuccess "failure-as-success" "a failure has what a success has";

@@ -34,7 +34,7 @@ impl Model {
             return Fed::Refused { number: 6, used: 0 };
         }
         if state.stopped {
-            return Fed::Refused { number: 7, used: 0 };
+            return Fed::Refused { number: 7, used: run.len().min(usize::from(self.has(Fault::StopUses))) };
         }
         for (index, byte) in run.iter().enumerate() {
             let used = index + 1;
@@ -51,7 +51,21 @@ impl Model {
                 },
             }
         }
+        self.forget(state, run);
         Fed::More { used: run.len() }
+    }
+
+    /// The state is all that is known when the next run comes. Only planted faults lose some of it at the end of a run.
+    fn forget(self, state: &mut State, run: &[u8]) {
+        if self.has(Fault::HeaderForgotten) {
+            (state.count, state.value) = (0, 0);
+        }
+        if self.has(Fault::LeftForgotten) {
+            (state.left, state.last) = (0, false);
+        }
+        if self.has(Fault::EmptyRunAnew) && run.is_empty() {
+            *state = State::fresh(state.capacity);
+        }
     }
 
     fn step(self, state: &mut State, byte: u8, record: &mut [u8]) -> Step {

@@ -9,6 +9,7 @@ use crate::answers::{Choice, Refusal, Took, Unwritten, Wrote, BOUND, REPLY};
 use crate::model::Model;
 use crate::shapes::{kind, Reading, KINDS, LACKED};
 use crate::tally::Judged;
+use crate::yielded::Yielded;
 
 /// The crate allocates by the claimed length or count before it looks whether so much is there. Above this (and above
 /// what the message holds) it is not asked, and the answer must be refusal 1.
@@ -144,6 +145,14 @@ impl Truth {
     pub fn records(&self, stream: &[u8], capacity: usize) -> (Records, Option<usize>) {
         let too_long = first_too_long(stream, capacity);
         (self.wire.records(&stream[..too_long.unwrap_or(stream.len())]), too_long)
+    }
+
+    /// What a stream must yield, however it is cut: the crate reads it whole. All of it is used, or all up to and with the
+    /// header of a fragment that does not fit.
+    pub fn yielded(&self, stream: &[u8], capacity: usize) -> Yielded {
+        let (records, too_long) = self.records(stream, capacity);
+        let refused = too_long.map(|header| (7, header + 4));
+        Yielded { records: records.complete, refused, used: refused.map_or(stream.len(), |(_, after)| after) }
     }
 }
 

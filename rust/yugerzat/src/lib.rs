@@ -137,8 +137,9 @@
 //! # What is promised
 //!
 //! No function panics or touches memory that was not lent, and every byte string and every place gets an answer. A refusal
-//! leaves every buffer as it was; the one exception is [`Assembler::feed`], which says so. What is proved, and of what,
-//! stands in docs/SCOPE.md. What this crate adds, its types over the library's lists of numbers, is tested and not proved.
+//! leaves every buffer as it was; the one exception is [`Assembler::feed`], which says so. However a stream is cut, the same
+//! records come of it. What is proved, and of what, stands in docs/SCOPE.md. What this crate adds, its types over the
+//! library's lists of numbers, is tested and not proved.
 //!
 //! For arguments and results the library has no such lists. The verdict is still its own: [`judge`] is asked first, so that
 //! refusals, `next` and `plain` are the proved ones. It is asked again about what was written, which is handed over only if

@@ -31,7 +31,8 @@ pub enum Fed {
         /// How many bytes were used: all.
         used: usize,
     },
-    /// The record is the first `length` bytes of the buffer. The assembler is ready for the next one.
+    /// The record is the first `length` bytes of the buffer. The assembler is ready for the next one, which may be put over
+    /// it.
     Complete {
         /// The length of the record.
         length: usize,
@@ -95,13 +96,21 @@ impl Assembler {
         Assembler { state }
     }
 
-    /// Feeds a run of bytes from the stream. The record is put at the start of `buf`, whose length must be the capacity,
-    /// and whose bytes the caller leaves alone while a record is begun.
+    /// Feeds a run of bytes from the stream. The record is put at the start of `buf`, whose length must be the capacity.
+    /// From one feed to the next its first [`placed`](Assembler::placed) bytes, the record so far, have to stay. Another
+    /// buffer may be lent if it is as long and begins with these bytes: between two records, any other.
+    ///
+    /// However the stream is cut, the same comes of it. Feed it to a new assembler in runs of any lengths, empty ones too,
+    /// each beginning with the first byte that was not used yet: you get the same records in the same order, the same number
+    /// of bytes used in all, the same stop after the same byte, if there is one, and the same assembler at the end. On the
+    /// way, too, what you have depends only on how many bytes were used. Of a run that is not empty a byte is always used
+    /// unless the assembler is stopped, so whoever feeds again what was not used comes to the end. This is proved of the
+    /// library's function; that nothing is lost between that and this one is tested.
     ///
     /// # Errors
     /// `StateDoesNotFit` where the buffer's length is not the capacity: nothing is touched. `FragmentTooLong` where a
     /// fragment would pass the end of the buffer: the buffer holds what was placed before, and the assembler is stopped for
-    /// good.
+    /// good. No byte is used after that.
     pub fn feed(&mut self, run: &[u8], buf: &mut [u8]) -> Result<Fed, FeedError> {
         let mut info = [0; figures::FEED];
         let answer = sys::feed(&mut self.state, run, buf, &mut info);

@@ -21,7 +21,8 @@ const RUN: usize = 16_384;
 /// ```
 ///
 /// The iterator ends where the stream ends between two records. A stream that ends anywhere else is cut, and gives one
-/// [`RecordError`] that says where, and then the end.
+/// [`RecordError`] that says where, and then the end. Neither this nor the records depend on how many bytes a read delivers:
+/// see [`Assembler::feed`].
 ///
 /// It reads no byte behind the record that it gives: after [`into_inner`](Records::into_inner) the stream goes on with the
 /// next record. So it asks for a header and then for a fragment, one after the other. For fewer calls of the system, give it
