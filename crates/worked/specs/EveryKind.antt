@@ -46,7 +46,7 @@ again-bytes : (n v : ℕ) → v < 256 → Bytes (again n v)
 again-bytes zero v h = tt
 again-bytes (suc n) v h = (omega arith, (omega arith, (omega arith, (h, again-bytes n v h))))
 
-abbrev all-bytes : List ℕ → Bool
+abbrev pub all-bytes : List ℕ → Bool
 all-bytes [] = true
 all-bytes (x ∷ l) = ltb x 256 && all-bytes l
 
@@ -54,7 +54,7 @@ both : (a b : Bool) → a && b ≡ true → (a ≡ true) × (b ≡ true)
 both true b h = (refl, h)
 both false b h = let z : _≡_ {A = ℕ} 0 1 = cc h in absurd (omega arith)
 
-are-bytes : (l : List ℕ) → all-bytes l ≡ true → Bytes l
+pub are-bytes : (l : List ℕ) → all-bytes l ≡ true → Bytes l
 are-bytes [] h = tt
 are-bytes (x ∷ l) h = let g = both (ltb x 256) (all-bytes l) h in (ltb-true x 256 (g .0), are-bytes l (g .1))
 
