@@ -86,6 +86,22 @@ pub(crate) fn state_of(f: Fed) -> Assembler {
     }
 }
 
+pub(crate) fn used_of(f: Fed) -> usize {
+    match f {
+        Fed::Refused {
+            refusal: _,
+            state: _,
+            used,
+        } => used,
+        Fed::More { state: _, used } => used,
+        Fed::Complete {
+            length: _,
+            state: _,
+            used,
+        } => used,
+    }
+}
+
 // One answer of the assembler, all but a record.
 fn fed(out: &mut [u8], at: Out, f: Fed) -> Out {
     match f {

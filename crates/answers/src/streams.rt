@@ -4,6 +4,7 @@ use crate::items::refusal;
 use crate::print;
 use crate::records::state_and_buffer;
 use crate::records::state_of;
+use crate::records::used_of;
 use crate::why;
 use crate::words::NumberAt;
 use crate::words::after;
@@ -45,22 +46,6 @@ fn further(end: usize, from: usize, n: usize) -> usize {
         return end;
     }
     from + n
-}
-
-fn used_of(f: Fed) -> usize {
-    match f {
-        Fed::Refused {
-            refusal: _,
-            state: _,
-            used,
-        } => used,
-        Fed::More { state: _, used } => used,
-        Fed::Complete {
-            length: _,
-            state: _,
-            used,
-        } => used,
-    }
 }
 
 fn tell_record(record: &[u8], out: &mut [u8], at: Out) -> Out {
