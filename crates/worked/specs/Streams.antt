@@ -9,33 +9,35 @@ use Prim.Native.Nat.{ℕ}
 use Rattle.xdr.specs.Meaning.Bytes.{Bytes}
 use Rattle.xdr.specs.declared.refusal.Refusal.the-variants.{Overrun}
 use Rattle.rpcwire.specs.Meaning.Stream.{fresh, inFragment, halted, feedOf, begin, advance, after, stepAt, headerByte, headed, settled, fitsOf}
-use Rattle.rpcwire.specs.Meaning.Session.{Heard, unheard, heard, Over, Equal, Function, Keeps, inRuns, hears, singly}
+use Rattle.rpcwire.specs.Meaning.Session.{Heard, Over, Equal, Function, Keeps, inRuns, hears, singly}
 use Rattle.rpcwire.specs.Laws.Session.{whatever-feeds}
 use Rattle.worked.specs.EveryKind.{are-bytes}
 
--- the stream rules, in each cutting by the lengths of its runs, come to the same
-abbrev Hears : Heard → List ℕ → List (List ℕ) → Heard → Type 0
-Hears u s [] h = Unit {0}
-Hears u s (cut ∷ cuts) h = (heard u (inRuns feedOf cut u s) ≡ h) × Hears u s cuts h
-
--- a fresh state and a buffer of three bytes
+-- what a function gives of a stream in runs of these lengths, from a fresh state, with a buffer of three bytes
 abbrev buffer : List ℕ
 buffer = 7 ∷ 7 ∷ 7 ∷ []
 
-abbrev start : Heard
-start = unheard (fresh 3) buffer
+abbrev gives : Function → List ℕ → List ℕ → Heard
+gives F cut s = hears F cut (fresh 3) buffer s
 
--- The rules keep the contract of `feed`. So every function that does comes to what they come to, in runs of whatever lengths
+-- the stream rules give the same in each of these cuttings
+abbrev InEach : List ℕ → List (List ℕ) → Heard → Type 0
+InEach s [] h = Unit {0}
+InEach s (cut ∷ cuts) h = (gives feedOf cut s ≡ h) × InEach s cuts h
+
+-- every function that keeps the contract of `feed` gives the same, in every cutting that comes to the end or to the stop
+abbrev InAll : List ℕ → Heard → Type 0
+InAll s h = (F : Function) → Keeps F → (cut : List ℕ) → Over s (gives F cut s) → Equal (gives F cut s) h
+
+-- the rules keep it themselves
 rules-keep : Keeps feedOf
 rules-keep s run d hb = record { is = refl; bytes = hb }
 
-abbrev AllHear : List ℕ → Heard → Type 0
-AllHear s h = (F : Function) → Keeps F → (ns : List ℕ) → Over s (hears F ns (fresh 3) buffer s) → Equal (hears F ns (fresh 3) buffer s) h
-
-all-hear : (s cut : List ℕ) (h : Heard) → Bytes s → hears feedOf cut (fresh 3) buffer s ≡ h → Over s h → AllHear s h
-all-hear s cut h hb e o F keeps ns over =
-    subst (Equal (hears F ns (fresh 3) buffer s)) e
-    (whatever-feeds F feedOf keeps rules-keep s hb (fresh 3) buffer buffer refl refl ns cut over (subst (Over s) (sym e) o))
+-- so what they give in one cutting is given in all
+in-all : (s cut : List ℕ) (h : Heard) → Bytes s → gives feedOf cut s ≡ h → Over s h → InAll s h
+in-all s cut h hb e o F keeps other over =
+    subst (Equal (gives F other s)) e
+    (whatever-feeds F feedOf keeps rules-keep s hb (fresh 3) buffer buffer refl refl other cut over (subst (Over s) (sym e) o))
 
 -- AB and CD in two fragments, an empty record, and the first of three bytes of a fragment
 abbrev stream : List ℕ
@@ -60,12 +62,12 @@ cuts =
     ∷ (0 ∷ 4 ∷ 0 ∷ 3 ∷ 0 ∷ 0 ∷ 12 ∷ 7 ∷ 8 ∷ 0 ∷ [])
     ∷ []
 
-pub worked-stream : Hears start stream cuts end × Over stream end
+pub worked-stream : InEach stream cuts end × Over stream end
 unfolding inRuns feedOf begin advance after stepAt headerByte headed settled fitsOf
 worked-stream = ((refl, (refl, (refl, (refl, tt)))), inl refl)
 
-pub worked-stream-by-all : AllHear stream end
-worked-stream-by-all = all-hear stream (19 ∷ 19 ∷ 19 ∷ []) end (are-bytes stream refl) (worked-stream .0 .0) (worked-stream .1)
+pub worked-stream-in-all : InAll stream end
+worked-stream-in-all = in-all stream (19 ∷ 19 ∷ 19 ∷ []) end (are-bytes stream refl) (worked-stream .0 .0) (worked-stream .1)
 
 -- a record of one byte, and a fragment of four: it stops after nine bytes, and the last two are not used however often they are fed
 abbrev long : List ℕ
@@ -89,9 +91,9 @@ cutsOfLong =
     ∷ (8 ∷ 0 ∷ 3 ∷ 0 ∷ 6 ∷ 2 ∷ 2 ∷ [])
     ∷ []
 
-pub worked-stop : Hears start long cutsOfLong stopped × Over long stopped
+pub worked-stop : InEach long cutsOfLong stopped × Over long stopped
 unfolding inRuns feedOf begin advance after stepAt headerByte headed settled fitsOf
 worked-stop = ((refl, (refl, (refl, (refl, tt)))), inr refl)
 
-pub worked-stop-by-all : AllHear long stopped
-worked-stop-by-all = all-hear long (11 ∷ 11 ∷ []) stopped (are-bytes long refl) (worked-stop .0 .0) (worked-stop .1)
+pub worked-stop-in-all : InAll long stopped
+worked-stop-in-all = in-all long (11 ∷ 11 ∷ []) stopped (are-bytes long refl) (worked-stop .0 .0) (worked-stop .1)

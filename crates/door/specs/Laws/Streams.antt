@@ -6,10 +6,9 @@ use mathlib.Core.List.{List, [], _∷_}
 use Prim.Native.Nat.{ℕ, _≤_}
 use native.Mathlib.Omega.{arith}
 use lib.Dec.{eqb}
-use lib.ListN.{length, getD}
-use lib.Seq.{sets, length-sets}
+use lib.ListN.{length, take}
+use lib.Seq.{sets, length-sets, sets-eq}
 use Rattle.rpcwire.specs.Meaning.Stream.{Said, more, complete, refused}
-use Rattle.rpcwire.specs.Meaning.Promise.{usedSaid}
 use Rattle.rpcwire.specs.declared.assembler.Assembler.{Assembler}
 use Rattle.door.specs.Meaning.Exports.{stateOf, stateList, fedState, fedFigures, FeedCalled, FedOn}
 
@@ -30,31 +29,28 @@ with-bits s x y =
     }
 
 state-back : (l : List ℕ) (s : Assembler) → 7 ≤ length l → stateOf (sets l 0 (stateList s)) ≡ s
-state-back (_ ∷ _ ∷ _ ∷ _ ∷ _ ∷ _ ∷ _ ∷ rest) s h =
-    ap (λ (x : Bool). with-bits s x (not (eqb (cond (s .stopped) 1 0) 0))) (bit-back (s .last)) ∙ ap (with-bits s (s .last)) (bit-back (s .stopped))
-state-back [] s h = absurd (omega arith)
-state-back (_ ∷ []) s h = absurd (omega arith)
-state-back (_ ∷ _ ∷ []) s h = absurd (omega arith)
-state-back (_ ∷ _ ∷ _ ∷ []) s h = absurd (omega arith)
-state-back (_ ∷ _ ∷ _ ∷ _ ∷ []) s h = absurd (omega arith)
-state-back (_ ∷ _ ∷ _ ∷ _ ∷ _ ∷ []) s h = absurd (omega arith)
-state-back (_ ∷ _ ∷ _ ∷ _ ∷ _ ∷ _ ∷ []) s h = absurd (omega arith)
+state-back l s h =
+    ap stateOf (sets-eq (stateList s) l 0 h)
+    ∙ ap (λ (x : Bool). with-bits s x (not (eqb (cond (s .stopped) 1 0) 0))) (bit-back (s .last))
+    ∙ ap (with-bits s (s .last)) (bit-back (s .stopped))
 
-used-back : (i : List ℕ) (f : Said) → 2 ≤ length i → getD (sets i 0 (fedFigures f)) 0 0 ≡ usedSaid f
-used-back (_ ∷ _ ∷ rest) (more s u) h = refl
-used-back (_ ∷ _ ∷ rest) (complete n s u) h = refl
-used-back (_ ∷ _ ∷ rest) (refused r s u) h = refl
-used-back [] f h = absurd (omega arith)
-used-back (_ ∷ []) f h = absurd (omega arith)
+two-back : (i : List ℕ) (a b : ℕ) → 2 ≤ length i → take 2 (sets i 0 (a ∷ b ∷ [])) ≡ a ∷ b ∷ []
+two-back i a b h = ap (take 2) (sets-eq (a ∷ b ∷ []) i 0 h)
 
-pub fed-on : {l run d i : List ℕ} {r : ℕ} {l′ d′ i′ : List ℕ} → 7 ≤ length l → 2 ≤ length i → FeedCalled l run d i r l′ d′ i′ → FedOn l run d l′ d′ i′
+figures-back : (i : List ℕ) (f : Said) → 2 ≤ length i → take 2 (sets i 0 (fedFigures f)) ≡ fedFigures f
+figures-back i (more s u) h = two-back i u 0 h
+figures-back i (complete n s u) h = two-back i u n h
+figures-back i (refused r s u) h = two-back i u 0 h
+
+pub fed-on : {l run d i : List ℕ} {r : ℕ} {l′ d′ i′ : List ℕ} → 7 ≤ length l → 2 ≤ length i → FeedCalled l run d i r l′ d′ i′ → FedOn l run d r l′ d′ i′
 fed-on {l} {run} {d} {i} h k c =
     let t = c .room h k in
     record {
       said = t .said;
       answers = t .feeds;
+      number = t .number;
+      figures = ap (take 2) (t .list) ∙ figures-back i (t .said) k;
       state = ap stateOf (t .state) ∙ state-back l (fedState (t .said)) h;
-      used = ap (λ (x : List ℕ). getD x 0 0) (t .list) ∙ used-back i (t .said) k;
       again = (
         omega (arith, ap length (t .state) ∙ length-sets l 0 (stateList (fedState (t .said)))),
         omega (arith, ap length (t .list) ∙ length-sets i 0 (fedFigures (t .said))),

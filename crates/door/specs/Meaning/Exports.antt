@@ -4,7 +4,7 @@ use mathlib.Core.Path.{_≡_}
 use mathlib.Core.Bool.{Bool, cond, not}
 use mathlib.Core.List.{List, [], _∷_}
 use Prim.Native.Nat.{ℕ, _≤_, _<_}
-use lib.ListN.{length, getD}
+use lib.ListN.{length, getD, take}
 use lib.Seq.{sets}
 use mathlib.Core.Option.{Option, none, some}
 use mathlib.Core.Logic.{_⊎_}
@@ -17,7 +17,6 @@ use Rattle.rpcwire.specs.Meaning.Fragment.{WritesFragment}
 use Rattle.rpc.specs.Meaning.Reading.{Reading}
 use Rattle.rpcwire.specs.Meaning.Choice.{Chosen, turned-away, replied, silent, handed, Chooses}
 use Rattle.rpcwire.specs.Meaning.Stream.{Said, more, complete, refused, Feeds}
-use Rattle.rpcwire.specs.Meaning.Promise.{usedSaid}
 use Rattle.rpcwire.specs.declared.assembler.Assembler.{Assembler}
 use Rattle.door.specs.Meaning.Copy.{Copy, unknown, unread, unmade, made}
 use Rattle.door.specs.Meaning.Kinds.{kinds, CopiesOf}
@@ -172,9 +171,12 @@ pub record FeedCalled (l run d i : List ℕ) (r : ℕ) (l′ d′ i′ : List �
 
 -- A stream can be fed through it: the answer is one that `feed` may give of the state that the list said, and the list then says the state to
 -- go on with. So what `rpcwire` Meaning/Session promises of every way of feeding holds of such calls
-pub record FedOn (l run d l′ d′ i′ : List ℕ) : Type 0 where
+pub record FedOn (l run d : List ℕ) (r : ℕ) (l′ d′ i′ : List ℕ) : Type 0 where
   pub said : Said
   pub answers : Feeds (stateOf l) run d said d′
+  -- the caller sees all of it: which answer it is, the bytes used and a record's length, and the state
+  pub number : r ≡ fedCode said
+  pub figures : take 2 i′ ≡ fedFigures said
   pub state : stateOf l′ ≡ fedState said
-  pub used : getD i′ 0 0 ≡ usedSaid said
+  -- and can call again with the same lists
   pub again : (7 ≤ length l′) × (2 ≤ length i′)

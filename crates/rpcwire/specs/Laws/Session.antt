@@ -334,6 +334,9 @@ calls-used (c ∷ cs) s h g hb f q k =
 done-is : (s done rest : List ℕ) → done ++ rest ≡ s → done ≡ take (length done) s
 done-is s done rest e = sym (take-append-seam done rest) ∙ ap (take (length done)) e
 
+done-bytes : {h g : Heard} {s : List ℕ} {cs : List Call} → Bytes s → (x : Used h g s cs) → Bytes (x .done)
+done-bytes {s = s} hb x = subst Bytes (sym (done-is s (x .done) (x .rest) (x .stream))) (bytes-take (length (x .done)) s hb)
+
 -- ---- from a fresh state
 
 fresh-made : (a : Assembler) (c : ℕ) (t : Bool) → leb c most ≡ t → cond t (made (fresh c)) (unmade TooLong) ≡ made a → (fresh c ≡ a) × (c ≤ most)
@@ -385,8 +388,7 @@ over-used {s} {h} {g} {cs} hb f x o =
     subst (λ (l : List ℕ). Equal (heard h cs) (foldl listen g l)) all (x .equal))
     (λ t.
     let w = foldl listen g (x .done) in
-    let b : Bytes (x .done) = subst Bytes (sym (done-is s (x .done) (x .rest) (x .stream))) (bytes-take (length (x .done)) s hb) in
-    let stays : foldl listen w (x .rest) ≡ w = stopped-listen w (x .rest) (good-listen (x .done) g b f) (ap (λ (a : Assembler). a .stopped) (sym (x .equal .state)) ∙ t) in
+    let stays : foldl listen w (x .rest) ≡ w = stopped-listen w (x .rest) (good-listen (x .done) g (done-bytes hb x) f) (ap (λ (a : Assembler). a .stopped) (sym (x .equal .state)) ∙ t) in
     let all : w ≡ foldl listen g s = sym stays ∙ sym (foldl-append listen g (x .done) (x .rest)) ∙ ap (foldl listen g) (x .stream) in
     subst (Equal (heard h cs)) all (x .equal))
     o
@@ -404,8 +406,7 @@ same-stop s a d e xs ys x y l p q n = let c = however-cut s a d e xs ys x y l p 
 pub good-way : {s : List ℕ} {a : Assembler} {d : List ℕ} {cs : List Call} → Way s a d cs → Good (heard (unheard a d) cs)
 good-way {s} {a} {d} {cs} w =
     let x = way-used a d d (w .fresh) refl w in
-    let b : Bytes (x .done) = subst Bytes (sym (done-is s (x .done) (x .rest) (x .stream))) (bytes-take (length (x .done)) s (w .bytes)) in
-    good-equal (x .equal) (good-listen (x .done) (unheard a d) b (good-unheard a d (w .fresh)))
+    good-equal (x .equal) (good-listen (x .done) (unheard a d) (done-bytes (w .bytes) x) (good-unheard a d (w .fresh)))
 
 stopping-good : (h : Heard) → Good h → Stopping h
 stopping-good h g =
