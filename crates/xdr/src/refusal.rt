@@ -1,4 +1,4 @@
-// Why a message is not read, written, assembled or answered: refusals 1 to 9 of docs/SCOPE.md, in one enum for every layer.
+// Why a message is not read, written, assembled or answered: refusals 1 to 10 of docs/SCOPE.md, in one enum for every layer.
 ghost use mathlib.Core.Path.{_≡_};
 ghost use Rattle.xdr.specs.Meaning.Refusal.{numberOf, placeOf, wantingOf, neededOf};
 
@@ -22,6 +22,8 @@ pub enum Refusal {
     NotCall,
     // 9: a start place is past the end.
     PastEnd,
+    // 10: a path is above its bound; the place of its length word, and 0 in writing.
+    LongPath(usize),
 }
 
 impl Refusal {
@@ -41,10 +43,11 @@ impl Refusal {
             Refusal::Overrun => 7,
             Refusal::NotCall => 8,
             Refusal::PastEnd => 9,
+            Refusal::LongPath(_) => 10,
         }
     }
 
-    // The place of refusals 1 and 2; 0 of the others, which have none.
+    // The place of refusals 1, 2 and 10; 0 of the others, which have none.
     pub fn place(self) -> usize
         ensures { λ r. ⌜ r ≡ placeOf self ⌝ }
     {
@@ -58,6 +61,7 @@ impl Refusal {
             Refusal::Overrun => 0,
             Refusal::NotCall => 0,
             Refusal::PastEnd => 0,
+            Refusal::LongPath(p) => p,
         }
     }
 
@@ -75,6 +79,7 @@ impl Refusal {
             Refusal::Overrun => 0,
             Refusal::NotCall => 0,
             Refusal::PastEnd => 0,
+            Refusal::LongPath(_) => 0,
         }
     }
 
@@ -95,6 +100,7 @@ impl Refusal {
             Refusal::Overrun => 0,
             Refusal::NotCall => 0,
             Refusal::PastEnd => 0,
+            Refusal::LongPath(_) => 0,
         }
     }
 }

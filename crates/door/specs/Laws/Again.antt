@@ -21,7 +21,7 @@ use Rattle.xdr.specs.Laws.Public.{kept}
 use Rattle.xdr.specs.Laws.Sources.{from-back}
 use Rattle.xdr.specs.Laws.Write.{wrote-back}
 use Rattle.xdr.specs.declared.refusal.Refusal.{Refusal}
-use Rattle.xdr.specs.declared.refusal.Refusal.the-variants.{Ended, Undeclared, TooLong, Outside, NoRoom, Unfit, Overrun, NotCall, PastEnd}
+use Rattle.xdr.specs.declared.refusal.Refusal.the-variants.{Ended, Undeclared, TooLong, Outside, NoRoom, Unfit, Overrun, NotCall, PastEnd, LongPath}
 use Rattle.rpc.specs.Meaning.Auth.{opaque-auth, auth-unix}
 use Rattle.rpc.specs.Meaning.Crate.{rpc-msg}
 use Rattle.rpc.specs.Meaning.Sources.{unixFrom, messageFrom}
@@ -110,6 +110,7 @@ numbers-none Unfit e = omega arith
 numbers-none Overrun e = omega arith
 numbers-none NotCall e = omega arith
 numbers-none PastEnd e = omega arith
+numbers-none (LongPath q) e = omega arith
 
 pub record ReadMade (kind : ℕ) (s : List ℕ) (at : ℕ) (o i o′ i′ : List ℕ) : Type 1 where
   pub branch : Branch

@@ -17,7 +17,7 @@ use Rattle.xdr.specs.Laws.Cuts.{cut-whole, at-end}
 use Rattle.xdr.specs.Laws.Chain.{chain-lawful}
 use Rattle.xdr.specs.Laws.Run.{run-lawful}
 use Rattle.xdr.specs.declared.refusal.Refusal.{Refusal}
-use Rattle.xdr.specs.declared.refusal.Refusal.the-variants.{Ended, Undeclared, TooLong, Outside, NoRoom, Unfit, Overrun, NotCall, PastEnd}
+use Rattle.xdr.specs.declared.refusal.Refusal.the-variants.{Ended, Undeclared, TooLong, Outside, NoRoom, Unfit, Overrun, NotCall, PastEnd, LongPath}
 
 -- a refusal at another place
 moved-of : (p : ℕ) (r : Refusal) → OfReading r → OfReading (movedTo p r)
@@ -30,6 +30,7 @@ moved-of p Unfit h = h
 moved-of p Overrun h = h
 moved-of p NotCall h = h
 moved-of p PastEnd h = h
+moved-of p (LongPath q) h = tt
 
 moved-few : (p k : ℕ) (r : Refusal) → TooFew k (movedTo p r) → TooFew k r
 moved-few p k r h = λ q w e. h p w (ap (movedTo p) e)
@@ -44,6 +45,7 @@ moved-less p k Unfit = refl
 moved-less p k Overrun = refl
 moved-less p k NotCall = refl
 moved-less p k PastEnd = refl
+moved-less p k (LongPath q) = refl
 
 -- one that is a 1 was one, and wanted as much
 record WasEnded (p q w : ℕ) (r : Refusal) : Type 0 where
@@ -64,6 +66,7 @@ was-ended p q w Unfit e = never (cc)
 was-ended p q w Overrun e = never (cc)
 was-ended p q w NotCall e = never (cc)
 was-ended p q w PastEnd e = never (cc)
+was-ended p q w (LongPath i) e = never (cc)
 
 module _ {N : ℕ → Type 0} (A : Kind ℕ) (B : (n : ℕ) → Kind (N n)) (size : ℕ → ℕ) (LA : Lawful A) (TA : Takes 4 A)
     (cut : (s : List ℕ) (p : ℕ) (r : Refusal) → A .Fault s p r → Cut 4 s p r) (LB : (n : ℕ) → Lawful (B n))

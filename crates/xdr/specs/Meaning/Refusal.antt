@@ -5,7 +5,7 @@ use mathlib.Core.List.{List}
 use Prim.Native.Nat.{ℕ, _-_, _<_}
 use lib.ListN.{length}
 use Rattle.xdr.specs.declared.refusal.Refusal.{Refusal}
-use Rattle.xdr.specs.declared.refusal.Refusal.the-variants.{Ended, Undeclared, TooLong, Outside, NoRoom, Unfit, Overrun, NotCall, PastEnd}
+use Rattle.xdr.specs.declared.refusal.Refusal.the-variants.{Ended, Undeclared, TooLong, Outside, NoRoom, Unfit, Overrun, NotCall, PastEnd, LongPath}
 
 abbrev pub numberOf : Refusal → ℕ
 numberOf (Ended p w) = 1
@@ -17,8 +17,9 @@ numberOf Unfit = 6
 numberOf Overrun = 7
 numberOf NotCall = 8
 numberOf PastEnd = 9
+numberOf (LongPath p) = 10
 
--- only 1 and 2 have a place
+-- only 1, 2 and 10 have a place
 abbrev pub placeOf : Refusal → ℕ
 placeOf (Ended p w) = p
 placeOf (Undeclared p) = p
@@ -29,6 +30,7 @@ placeOf Unfit = 0
 placeOf Overrun = 0
 placeOf NotCall = 0
 placeOf PastEnd = 0
+placeOf (LongPath p) = p
 
 -- and only 1 wants bytes
 abbrev pub wantingOf : Refusal → ℕ
@@ -41,6 +43,7 @@ wantingOf Unfit = 0
 wantingOf Overrun = 0
 wantingOf NotCall = 0
 wantingOf PastEnd = 0
+wantingOf (LongPath p) = 0
 
 -- and only 5 says how many bytes a writing needs
 abbrev pub neededOf : Refusal → ℕ
@@ -53,6 +56,7 @@ neededOf Unfit = 0
 neededOf Overrun = 0
 neededOf NotCall = 0
 neededOf PastEnd = 0
+neededOf (LongPath p) = 0
 
 -- the same refusal, at another place
 abbrev pub movedTo : ℕ → Refusal → Refusal
@@ -65,6 +69,7 @@ movedTo p Unfit = Unfit
 movedTo p Overrun = Overrun
 movedTo p NotCall = NotCall
 movedTo p PastEnd = PastEnd
+movedTo p (LongPath q) = LongPath p
 
 -- the refusals that reading a kind can give; 3 and 9 come before it is read, and the others are not a reader's
 abbrev pub OfReading : Refusal → Type 0
@@ -77,6 +82,7 @@ OfReading Unfit = ⊥
 OfReading Overrun = ⊥
 OfReading NotCall = ⊥
 OfReading PastEnd = ⊥
+OfReading (LongPath p) = Unit {0}
 
 -- if it is a 1, it wants more than k bytes
 abbrev pub TooFew : ℕ → Refusal → Type 0
@@ -93,6 +99,7 @@ lessBy k Unfit = Unfit
 lessBy k Overrun = Overrun
 lessBy k NotCall = NotCall
 lessBy k PastEnd = PastEnd
+lessBy k (LongPath q) = LongPath q
 
 -- refusal 1 of k bytes that begin at place p of s: those that are not there are wanting
 abbrev pub cutShort : ℕ → List ℕ → ℕ → Refusal
