@@ -5,6 +5,7 @@ pub mod Digits
 pub mod Parted
 pub mod Cuts
 pub mod Block
+pub mod Never
 pub mod Chain
 pub mod View
 pub mod Run
@@ -52,4 +53,6 @@ pub mod ByNumber
 pub mod Fields
 pub mod Optional
 pub mod Status
+pub mod Linked
+pub mod Bounded
 pub mod Programs

@@ -13,6 +13,9 @@ pub mod Held
 pub mod Format
 pub mod Cases
 pub mod Status
+pub mod Linked
+pub mod Bounded
+pub mod Lists
 pub mod Pieces
 pub mod Formats
 pub mod Sizes

@@ -5,8 +5,9 @@ use mathlib.Core.List.{List, []}
 use Prim.Native.Nat.{ℕ, zero, suc}
 use Rattle.xdr.specs.Meaning.Kind.{Codec}
 use Rattle.xdr.specs.Meaning.Shapes.{Tuple}
-use Rattle.xdr.specs.Meaning.Combinators.{blockKind, voidKind, chainKind, Seen, means, View, viewKind, runKind, Takes}
+use Rattle.xdr.specs.Meaning.Combinators.{blockKind, voidKind, noneKind, chainKind, Seen, means, View, viewKind, runKind, Takes}
 use Rattle.xdr.specs.Laws.Block.{block-lawful, void-lawful}
+use Rattle.xdr.specs.Laws.Never.{none-lawful}
 use Rattle.xdr.specs.Laws.Chain.{chain-lawful}
 use Rattle.xdr.specs.Laws.View.{view-lawful}
 use Rattle.xdr.specs.Laws.Run.{run-lawful}
@@ -18,6 +19,9 @@ block n = record { kind = blockKind n; laws = block-lawful n }
 
 abbrev pub void : Codec (Unit {0})
 void = record { kind = voidKind; laws = void-lawful }
+
+abbrev pub never : (M : Type 0) → Codec M
+never M = record { kind = noneKind; laws = none-lawful M }
 
 abbrev pub chain : {M : Type 0} {N : M → Type 0} → Codec M → ((a : M) → Codec (N a)) → Codec ((a : M) × N a)
 chain C D =

@@ -42,6 +42,17 @@ voidKind =
       write = λ u. [];
     }
 
+-- no message: the start of kinds by a bound
+abbrev pub noneKind : {M : Type 0} → Kind M
+noneKind =
+    record {
+      Good = λ m. ⊥;
+      Form = λ m w e. ⊥;
+      Fault = λ s p r. r ≡ Undeclared p;
+      read = λ s p. refused (Undeclared p);
+      write = λ m. [];
+    }
+
 -- one after another: the second may depend on the first's message
 module _ {M : Type 0} {N : M → Type 0} (A : Kind M) (B : (a : M) → Kind (N a)) where
   abbrev pub second : (a : M) → Bool → Answer (N a) → Answer ((a : M) × N a)
