@@ -217,6 +217,8 @@ class Made:
         meaning = row.meaning if row else re.sub("3(?=[a-z])", "-", re.sub("3$", "", stem(name))).replace("_", "-")
         if meaning in Words().specs:
             raise Trouble(f"{self.topic.path}: {name} cannot be called {meaning}, which is a name of the laws already")
+        if meaning == escaped(name):
+            raise Trouble(f"{self.topic.path}: {name} needs a row in kinds.txt with another word for its meaning: the type has this one")
         return meaning
 
     # ------------------------------------------------ where its names are

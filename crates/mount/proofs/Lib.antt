@@ -1,0 +1,4 @@
+-- made by tools/generate: ranges
+pub mod PortmapRanges
+
+-- end of ranges

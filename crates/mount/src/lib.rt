@@ -1,0 +1,15 @@
+// What the mount protocol adds to NFS version 3 (RFC 1813, appendix I), and the mapping of the port mapper (RFC 1057, appendix A).
+//
+// `read_X(src, at)` reads an X of a message from a place on; `write_X(.., out, at)` writes one into a buffer from a place on. One that has
+// pieces is written from the source that they are of. A type has the RFC's name.
+// Every input gets an answer. What the answers mean stands in specs/Meaning.
+// made by tools/generate: modules
+pub mod portmap;
+// end of modules
+
+// made by tools/generate: names
+pub use portmap::MappingRead;
+pub use portmap::mapping;
+pub use portmap::read_mapping;
+pub use portmap::write_mapping;
+// end of names
