@@ -1,4 +1,5 @@
 -- What follows: how each is read, how many bytes it has, and what is laid of it.
+pub mod Path
 -- made by tools/generate: laws
 pub mod Portmap
 

@@ -55,4 +55,5 @@ pub mod Optional
 pub mod Status
 pub mod Linked
 pub mod Bounded
+pub mod Within
 pub mod Programs

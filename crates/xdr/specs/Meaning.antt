@@ -22,5 +22,6 @@ pub mod Sizes
 pub mod Order
 pub mod Public
 pub mod Sources
+pub mod Within
 pub mod Views
 pub mod Programs
