@@ -3,11 +3,15 @@
 // `read_X(src, at)` reads an X of a message from a place on; `write_X(.., out, at)` writes one into a buffer from a place on. One that has
 // pieces is written from the source that they are of. A type has the RFC's name.
 // Every input gets an answer. What the answers mean stands in specs/Meaning.
+pub mod group;
 pub mod path;
 // made by tools/generate: modules
 pub mod portmap;
 // end of modules
 
+pub use group::NextGroup;
+pub use group::NextGroupRead;
+pub use group::next_group;
 pub use path::MNTPATHLEN;
 pub use path::dirpath;
 pub use path::read_dirpath;

@@ -55,5 +55,7 @@ pub mod Optional
 pub mod Status
 pub mod Linked
 pub mod Bounded
+pub mod Even
+pub mod Walks
 pub mod Within
 pub mod Programs

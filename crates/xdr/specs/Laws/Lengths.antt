@@ -216,7 +216,7 @@ module _ {A : Type 0} (number : A → ℕ) (l : List A) (each : (a : A) → amon
   closed-within = record { of = λ a w e f. omega (arith, word-length (number a), word-lengths .of (f .of) (f .w₁) e (f .form)) }
 
 -- an opaque has the length of its length word, its bytes and their padding
-opaque-form-long : (m : List ℕ) (w : List Loose) (e : List ℕ) → opaque .kind .Form m w e → length e ≡ opaqueSize (length m)
+pub opaque-form-long : (m : List ℕ) (w : List Loose) (e : List ℕ) → opaque .kind .Form m w e → length e ≡ opaqueSize (length m)
 opaque-form-long m w e f =
     let o = opaque-form m w e .0 f in
     ap length (o .bytes)

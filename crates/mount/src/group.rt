@@ -1,0 +1,119 @@
+// Groups of an export (RFC 1813, appendix I): a list of names, each behind a true flag, and a false flag at its end. A list is held as the place
+// of its first flag and the count of its names.
+ghost use mathlib.Core.Path.{_≡_};
+ghost use Rattle.xdr.specs.Meaning.Public.{Answers};
+ghost use Rattle.xdr.specs.Meaning.Views.{viewPiece};
+ghost use Rattle.mount.specs.Meaning.Group.{groups, next-group, viewNextGroup, lostNextGroup};
+use xdr::BoolRead;
+use xdr::Piece;
+use xdr::PieceRead;
+use xdr::Refusal;
+use xdr::inner::bool_at;
+use xdr::inner::opaque_at;
+use xdr::order::Opening;
+use xdr::order::open_at;
+
+// What stands at a place of a list of names: its end, or a name.
+pub enum NextGroup {
+    End,
+    Name(Piece),
+}
+
+pub enum NextGroupRead {
+    Refused(Refusal),
+    Took {
+        value: NextGroup,
+        next: usize,
+        plain: bool,
+    },
+}
+
+impl NextGroupRead {
+    pub fn refusal(self) -> Refusal
+        ensures { λ r. ⌜ r ≡ lostNextGroup self ⌝ }
+    {
+        match self {
+            NextGroupRead::Refused(r) => r,
+            NextGroupRead::Took {
+                value: _,
+                next: _,
+                plain: _,
+            } => Refusal::PastEnd,
+        }
+    }
+}
+
+pub fn next_group_at(src: &[u8], at: usize) -> NextGroupRead
+    ensures { λ r. ⌜ viewNextGroup r ≡ next-group .held .read (now (src .entry)) at ⌝ }
+{
+    let r1 = bool_at(src, at);
+    let BoolRead::Took {
+        value: more,
+        next: n1,
+        plain: p1,
+    } = r1
+    else {
+        return NextGroupRead::Refused(r1.refusal());
+    };
+    if !more {
+        return NextGroupRead::Took {
+            value: NextGroup::End,
+            next: n1,
+            plain: p1,
+        };
+    }
+    let r2 = opaque_at(src, n1);
+    let PieceRead::Took {
+        value: name,
+        next: n2,
+        plain: p2,
+    } = r2
+    else {
+        return NextGroupRead::Refused(r2.refusal());
+    };
+    NextGroupRead::Took {
+        value: NextGroup::Name(name),
+        next: n2,
+        plain: p1 & p2,
+    }
+}
+
+// All names from a place on: a loop, and no recursion, so a long list needs no stack.
+pub fn groups_at(src: &[u8], at: usize) -> PieceRead
+    ensures { λ r. ⌜ viewPiece r ≡ groups .held .read (now (src .entry)) at ⌝ }
+{
+    let mut here = at;
+    let mut count: usize = 0;
+    let mut plain = true;
+    loop {
+        let step = next_group_at(src, here);
+        let NextGroupRead::Took {
+            value,
+            next,
+            plain: p,
+        } = step
+        else {
+            return PieceRead::Refused(step.refusal());
+        };
+        let NextGroup::Name(_) = value else {
+            return PieceRead::Took {
+                value: Piece { at, count },
+                next,
+                plain: plain & p,
+            };
+        };
+        here = next;
+        count += 1;
+        plain = plain & p;
+    }
+}
+
+// The name at a place of a list, and where the next one stands. A list that was read is walked by it from its place on.
+pub fn next_group(src: &[u8], at: usize) -> NextGroupRead
+    ensures { λ r. ⌜ Answers next-group (now (src .entry)) at (viewNextGroup r) ⌝ }
+{
+    match open_at(src, at) {
+        Opening::Refused(r) => NextGroupRead::Refused(r),
+        Opening::Open => next_group_at(src, at),
+    }
+}

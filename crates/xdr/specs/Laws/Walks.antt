@@ -1,0 +1,119 @@
+-- Walking along a linked list: what a step finds, what a loop keeps, and what is known of a list that lies inside.
+-- Assumes nothing.
+use mathlib.Core.Path.{_≡_, refl, sym, ap, ap₂, subst, _∙_}
+use mathlib.Core.Bool.{Bool, true, false, _&&_}
+use mathlib.Core.Option.{Option, none, some}
+use mathlib.Core.List.{List, [], _∷_}
+use Prim.Native.Nat.{ℕ, suc, _+_, _-_, _≤_, _<_}
+use native.Mathlib.Nat.{add-zero, zero-add}
+use native.Mathlib.Omega.{arith}
+use lib.Dec.{eqb}
+use lib.ListN.{length, getD}
+use borrow.Author.Tests.{eq-eqb, eqb-true}
+use mir.Syntax.{w8}
+use mir.Val.{Fits}
+use Rattle.xdr.specs.Meaning.Bytes.{Bytes}
+use Rattle.xdr.specs.Meaning.Answer.{Answer, took, refused, mapAnswer, clean}
+use Rattle.xdr.specs.Meaning.Kind.{Kind, Sound, Codec}
+use Rattle.xdr.specs.Meaning.Combinators.{means}
+use Rattle.xdr.specs.Meaning.Held.{lookAt}
+use Rattle.xdr.specs.Meaning.Format.{Format, optional}
+use Rattle.xdr.specs.Meaning.Cases.{Cases, maybeHeld}
+use Rattle.xdr.specs.Meaning.Linked.{linkedKind, placedAt, elementsOf, hasCount}
+use Rattle.xdr.specs.Meaning.Lists.{linked, placed, listOf}
+use Rattle.xdr.specs.Laws.Lists.{room, known-bytes}
+use Rattle.xdr.specs.Laws.Held.{taken-means, refused-means}
+use Rattle.xdr.specs.Laws.Linked.{put, follow, linked-step, optional-some}
+use Rattle.xdr.specs.declared.piece.Piece.{Piece}
+use Rattle.xdr.specs.declared.refusal.Refusal.{Refusal}
+
+-- an optional value under the names of a type, and by itself
+module _ {M S T : Type 0} (F : Format M S) (U : Cases S T) (s : List ℕ) (p : ℕ) where
+  pub by-names : {t : T} {n : ℕ} {b : Bool} → maybeHeld F U .held .read s p ≡ took t n b → optional F .held .read s p ≡ took (U .from t) n b
+  by-names {t} {n} {b} e = go (optional F .held .read s p) refl
+    where
+      go : (a : Answer (Option S)) → optional F .held .read s p ≡ a → optional F .held .read s p ≡ took (U .from t) n b
+      go (took o n′ b′) f =
+          let g : _≡_ {A = Answer T} (took (U .to o) n′ b′) (took t n b) = sym (ap (lookAt (λ (y : Option S). means (U .to y) []) p) f) ∙ e in
+          let i : U .to o ≡ t = cc g in
+          let k : o ≡ U .from t = sym (U .from-to o) ∙ ap (U .from) i in
+          f ∙ cc (g, k)
+      go (refused r) f =
+          let g : _≡_ {A = Answer T} (refused r) (took t n b) = sym (ap (lookAt (λ (y : Option S). means (U .to y) []) p) f) ∙ e in
+          let z : _≡_ {A = ℕ} 0 1 = cc in absurd (omega arith)
+
+  pub by-names-refused : {r : Refusal} → maybeHeld F U .held .read s p ≡ refused r → optional F .held .read s p ≡ refused r
+  by-names-refused {r} e = go (optional F .held .read s p) refl
+    where
+      go : (a : Answer (Option S)) → optional F .held .read s p ≡ a → optional F .held .read s p ≡ refused r
+      go (took o n′ b′) f =
+          let g : _≡_ {A = Answer T} (took (U .to o) n′ b′) (refused r) = sym (ap (lookAt (λ (y : Option S). means (U .to y) []) p) f) ∙ e in
+          let z : _≡_ {A = ℕ} 0 1 = cc in absurd (omega arith)
+      go (refused r′) f =
+          let g : _≡_ {A = Answer T} (refused r′) (refused r) = sym (ap (lookAt (λ (y : Option S). means (U .to y) []) p) f) ∙ e in
+          f ∙ cc g
+
+module _ {M S : Type 0} (F : Format M S) (s : List ℕ) (h : Bytes s) (p : ℕ) where
+  -- one step: the end, an element and the rest behind it, or a refusal
+  pub list-ends : {n : ℕ} {b : Bool} → optional F .held .read s p ≡ took none n b → linked F .kind .read s p ≡ took [] n b
+  list-ends e =
+      linked-step (optional F .codec) (optional-some F) s h p
+      ∙ ap (follow (optional F .codec) (optional-some F) (linked F .kind .read s)) (taken-means (optional F .held) s p e)
+
+  pub list-goes : {y : S} {n : ℕ} {b : Bool} → optional F .held .read s p ≡ took (some y) n b
+      → linked F .kind .read s p ≡ put (optional F .codec) (optional-some F) (F .held .mean s y) b (linked F .kind .read s n)
+  list-goes e =
+      linked-step (optional F .codec) (optional-some F) s h p
+      ∙ ap (follow (optional F .codec) (optional-some F) (linked F .kind .read s)) (taken-means (optional F .held) s p e)
+
+  pub list-refused : {r : Refusal} → optional F .held .read s p ≡ refused r → linked F .kind .read s p ≡ refused r
+  list-refused e =
+      linked-step (optional F .codec) (optional-some F) s h p
+      ∙ ap (follow (optional F .codec) (optional-some F) (linked F .kind .read s)) (refused-means (optional F .held) s p e)
+
+  -- a step takes four bytes at least, and they lie inside
+  pub step-inside : {o : Option S} {n : ℕ} {b : Bool} → optional F .held .read s p ≡ took o n b → (p < n) × (n ≤ length s)
+  step-inside {o} {n} {b} e =
+      let f = subst (Sound (optional F .codec .kind) s p) (taken-means (optional F .held) s p e) (optional F .codec .laws .sound s p h) in
+      let k = optional-some F _ (f .loose) (f .used) (f .form) in
+      omega (arith, f .next, room (f .used) (f .left) s p (f .stands))
+
+-- what a reader's loop keeps: c elements of a list that begins at p were read, b says if nothing was loose in them, and the rest is read
+abbrev pub tally : {M : Type 0} → ℕ → ℕ → Bool → Answer (List M) → Answer Piece
+tally p c b (took l n b′) = took (record { at = p; count = c + length l }) n (b && b′)
+tally p c b (refused r) = refused r
+
+and-assoc : (a b c : Bool) → (a && (b && c)) ≡ ((a && b) && c)
+and-assoc true b c = refl
+and-assoc false b c = refl
+
+module _ {M S : Type 0} (F : Format M S) (s : List ℕ) where
+  tally-none : (p : ℕ) (z : Answer (List M)) → mapAnswer (placedAt p) z ≡ tally p 0 true z
+  tally-none p (took l n b) = rw (zero-add (length l))
+  tally-none p (refused r) = refl
+
+  -- before the first flag
+  pub tally-starts : (p : ℕ) → listOf F .held .read s p ≡ tally p 0 true (linked F .kind .read s p)
+  tally-starts p = tally-none p (linked F .kind .read s p)
+
+  module _ (h : Bytes s) (p c : ℕ) (b : Bool) (q : ℕ) where
+    tally-put : (m : M) (b₁ : Bool) (z : Answer (List M))
+        → tally p c b (put (optional F .codec) (optional-some F) m b₁ z) ≡ tally p (c + 1) (b && b₁) z
+    tally-put m b₁ (took l n b₂) =
+        let e : c + suc (length l) ≡ c + 1 + length l = omega arith in
+        rw (e, and-assoc b b₁ b₂)
+    tally-put m b₁ (refused r) = refl
+
+    -- one more element
+    pub tally-goes : {y : S} {n : ℕ} {b₁ : Bool} → optional F .held .read s q ≡ took (some y) n b₁
+        → tally p c b (linked F .kind .read s q) ≡ tally p (c + 1) (b && b₁) (linked F .kind .read s n)
+    tally-goes {y} {n} {b₁} e = ap (tally p c b) (list-goes F s h q e) ∙ tally-put (F .held .mean s y) b₁ (linked F .kind .read s n)
+
+    -- the end, and a refusal
+    pub tally-ends : {n : ℕ} {b₁ : Bool} → optional F .held .read s q ≡ took none n b₁
+        → tally p c b (linked F .kind .read s q) ≡ took (record { at = p; count = c }) n (b && b₁)
+    tally-ends {n} {b₁} e =
+        ap (tally p c b) (list-ends F s h q e) ∙ ap (λ (k : ℕ). took (record { at = p; count = k }) n (b && b₁)) (add-zero c)
+
+    pub tally-refused : {r : Refusal} → optional F .held .read s q ≡ refused r → tally p c b (linked F .kind .read s q) ≡ refused r
+    tally-refused e = ap (tally p c b) (list-refused F s h q e)
