@@ -1,6 +1,7 @@
 -- What follows: how each is read, how many bytes it has, and what is laid of it.
 pub mod Path
 pub mod Group
+pub mod Export
 -- made by tools/generate: laws
 pub mod Portmap
 

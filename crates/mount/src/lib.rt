@@ -3,12 +3,19 @@
 // `read_X(src, at)` reads an X of a message from a place on; `write_X(.., out, at)` writes one into a buffer from a place on. One that has
 // pieces is written from the source that they are of. A type has the RFC's name.
 // Every input gets an answer. What the answers mean stands in specs/Meaning.
+pub mod export;
 pub mod group;
 pub mod path;
 // made by tools/generate: modules
 pub mod portmap;
 // end of modules
 
+pub use export::NextExport;
+pub use export::NextExportRead;
+pub use export::exportnode;
+pub use export::exports;
+pub use export::next_export;
+pub use export::read_exports;
 pub use group::NextGroup;
 pub use group::NextGroupRead;
 pub use group::next_group;

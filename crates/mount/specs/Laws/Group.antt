@@ -74,7 +74,7 @@ module _ (s : List ℕ) (at : ℕ) where
             let g = by-names bytes nextGroupCases s here (sym e ∙ ap viewNextGroup f ∙ ap (λ v. took v n p) i) in
             inv ∙ tally-goes bytes s (known-bytes s given) at count plain here g
 
-        pub name-inside : (here < n) × (n ≤ length s)
+        pub name-inside : (here + 4 ≤ n) × (n ≤ length s)
         unfolding next-group
         name-inside =
             step-inside bytes s (known-bytes s given) here (by-names bytes nextGroupCases s here (sym e ∙ ap viewNextGroup f ∙ ap (λ v. took v n p) i))

@@ -197,10 +197,14 @@ module _ {M : Type 0} (O : Codec (Option M)) (some-bytes : (o : Option M) (w : L
     linked-step p = by-element p (O .kind .read s p) refl (O .laws .sound s p h)
 
 -- an optional value takes four bytes at least
-pub optional-some : {M S : Type 0} (F : Format M S) (o : Option M) (w : List Loose) (e : List ℕ) → optional F .codec .kind .Form o w e → 0 < length e
-optional-some F o w e f =
-    let g = f .form in
-    omega (arith, flag-lengths .of (f .of .0) (g .w₁) (g .e₁) (g .form₁), ap length (g .bytes) ∙ length-append (g .e₁) (g .e₂))
+module _ {M S : Type 0} (F : Format M S) (o : Option M) (w : List Loose) (e : List ℕ) (f : optional F .codec .kind .Form o w e) where
+  pub optional-four : 4 ≤ length e
+  optional-four =
+      let g = f .form in
+      omega (arith, flag-lengths .of (f .of .0) (g .w₁) (g .e₁) (g .form₁), ap length (g .bytes) ∙ length-append (g .e₁) (g .e₂))
+
+  pub optional-some : 0 < length e
+  optional-some = omega (arith, optional-four)
 
 -- a list that is held as a place and a count: what is read there is what it means, and lies inside
 module _ {M : Type 0} (C : Codec (List M)) (s : List ℕ) (p : ℕ) where

@@ -4,19 +4,20 @@ use mathlib.Core.Path.{_≡_, refl, sym, ap, ap₂, subst, _∙_}
 use mathlib.Core.Logic.{_↔_}
 use mathlib.Core.Bool.{Bool, true}
 use mathlib.Core.List.{List, [], _++_, append-nil}
-use Prim.Native.Nat.{ℕ, _+_, _-_, _≤_}
+use Prim.Native.Nat.{ℕ, _+_, _-_, _≤_, _<_}
 use native.Mathlib.Nat.{zero-add}
 use native.Mathlib.Omega.{arith}
 use lib.ListN.{length}
 use lib.Seq.{take-at}
 use Rattle.xdr.specs.Meaning.Bytes.{Bytes, Stands, part}
 use Rattle.xdr.specs.Meaning.Answer.{Answer, took, refused, mapAnswer, Loose, clean}
-use Rattle.xdr.specs.Meaning.Refusal.{TooFew}
+use Rattle.xdr.specs.Meaning.Refusal.{wantingOf, TooFew, lessBy}
 use Rattle.xdr.specs.Meaning.Kind.{Kind, Found, Sound, Lawful, Codec}
 use Rattle.xdr.specs.Meaning.Promise.{Begins, Accepted, Refused, Reading, used, rewriting, Wants, Promise}
 use Rattle.xdr.specs.Laws.Lists.{room, stands-grow}
 use Rattle.xdr.specs.Laws.Marks.{clean-none}
-use Rattle.xdr.specs.declared.refusal.Refusal.the-variants.{Ended, Undeclared}
+use Rattle.xdr.specs.declared.refusal.Refusal.the-variants.{Ended, Undeclared, TooLong, Outside, NoRoom, Unfit, Overrun, NotCall, PastEnd, LongPath}
+use Rattle.xdr.specs.declared.refusal.Refusal.{Refusal}
 
 module _ {M : Type 0} (K : Kind M) (L : Lawful K) where
   begins : (s : List ℕ) (p : ℕ) → Bytes s → Accepted K s p → Begins K s p
@@ -101,11 +102,31 @@ module _ {M : Type 0} (K : Kind M) (L : Lawful K) where
         (stands-grow (f .used) (f .left) (r .input) t (r .place) (r .inside) (f .stands))
         ∙ ap₂ (λ (n : ℕ) b. took (r .message) n b) (sym (f .next)) (sym (f .plain))
 
-  final : (s t : List ℕ) (p q : ℕ) → Bytes s → p ≤ length s → K .read s p ≡ refused (Undeclared q) → K .read (s ++ t) p ≡ refused (Undeclared q)
-  final s t p q h k e = L .refuses (s ++ t) p (Undeclared q) (L .few s t p (Undeclared q) k (subst (Sound K s p) e (L .sound s p h)) never)
+  -- a refusal that wants no bytes is no 1, so any number of bytes are too few for it
+  final : (s t : List ℕ) (p : ℕ) (r : Refusal) → wantingOf r ≡ 0 → Bytes s → p ≤ length s → K .read s p ≡ refused r → K .read (s ++ t) p ≡ refused r
+  final s t p r none h k e =
+      L .refuses (s ++ t) p r (subst (K .Fault (s ++ t) p) (still r none) (L .few s t p r k fault never))
     where
-      never : TooFew (length t) (Undeclared q)
-      never = λ i w f. let z : _≡_ {A = ℕ} 0 1 = cc in absurd (omega arith)
+      fault : K .Fault s p r
+      fault = subst (Sound K s p) e (L .sound s p h)
+
+      some-wanted : (q w : ℕ) → r ≡ Ended q w → 0 < w
+      some-wanted q w f = L .ended s p q w k (subst (K .Fault s p) f fault) .2
+
+      never : TooFew (length t) r
+      never = λ q w f. absurd (omega (arith, some-wanted q w f, ap wantingOf f))
+
+      still : (r : Refusal) → wantingOf r ≡ 0 → lessBy (length t) r ≡ r
+      still (Ended q w) i = ap (λ (v : ℕ). Ended q v) (omega arith)
+      still (Undeclared q) i = refl
+      still TooLong i = refl
+      still Outside i = refl
+      still (NoRoom n) i = refl
+      still Unfit i = refl
+      still Overrun i = refl
+      still NotCall i = refl
+      still PastEnd i = refl
+      still (LongPath q) i = refl
 
   wants : (s : List ℕ) (p q w : ℕ) → Bytes s → p ≤ length s → K .read s p ≡ refused (Ended q w) → Wants K s p q w
   wants s p q w h k e =

@@ -22,8 +22,8 @@ use Rattle.xdr.specs.Meaning.Views.{viewOpening}
 use Rattle.xdr.specs.declared.refusal.Refusal.{Refusal}
 use Rattle.xdr.specs.declared.order.Opening.{Opening}
 use Rattle.xdr.specs.declared.order.Opening.the-variants as opening
-use Rattle.xdr.specs.declared.refusal.Refusal.the-variants.{Ended, Undeclared, TooLong, PastEnd}
-use Rattle.xdr.specs.Meaning.Refusal.{OfReading}
+use Rattle.xdr.specs.declared.refusal.Refusal.the-variants.{Ended, TooLong, PastEnd}
+use Rattle.xdr.specs.Meaning.Refusal.{OfReading, wantingOf}
 
 module _ {A : Type 0} (s : List ℕ) (p : ℕ) where
   pub opened-long : (x : Answer A) → most < length s → opened s p x ≡ refused TooLong
@@ -157,7 +157,7 @@ module _ {M S : Type 0} (F : Format M S) where
       by true h true k =
           inr (inr (F .codec .laws .numbered s p r (fault-of s p r c (leb-true (length s) most h) (leb-true p (length s) k) .0 refl)))
 
-  -- what was refused by 1 or 2 was read, and refused there
+  -- what was refused by 1, 2 or 10 was read, and refused there
   opened-refused : (s : List ℕ) (p : ℕ) {r : Refusal} → OfReading r → Answers F s p (refused r)
       → (F .codec .kind .read s p ≡ refused r) × (length s ≤ most) × (p ≤ length s)
   unfolding opened
@@ -206,10 +206,10 @@ module _ {M S : Type 0} (F : Format M S) where
           (y, later-in l h ∙ e ∙ i, cc)
       by (refused r) e f h = let z : _≡_ {A = ℕ} 0 1 = cc in absurd (omega arith)
 
-  final : {s t : List ℕ} {p q : ℕ} {a : Answer S} → Later F s t p (refused (Undeclared q)) a → a ≡ refused (Undeclared q)
-  final {s} {t} {p} {q} l =
-      let o = opened-refused s p tt (l .before) in
-      later-refused l (o .2) (keeps (F .codec) .final s t p q (l .before .bytes) (o .2) (o .0))
+  final : {s t : List ℕ} {p : ℕ} {r : Refusal} {a : Answer S} → wantingOf r ≡ 0 → Later F s t p (refused r) a → OfReading r → a ≡ refused r
+  final {s} {t} {p} {r} none l i =
+      let o = opened-refused s p i (l .before) in
+      later-refused l (o .2) (keeps (F .codec) .final s t p r none (l .before .bytes) (o .2) (o .0))
 
   wanting : {s : List ℕ} {p q w : ℕ} → Answers F s p (refused (Ended q w)) → Wants (F .codec .kind) s p q w
   wanting {s} {p} {q} {w} c =

@@ -14,7 +14,7 @@ use mir.Syntax.{w8}
 use mir.Val.{Fits}
 use Rattle.xdr.specs.Meaning.Bytes.{Bytes}
 use Rattle.xdr.specs.Meaning.Answer.{Answer, took, refused, mapAnswer, clean}
-use Rattle.xdr.specs.Meaning.Kind.{Kind, Sound, Codec}
+use Rattle.xdr.specs.Meaning.Kind.{Found, Sound}
 use Rattle.xdr.specs.Meaning.Combinators.{means}
 use Rattle.xdr.specs.Meaning.Held.{lookAt}
 use Rattle.xdr.specs.Meaning.Format.{Format, optional}
@@ -23,7 +23,8 @@ use Rattle.xdr.specs.Meaning.Linked.{linkedKind, placedAt, elementsOf, h
 use Rattle.xdr.specs.Meaning.Lists.{linked, placed, listOf}
 use Rattle.xdr.specs.Laws.Lists.{room, known-bytes}
 use Rattle.xdr.specs.Laws.Held.{taken-means, refused-means}
-use Rattle.xdr.specs.Laws.Linked.{put, follow, linked-step, optional-some}
+use Rattle.xdr.specs.Laws.Linked.{put, follow, linked-step, optional-four, optional-some}
+use Rattle.xdr.specs.Laws.Even.{Even, optional-even}
 use Rattle.xdr.specs.declared.piece.Piece.{Piece}
 use Rattle.xdr.specs.declared.refusal.Refusal.{Refusal}
 
@@ -71,12 +72,18 @@ module _ {M S : Type 0} (F : Format M S) (s : List ℕ) (h : Bytes s) (p : ℕ) 
       linked-step (optional F .codec) (optional-some F) s h p
       ∙ ap (follow (optional F .codec) (optional-some F) (linked F .kind .read s)) (refused-means (optional F .held) s p e)
 
-  -- a step takes four bytes at least, and they lie inside
-  pub step-inside : {o : Option S} {n : ℕ} {b : Bool} → optional F .held .read s p ≡ took o n b → (p < n) × (n ≤ length s)
-  step-inside {o} {n} {b} e =
-      let f = subst (Sound (optional F .codec .kind) s p) (taken-means (optional F .held) s p e) (optional F .codec .laws .sound s p h) in
-      let k = optional-some F _ (f .loose) (f .used) (f .form) in
-      omega (arith, f .next, room (f .used) (f .left) s p (f .stands))
+  -- a step takes four bytes at least, and they lie inside; all forms of an element being of one length, it takes as many as are written
+  module _ {o : Option S} {n : ℕ} {b : Bool} (e : optional F .held .read s p ≡ took o n b) where
+    step-found : Found (optional F .codec .kind) s p (optional F .held .mean s o) n b
+    step-found = subst (Sound (optional F .codec .kind) s p) (taken-means (optional F .held) s p e) (optional F .codec .laws .sound s p h)
+
+    pub step-inside : (p + 4 ≤ n) × (n ≤ length s)
+    step-inside =
+        let f = step-found in
+        omega (arith, f .next, optional-four F _ (f .loose) (f .used) (f .form), room (f .used) (f .left) s p (f .stands))
+
+    pub step-size : Even (F .codec .kind) → n ≡ p + length (optional F .codec .kind .write (optional F .held .mean s o))
+    step-size i = let f = step-found in f .next ∙ ap (λ k. p + k) (optional-even F i .of _ (f .loose) (f .used) (f .form))
 
 -- what a reader's loop keeps: c elements of a list that begins at p were read, b says if nothing was loose in them, and the rest is read
 abbrev pub tally : {M : Type 0} → ℕ → ℕ → Bool → Answer (List M) → Answer Piece

@@ -9,8 +9,9 @@ use lib.ListN.{length}
 use Rattle.xdr.specs.Meaning.Bytes.{Bytes, Stands, part}
 use Rattle.xdr.specs.Meaning.Answer.{took, refused, mapAnswer, Came, Loose}
 use Rattle.xdr.specs.Meaning.Kind.{Kind}
+use Rattle.xdr.specs.Meaning.Refusal.{wantingOf}
 use Rattle.xdr.specs.declared.refusal.Refusal.{Refusal}
-use Rattle.xdr.specs.declared.refusal.Refusal.the-variants.{Ended, Undeclared}
+use Rattle.xdr.specs.declared.refusal.Refusal.the-variants.{Ended}
 
 module _ {M : Type 0} (K : Kind M) where
   -- a message of this kind begins at place p of s
@@ -83,9 +84,9 @@ module _ {M : Type 0} (K : Kind M) where
     pub formed : (r : Reading) → (w : List Loose) × K .Form (r .message) w (used r)
     pub one-list : (r : Reading) (w w′ : List Loose) → K .Form (r .message) w (used r) → K .Form (r .message) w′ (used r) → w ≡ w′
     pub clean-iff : (r : Reading) (w : List Loose) → K .Form (r .message) w (used r) → (r .plain ≡ true) ↔ (w ≡ [])
-    -- appending bytes changes nothing that was taken, and no refusal 2; refusal 1 says how many are wanting
+    -- appending bytes changes nothing that was taken, and no refusal that wants none; refusal 1 says how many are wanting
     pub stays : (r : Reading) (t : List ℕ) → K .read (r .input ++ t) (r .place) ≡ took (r .message) (r .next) (r .plain)
-    pub final : (s t : List ℕ) (p q : ℕ) → Bytes s → p ≤ length s → K .read s p ≡ refused (Undeclared q) → K .read (s ++ t) p ≡ refused (Undeclared q)
+    pub final : (s t : List ℕ) (p : ℕ) (r : Refusal) → wantingOf r ≡ 0 → Bytes s → p ≤ length s → K .read s p ≡ refused r → K .read (s ++ t) p ≡ refused r
     pub wants : (s : List ℕ) (p q w : ℕ) → Bytes s → p ≤ length s → K .read s p ≡ refused (Ended q w) → Wants s p q w
 
   -- some kinds promise also that a rewriting is no longer than the larger of k bytes and the bytes read

@@ -12,7 +12,7 @@ use Rattle.xdr.specs.Meaning.Answer.{Answer, took, refused, mapAnswer, C
 use Rattle.xdr.specs.Meaning.Order.{placing}
 use Rattle.xdr.specs.Meaning.Promise.{Begins}
 use Rattle.xdr.specs.Meaning.Format.{Format}
-use Rattle.xdr.specs.Meaning.Refusal.{OfReading}
+use Rattle.xdr.specs.Meaning.Refusal.{OfReading, wantingOf}
 use Rattle.xdr.specs.declared.refusal.Refusal.{Refusal}
 use Rattle.xdr.specs.declared.refusal.Refusal.the-variants.{Ended, Undeclared, TooLong, PastEnd}
 
@@ -117,10 +117,10 @@ module _ {M S : Type 0} (F : Format M S) where
     pub formed : (t : Took) → (w : List Loose) × F .codec .kind .Form (message t) w (usedBy t)
     pub one-list : (t : Took) (w w′ : List Loose) → F .codec .kind .Form (message t) w (usedBy t) → F .codec .kind .Form (message t) w′ (usedBy t) → w ≡ w′
     pub clean-iff : (t : Took) (w : List Loose) → F .codec .kind .Form (message t) w (usedBy t) → (t .plain ≡ true) ↔ (w ≡ [])
-    -- appending bytes changes nothing that was taken, and no refusal 2
+    -- appending bytes changes nothing that was taken, and no refusal that wants none
     pub stays : {s t : List ℕ} {p : ℕ} {x : S} {n : ℕ} {b : Bool} {a : Answer S} → Later s t p (took x n b) a
         → (y : S) × (a ≡ took y n b) × (F .held .mean (s ++ t) y ≡ F .held .mean s x)
-    pub final : {s t : List ℕ} {p q : ℕ} {a : Answer S} → Later s t p (refused (Undeclared q)) a → a ≡ refused (Undeclared q)
+    pub final : {s t : List ℕ} {p : ℕ} {r : Refusal} {a : Answer S} → wantingOf r ≡ 0 → Later s t p (refused r) a → OfReading r → a ≡ refused r
     -- refusal 1 wants a byte at least; with fewer bytes than it wants it stays at its place, wanting that many less; with exactly as many the
     -- item is whole, or its length word is, where that was cut
     pub some : {s : List ℕ} {p q w : ℕ} → Answers F s p (refused (Ended q w)) → 0 < w

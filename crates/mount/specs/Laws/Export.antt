@@ -1,0 +1,304 @@
+-- How an export list is read: what the loop keeps, and what a walk says of a held list.
+-- Assumes nothing.
+use mathlib.Core.Path.{_≡_, refl, sym, ap, ap₂, subst, _∙_}
+use mathlib.Core.Bool.{Bool, true, false, _&&_}
+use mathlib.Core.Option.{Option, none, some}
+use mathlib.Core.List.{List, [], _∷_}
+use Prim.Native.Nat.{ℕ, suc, _+_, _-_, _≤_, _<_}
+use native.Mathlib.Nat.{add-zero, zero-add, add-assoc}
+use native.Mathlib.Omega.{arith}
+use lib.Dec.{leb, eqb}
+use lib.ListN.{length, getD}
+use borrow.Author.Tests.{le-leb, lt-leb}
+use mir.Syntax.{w8, w64}
+use mir.Val.{Fits}
+use Rattle.xdr.specs.Meaning.Bytes.{Bytes}
+use Rattle.xdr.specs.Meaning.Answer.{Answer, took, refused}
+use Rattle.xdr.specs.Meaning.Format.{Format, optional}
+use Rattle.xdr.specs.Meaning.Formats.{bytes, pieceHeld}
+use Rattle.xdr.specs.Meaning.Linked.{placedAt, elementsOf, hasCount}
+use Rattle.xdr.specs.Meaning.Lists.{linked}
+use Rattle.xdr.specs.Meaning.Pieces.{bytesIn}
+use Rattle.xdr.specs.Meaning.Views.{viewPiece}
+use Rattle.xdr.specs.Laws.Even.{Even, opaque-even, chain-even, named-even, list-even, even-within}
+use Rattle.xdr.specs.Laws.Held.{taken-inside}
+use Rattle.xdr.specs.Laws.Lengths.{Within}
+use Rattle.xdr.specs.Laws.Linked.{put, optional-some}
+use Rattle.xdr.specs.Laws.Lists.{known-bytes}
+use Rattle.xdr.specs.Laws.One.{Told}
+use Rattle.xdr.specs.Laws.Plans.{Planned, plan, at, Step, step, Loses, lost-at, optionally, _then_}
+use Rattle.xdr.specs.Laws.Walks.{by-names, by-names-refused, list-ends, list-goes, list-refused, step-inside, step-size}
+use Rattle.xdr.specs.declared.answer.PieceRead.{PieceRead}
+use Rattle.xdr.specs.declared.answer.PieceRead.the-variants as Piece
+use Rattle.xdr.specs.declared.piece.Piece.{Piece}
+use Rattle.xdr.specs.declared.refusal.Refusal.{Refusal}
+use Rattle.xdr.specs.declared.refusal.Refusal.the-variants.{LongPath}
+use Rattle.mount.specs.Meaning.Path.{mostPath, longPath}
+use Rattle.mount.specs.Meaning.Group.{groups}
+use Rattle.mount.specs.Meaning.Export.{Exportnode, nodeNames, node, nodes, farther, longEntry, firstLong, longList, exports, nextExportCases, next-node, next-export, viewNode, lostNode, viewNextExport, lostNextExport, finished, longAt, walked, orLong}
+use Rattle.mount.specs.Laws.Path.{piece-length, short-path, over-path}
+use Rattle.mount.specs.Laws.Group.{groups-even}
+use Rattle.mount.specs.declared.export.exportnode.{exportnode}
+use Rattle.mount.specs.declared.export.ExportnodeRead.{ExportnodeRead}
+use Rattle.mount.specs.declared.export.ExportnodeRead.the-variants as Node·
+use Rattle.mount.specs.declared.export.NextExport.{NextExport}
+use Rattle.mount.specs.declared.export.NextExport.the-variants as nextExportIs
+use Rattle.mount.specs.declared.export.NextExportRead.{NextExportRead}
+use Rattle.mount.specs.declared.export.NextExportRead.the-variants as NextExport·
+use Rattle.mount.specs.declared.export.Long.{Long}
+use Rattle.mount.specs.declared.export.Long.the-variants as long
+use Rattle.mount.specs.declared.export.Walked.{Walked}
+use Rattle.mount.specs.declared.export.Walked.the-variants as walked·
+
+-- plans, and what the answers tell
+abbrev pub node-plan : Planned (node .held .read)
+unfolding node
+node-plan = plan (at bytes then at groups) _
+
+pub step-node : Step viewNode
+step-node U = step viewNode
+
+pub lost-node : Loses lostNode
+lost-node A = lost-at lostNode
+
+abbrev pub next-node-plan : Planned (next-node .held .read)
+unfolding next-node
+next-node-plan = plan (optionally (at node)) _
+
+pub next-export-told : Told viewNextExport
+next-export-told (NextExport·.Took v n p) (NextExport·.Took v′ n′ p′) e = cc
+next-export-told (NextExport·.Took v n p) (NextExport·.Refused r) e = cc
+next-export-told (NextExport·.Refused r) (NextExport·.Took v n p) e = cc
+next-export-told (NextExport·.Refused r) (NextExport·.Refused r′) e = cc
+
+-- every form of an entry, and of a list, is as long as what is written
+pub node-even : Even (node .codec .kind)
+unfolding node
+node-even = named-even _ nodeNames (chain-even opaque-even (λ x. groups-even))
+
+pub nodes-even : Even (nodes .codec .kind)
+unfolding nodes
+nodes-even = list-even node node-even
+
+pub exports-within : Within 0 (exports .codec .kind)
+unfolding exports
+exports-within = record { of = λ m w e f. even-within nodes-even .of m w e (f .0) }
+
+-- the first path over the bound, by what is known of it
+module _ (w : Long) (q n : ℕ) where
+  pub or-kept : (k : ℕ) → w ≡ long.At k → long.At k ≡ orLong w q n
+  or-kept k e = sym (rw e)
+
+  pub or-short : w ≡ long.Nowhere → n ≤ mostPath → long.Nowhere ≡ orLong w q n
+  or-short e h = sym (rw (e, le-leb n mostPath h))
+
+  pub or-over : w ≡ long.Nowhere → mostPath < n → long.At (q + 4) ≡ orLong w q n
+  or-over e h = sym (rw (e, lt-leb n mostPath h))
+
+module _ (w : Long) (c n : ℕ) (b : Bool) where
+  pub finished-within : w ≡ long.Nowhere → walked·.Within c n b ≡ finished w c n b
+  finished-within e = sym (rw e)
+
+  pub finished-over : (k : ℕ) → w ≡ long.At k → walked·.Over c k ≡ finished w c n b
+  finished-over k e = sym (rw e)
+
+abbrev pub orElse : Long → ℕ → Option ℕ → Long
+orElse (long.At k) q o = long.At k
+orElse long.Nowhere q o = longAt q o
+
+farther-on : (q k : ℕ) (o : Option ℕ) → longAt q (farther k o) ≡ longAt (q + k) o
+farther-on q k none = refl
+farther-on q k (some n) = ap (λ (i : ℕ). long.At i) (sym (add-assoc q k n))
+
+-- the entry m, whose flag stands at q and whose path has n bytes, and then the list l
+entry-long : (w : Long) (q n : ℕ) (m : Exportnode) (l : List Exportnode) → length (m .«ex_dir») ≡ n
+    → orElse w q (longList (m ∷ l)) ≡ orElse (orLong w q n) (q + length (optional node .codec .kind .write (some m))) (longList l)
+entry-long (long.At k) q n m l e = refl
+entry-long long.Nowhere q n m l e = go (leb n mostPath) refl
+  where
+    size : ℕ
+    size = length (optional node .codec .kind .write (some m))
+
+    same : leb (length (m .«ex_dir»)) mostPath ≡ leb n mostPath
+    same = ap (λ i. leb i mostPath) e
+
+    go : (b : Bool) → leb n mostPath ≡ b
+        → longAt q (longList (m ∷ l)) ≡ orElse (orLong long.Nowhere q n) (q + length (optional node .codec .kind .write (some m))) (longList l)
+    go true h = rw (same, h) (farther-on q size (longList l))
+    go false h = rw (same, h)
+
+-- what is read from `at` on, when `count` entries were read before the place q
+abbrev tallied : Long → ℕ → Bool → ℕ → Answer (List Exportnode) → Walked
+tallied w c b q (took l n b′) = finished (orElse w q (longList l)) (c + length l) n (b && b′)
+tallied w c b q (refused r) = walked·.Refused r
+
+and-assoc : (a b c : Bool) → (a && (b && c)) ≡ ((a && b) && c)
+and-assoc true b c = refl
+and-assoc false b c = refl
+
+unfoldable pub entriesOn : List ℕ → ℕ → ℕ → Bool → Long → Walked
+entriesOn s here count plain w = tallied w count plain here (linked node .kind .read s here)
+
+tally-none : (p : ℕ) (z : Answer (List Exportnode)) → walked p z ≡ tallied long.Nowhere 0 true p z
+tally-none p (took l n b) = rw (zero-add (length l))
+tally-none p (refused r) = refl
+
+else-none : (w : Long) (q : ℕ) → orElse w q none ≡ w
+else-none (long.At k) q = refl
+else-none long.Nowhere q = refl
+
+module _ (s : List ℕ) (h : Bytes s) (w : Long) (c : ℕ) (b : Bool) (q : ℕ) where
+  -- a path that was read has as many bytes as its piece counts
+  dir-length : {y : exportnode} {n : ℕ} {b₁ : Bool} → optional node .held .read s q ≡ took (some y) n b₁
+      → length (node .held .mean s y .«ex_dir») ≡ y .«ex_dir» .count
+  unfolding node pieceHeld
+  dir-length {y} e = piece-length s (y .«ex_dir») (left _ _ (taken-inside (optional node .held) s q e))
+    where
+      left : (x z : Bool) → (x && z) ≡ true → x ≡ true
+      left true z i = refl
+      left false z i = i
+
+  tally-put : (m : Exportnode) (k n : ℕ) (b₁ : Bool) → length (m .«ex_dir») ≡ k → n ≡ q + length (optional node .codec .kind .write (some m))
+      → (z : Answer (List Exportnode))
+      → tallied w c b q (put (optional node .codec) (optional-some node) m b₁ z) ≡ tallied (orLong w q k) (c + 1) (b && b₁) n z
+  tally-put m k n b₁ i j (took l n′ b₂) =
+      let e : c + suc (length l) ≡ c + 1 + length l = omega arith in
+      let f : orElse w q (longList (m ∷ l)) ≡ orElse (orLong w q k) n (longList l) =
+      entry-long w q k m l i ∙ ap (λ z. orElse (orLong w q k) z (longList l)) (sym j) in
+      ap (λ x. finished x (c + suc (length l)) n′ (b && (b₁ && b₂))) f
+      ∙ ap₂ (λ x y. finished (orElse (orLong w q k) n (longList l)) x n′ y) e (and-assoc b b₁ b₂)
+  tally-put m k n b₁ i j (refused r) = refl
+
+  goes : {y : exportnode} {n : ℕ} {b₁ : Bool} → optional node .held .read s q ≡ took (some y) n b₁
+      → tallied w c b q (linked node .kind .read s q) ≡ tallied (orLong w q (y .«ex_dir» .count)) (c + 1) (b && b₁) n (linked node .kind .read s n)
+  goes {y} {n} {b₁} e =
+      ap (tallied w c b q) (list-goes node s h q e)
+      ∙ tally-put (node .held .mean s y) (y .«ex_dir» .count) n b₁ (dir-length e) (step-size node s h q e node-even) (linked node .kind .read s n)
+
+  ends : {n : ℕ} {b₁ : Bool} → optional node .held .read s q ≡ took none n b₁ → tallied w c b q (linked node .kind .read s q) ≡ finished w c n (b && b₁)
+  ends {n} {b₁} e = ap (tallied w c b q) (list-ends node s h q e) ∙ ap₂ (λ x y. finished x y n (b && b₁)) (else-none w q) (add-zero c)
+
+  refuses : {r : Refusal} → optional node .held .read s q ≡ refused r → tallied w c b q (linked node .kind .read s q) ≡ walked·.Refused r
+  refuses e = ap (tallied w c b q) (list-refused node s h q e)
+
+-- in the shape of the loop's goals
+module _ (s : List ℕ) (at : ℕ) where
+  pub entries-start : walked at (nodes .codec .kind .read s at) ≡ entriesOn s at 0 true long.Nowhere
+  unfolding nodes entriesOn
+  entries-start = tally-none at (linked node .kind .read s at)
+
+  module _ (here count : ℕ) (plain : Bool) (w : Long) (inv : walked at (nodes .codec .kind .read s at) ≡ entriesOn s here count plain w) (a : NextExportRead)
+      (given : (i : ℕ) → Fits w8 (getD s i 0)) (e : viewNextExport a ≡ next-node .held .read s here) where
+    pub entries-refused : (r q : Refusal) → a ≡ NextExport·.Refused r → q ≡ lostNextExport a → walked·.Refused q ≡ walked at (nodes .codec .kind .read s at)
+    unfolding entriesOn next-node
+    entries-refused r q f j =
+        let g = by-names-refused node nextExportCases s here (sym e ∙ ap viewNextExport f) in
+        rw (j, f) (sym (inv ∙ refuses s (known-bytes s given) w count plain here g))
+
+    module _ (v : NextExport) (n : ℕ) (p : Bool) (f : a ≡ NextExport·.Took v n p) where
+      taken : (x : Option exportnode) → v ≡ nextExportCases .to x → optional node .held .read s here ≡ took x n p
+      unfolding next-node
+      taken x i =
+          by-names node nextExportCases s here (sym e ∙ ap viewNextExport f)
+          ∙ ap (λ z. took z n p) (ap (nextExportCases .from) i ∙ nextExportCases .from-to x)
+
+      pub entries-end : v ≡ nextExportIs.End → (z : Walked) → z ≡ finished w count n (plain && p) → z ≡ walked at (nodes .codec .kind .read s at)
+      unfolding entriesOn
+      entries-end i z k = k ∙ sym (inv ∙ ends s (known-bytes s given) w count plain here (taken none i))
+
+      module _ (x : exportnode) (i : v ≡ nextExportIs.Export x) where
+        entry-inside : (here + 4 ≤ n) × (n ≤ length s)
+        entry-inside = step-inside node s (known-bytes s given) here (taken (some x) i)
+
+        pub entry-room : here + 4 ≤ n
+        entry-room = entry-inside .0
+
+        pub entries-on : (y : Piece) (u : Long) → y ≡ x .«ex_dir» → u ≡ orLong w here (y .count)
+            → walked at (nodes .codec .kind .read s at) ≡ entriesOn s n (count + 1) (plain && p) u
+        unfolding entriesOn
+        entries-on y u j k = rw (k, j) (inv ∙ goes s (known-bytes s given) w count plain here (taken (some x) i))
+
+        pub entries-less : length s - n < length s - here
+        entries-less = omega (arith, entry-inside)
+
+        module _ (k : at + count ≤ here) where
+          pub entries-further : at + (count + 1) ≤ n
+          entries-further = omega (arith, entry-inside)
+
+          pub entries-fit : Fits w64 n → Fits w64 (count + 1)
+          entries-fit f = omega (arith, entry-inside)
+
+-- what a walk says of the reading under the bound
+abbrev pub saidOf : ℕ → Walked → Answer Piece
+saidOf p (walked·.Refused r) = refused r
+saidOf p (walked·.Within c n b) = took (record { at = p; count = c }) n b
+saidOf p (walked·.Over c k) = refused (LongPath k)
+
+module _ (s : List ℕ) (p : ℕ) where
+  said-by : (l : List Exportnode) (n : ℕ) (b : Bool) (o : Option ℕ) → longList l ≡ o → linked node .kind .read s p ≡ took l n b
+      → exports .held .read s p ≡ saidOf p (walked p (took l n b))
+  unfolding exports nodes
+  said-by l n b none e f = rw (f, e, f, e)
+  said-by l n b (some k) e f = rw (f, e, f, e)
+
+  said-of : (z : Answer (List Exportnode)) → linked node .kind .read s p ≡ z → exports .held .read s p ≡ saidOf p (walked p z)
+  unfolding exports nodes
+  said-of (took l n b) f = said-by l n b (longList l) refl f
+  said-of (refused r) f = rw f
+
+  module _ (z : Walked) (e : z ≡ walked p (nodes .codec .kind .read s p)) where
+    walk-said : saidOf p z ≡ exports .held .read s p
+    unfolding nodes
+    walk-said = sym (said-of (linked node .kind .read s p) refl ∙ ap (saidOf p) (sym e))
+
+    pub said-refused : (r : Refusal) → z ≡ walked·.Refused r → viewPiece (Piece.Refused r) ≡ exports .held .read s p
+    said-refused r f = ap (saidOf p) (sym f) ∙ walk-said
+
+    pub said-within : (c n : ℕ) (b : Bool) → z ≡ walked·.Within c n b → viewPiece (Piece.Took (record { at = p; count = c }) n b) ≡ exports .held .read s p
+    said-within c n b f = ap (saidOf p) (sym f) ∙ walk-said
+
+    pub said-over : (c k : ℕ) → z ≡ walked·.Over c k → viewPiece (Piece.Refused (LongPath k)) ≡ exports .held .read s p
+    said-over c k f = ap (saidOf p) (sym f) ∙ walk-said
+
+-- one entry under the bound
+module _ (s : List ℕ) (at : ℕ) (a : NextExportRead) (e : viewNextExport a ≡ next-node .held .read s at) where
+  pub next-off : (r : Refusal) → a ≡ NextExport·.Refused r → viewNextExport a ≡ next-export .held .read s at
+  unfolding next-export
+  next-off r f = let g : next-node .held .read s at ≡ refused r = sym e ∙ ap viewNextExport f in ap viewNextExport f ∙ sym (rw g)
+
+  module _ (v : NextExport) (n : ℕ) (p : Bool) (f : a ≡ NextExport·.Took v n p) where
+    read-is : next-node .held .read s at ≡ took v n p
+    read-is = sym e ∙ ap viewNextExport f
+
+    pub next-end : v ≡ nextExportIs.End → viewNextExport (NextExport·.Took v n p) ≡ next-export .held .read s at
+    unfolding next-export next-node
+    next-end i = let g : next-node .held .read s at ≡ took nextExportIs.End n p = read-is ∙ ap (λ z. took z n p) i in rw i (sym (rw g))
+
+    module _ (given : (i : ℕ) → Fits w8 (getD s i 0)) (x : exportnode) (i : v ≡ nextExportIs.Export x) where
+      taken-is : next-node .held .read s at ≡ took (nextExportIs.Export x) n p
+      taken-is = read-is ∙ ap (λ z. took z n p) i
+
+      has : optional node .held .read s at ≡ took (some x) n p
+      unfolding next-node
+      has = by-names node nextExportCases s at taken-is
+
+      dir : length (node .held .mean s x .«ex_dir») ≡ x .«ex_dir» .count
+      dir = dir-length s (known-bytes s given) long.Nowhere 0 true at has
+
+      module _ (y : Piece) (j : y ≡ x .«ex_dir») where
+        pub next-kept : y .count ≤ mostPath → viewNextExport (NextExport·.Took (nextExportIs.Export x) n p) ≡ next-export .held .read s at
+        unfolding next-export next-node
+        next-kept h =
+            let k : length (node .held .mean s x .«ex_dir») ≤ mostPath = omega (arith, dir, ap (λ z. z .count) j) in
+            let g : longPath (node .held .mean s x .«ex_dir») ≡ none = short-path (node .held .mean s x .«ex_dir») k in
+            sym (rw (taken-is, g))
+
+        pub next-over : mostPath < y .count → viewNextExport (NextExport·.Refused (LongPath (at + 4))) ≡ next-export .held .read s at
+        unfolding next-export next-node
+        next-over h =
+            let k : mostPath < length (node .held .mean s x .«ex_dir») = omega (arith, dir, ap (λ z. z .count) j) in
+            let g : longPath (node .held .mean s x .«ex_dir») ≡ some 0 = over-path (node .held .mean s x .«ex_dir») k in
+            sym (rw (taken-is, g))
+
+      pub next-room : Fits w64 n → Fits w64 (at + 4)
+      next-room f = omega (arith, step-inside node s (known-bytes s given) at has)

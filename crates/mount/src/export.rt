@@ -1,0 +1,271 @@
+// Export lists (RFC 1813, appendix I): the results of EXPORT. A list is held as the place of its first flag and the count of its entries, and is
+// walked with `next_export`. A path above 1,024 bytes is refused with 10 once the whole list is read.
+ghost use mathlib.Core.Path.{_≡_};
+ghost use Prim.Native.Nat.{_+_, _≤_};
+ghost use Rattle.xdr.specs.Meaning.Public.{Answers};
+ghost use Rattle.xdr.specs.Meaning.Views.{viewPiece};
+ghost use Rattle.mount.specs.Meaning.Export.{node, nodes, next-node, next-export, exports, viewNode, lostNode, viewNextExport, lostNextExport, orLong, finished, walked};
+use crate::group::groups_at;
+use crate::path::MNTPATHLEN;
+use xdr::BoolRead;
+use xdr::Piece;
+use xdr::PieceRead;
+use xdr::Refusal;
+use xdr::inner::bool_at;
+use xdr::inner::opaque_at;
+use xdr::order::Opening;
+use xdr::order::open_at;
+
+// An export: its path, and its groups, which are a list of names.
+pub struct exportnode {
+    pub ex_dir: Piece,
+    pub ex_groups: Piece,
+}
+
+// An export list: the place of its first flag, and the count of its entries.
+pub type exports = Piece;
+
+pub enum ExportnodeRead {
+    Refused(Refusal),
+    Took {
+        value: exportnode,
+        next: usize,
+        plain: bool,
+    },
+}
+
+// What stands at a place of an export list: its end, or an entry.
+pub enum NextExport {
+    End,
+    Export(exportnode),
+}
+
+pub enum NextExportRead {
+    Refused(Refusal),
+    Took {
+        value: NextExport,
+        next: usize,
+        plain: bool,
+    },
+}
+
+// The first path that is over the bound, so far.
+pub enum Long {
+    Nowhere,
+    At(usize),
+}
+
+// A list from its first flag to its end: whether all its paths are within the bound, or where the first is that is not.
+pub enum Walked {
+    Refused(Refusal),
+    Within {
+        count: usize,
+        next: usize,
+        plain: bool,
+    },
+    Over {
+        count: usize,
+        place: usize,
+    },
+}
+
+impl ExportnodeRead {
+    pub fn refusal(self) -> Refusal
+        ensures { λ r. ⌜ r ≡ lostNode self ⌝ }
+    {
+        match self {
+            ExportnodeRead::Refused(r) => r,
+            ExportnodeRead::Took {
+                value: _,
+                next: _,
+                plain: _,
+            } => Refusal::PastEnd,
+        }
+    }
+}
+
+impl NextExportRead {
+    pub fn refusal(self) -> Refusal
+        ensures { λ r. ⌜ r ≡ lostNextExport self ⌝ }
+    {
+        match self {
+            NextExportRead::Refused(r) => r,
+            NextExportRead::Took {
+                value: _,
+                next: _,
+                plain: _,
+            } => Refusal::PastEnd,
+        }
+    }
+}
+
+// An entry behind its flag, whatever the length of its path.
+pub fn exportnode_at(src: &[u8], at: usize) -> ExportnodeRead
+    ensures { λ r. ⌜ viewNode r ≡ node .held .read (now (src .entry)) at ⌝ }
+{
+    let r1 = opaque_at(src, at);
+    let PieceRead::Took {
+        value: ex_dir,
+        next: n1,
+        plain: p1,
+    } = r1
+    else {
+        return ExportnodeRead::Refused(r1.refusal());
+    };
+    let r2 = groups_at(src, n1);
+    let PieceRead::Took {
+        value: ex_groups,
+        next: n2,
+        plain: p2,
+    } = r2
+    else {
+        return ExportnodeRead::Refused(r2.refusal());
+    };
+    ExportnodeRead::Took {
+        value: exportnode { ex_dir, ex_groups },
+        next: n2,
+        plain: p1 & p2,
+    }
+}
+
+// What stands at a place of a list, whatever the length of its path.
+pub fn next_node_at(src: &[u8], at: usize) -> NextExportRead
+    ensures { λ r. ⌜ viewNextExport r ≡ next-node .held .read (now (src .entry)) at ⌝ }
+{
+    let r1 = bool_at(src, at);
+    let BoolRead::Took {
+        value: more,
+        next: n1,
+        plain: p1,
+    } = r1
+    else {
+        return NextExportRead::Refused(r1.refusal());
+    };
+    if !more {
+        return NextExportRead::Took {
+            value: NextExport::End,
+            next: n1,
+            plain: p1,
+        };
+    }
+    let r2 = exportnode_at(src, n1);
+    let ExportnodeRead::Took {
+        value: v,
+        next: n2,
+        plain: p2,
+    } = r2
+    else {
+        return NextExportRead::Refused(r2.refusal());
+    };
+    NextExportRead::Took {
+        value: NextExport::Export(v),
+        next: n2,
+        plain: p1 & p2,
+    }
+}
+
+// The first path over the bound, once an entry is read whose flag stands at a place, and whose path has n bytes.
+fn or_long(long: Long, here: usize, n: usize, next: usize) -> Long
+    requires { ⌜ here + 4 ≤ next ⌝ }
+    ensures { λ r. ⌜ r ≡ orLong long here n ⌝ }
+{
+    if let Long::At(place) = long {
+        return Long::At(place);
+    }
+    if n <= MNTPATHLEN {
+        return Long::Nowhere;
+    }
+    Long::At(here + 4)
+}
+
+// All entries from a place on: a loop, and no recursion, so a long list needs no stack.
+pub fn walk(src: &[u8], at: usize) -> Walked
+    ensures { λ r. ⌜ r ≡ walked at (nodes .codec .kind .read (now (src .entry)) at) ⌝ }
+{
+    let mut here = at;
+    let mut count: usize = 0;
+    let mut plain = true;
+    let mut long = Long::Nowhere;
+    loop {
+        let step = next_node_at(src, here);
+        let NextExportRead::Took {
+            value,
+            next,
+            plain: p,
+        } = step
+        else {
+            return Walked::Refused(step.refusal());
+        };
+        let NextExport::Export(v) = value else {
+            return finish(long, count, next, plain & p);
+        };
+        let dir = v.ex_dir;
+        long = or_long(long, here, dir.count, next);
+        here = next;
+        count += 1;
+        plain = plain & p;
+    }
+}
+
+fn finish(long: Long, count: usize, next: usize, plain: bool) -> Walked
+    ensures { λ r. ⌜ r ≡ finished long count next plain ⌝ }
+{
+    match long {
+        Long::Nowhere => Walked::Within { count, next, plain },
+        Long::At(place) => Walked::Over { count, place },
+    }
+}
+
+pub fn exports_at(src: &[u8], at: usize) -> PieceRead
+    ensures { λ r. ⌜ viewPiece r ≡ exports .held .read (now (src .entry)) at ⌝ }
+{
+    match walk(src, at) {
+        Walked::Refused(r) => PieceRead::Refused(r),
+        Walked::Within { count, next, plain } => PieceRead::Took {
+            value: Piece { at, count },
+            next,
+            plain,
+        },
+        Walked::Over { count: _, place } => PieceRead::Refused(Refusal::LongPath(place)),
+    }
+}
+
+pub fn read_exports(src: &[u8], at: usize) -> PieceRead
+    ensures { λ r. ⌜ Answers exports (now (src .entry)) at (viewPiece r) ⌝ }
+{
+    match open_at(src, at) {
+        Opening::Refused(r) => PieceRead::Refused(r),
+        Opening::Open => exports_at(src, at),
+    }
+}
+
+pub fn next_export_at(src: &[u8], at: usize) -> NextExportRead
+    ensures { λ r. ⌜ viewNextExport r ≡ next-export .held .read (now (src .entry)) at ⌝ }
+{
+    let r = next_node_at(src, at);
+    let NextExportRead::Took { value, next, plain } = r else {
+        return r;
+    };
+    let NextExport::Export(v) = value else {
+        return NextExportRead::Took { value, next, plain };
+    };
+    let dir = v.ex_dir;
+    if MNTPATHLEN < dir.count {
+        return NextExportRead::Refused(Refusal::LongPath(at + 4));
+    }
+    NextExportRead::Took {
+        value: NextExport::Export(v),
+        next,
+        plain,
+    }
+}
+
+// The entry at a place of a list, and where the next one stands. A list that was read is walked by it from its place on.
+pub fn next_export(src: &[u8], at: usize) -> NextExportRead
+    ensures { λ r. ⌜ Answers next-export (now (src .entry)) at (viewNextExport r) ⌝ }
+{
+    match open_at(src, at) {
+        Opening::Refused(r) => NextExportRead::Refused(r),
+        Opening::Open => next_export_at(src, at),
+    }
+}
