@@ -2,6 +2,8 @@
 
 from generator.kind import Kind, Proof, lower, needs
 from generator.known import Known, escaped
+from generator.status import Status
+from generator.table import Trouble
 
 
 class Enumeration(Kind):
@@ -52,17 +54,11 @@ class Enumeration(Kind):
         return f"{comment}pub enum {self.code_type} {{\n{cases}}}"
 
     def numbers_code(self):
-        numbers = "".join(f"            {self.code_type}::{name} => {number},\n" for name, number in self.declared.parts)
-        cases = "".join(f"            {number} => {self.found}::Is({self.code_type}::{name}),\n" for name, number in self.declared.parts)
+        cases = "".join(f"            {number} => {self.found}::Is({self.case_code(name)}),\n" for name, number in self.declared.parts)
         size = self.size_code().rstrip("}").rstrip()
         return f"""{size}
 
-    pub fn number(self) -> u32
-        ensures {{ λ r. ⌜ r ≡ {self.number} self ⌝ }}
-    {{
-        match self {{
-{numbers}        }}
-    }}
+{self.number_code(self.number, self.numbers())}
 
     pub fn of(v: u32) -> {self.found}
         ensures {{ λ r. ⌜ found{self.camel} r ≡ among {self.number} {self.all} v ⌝ }}
@@ -73,6 +69,23 @@ class Enumeration(Kind):
     }}
 }}"""
 
+    def numbers(self):
+        """Each case, and its number."""
+        return [(self.case_code(name), number) for name, number in self.declared.parts]
+
+    def number_code(self, meaning, cases):
+        """The function that says the number."""
+        numbers = "".join(f"            {case} => {number},\n" for case, number in cases)
+        return f"""    pub fn number(self) -> u32
+        ensures {{ λ r. ⌜ r ≡ {meaning} self ⌝ }}
+    {{
+        match self {{
+{numbers}        }}
+    }}"""
+
+    def case_code(self, name):
+        return f"{self.code_type}::{name}"
+
     def variant(self, name):
         return f"{self.variants}.{escaped(name)}"
 
@@ -81,10 +94,11 @@ class Enumeration(Kind):
         names = [self.variant(name) for name, _ in self.declared.parts]
         numbers = "\n".join(f"{self.number} {self.variant(name)} = {number}" for name, number in self.declared.parts)
         each = "\n".join(f"{self.each} {name} = refl" for name in names)
+        every = " ∷ ".join([name.strip("()") for name in names] + ["[]"])
         found = f"{lower(m)}Found"
         return [
             f"-- {self.code_type}\nabbrev pub {self.number} : {T} → ℕ\n{numbers}",
-            f"abbrev pub {self.all} : List {T}\n{self.all} = {' ∷ '.join(names + ['[]'])}",
+            f"abbrev pub {self.all} : List {T}\n{self.all} = {every}",
             f"pub {self.each} : (a : {T}) → among {self.number} {self.all} ({self.number} a) ≡ means a []\n{each}",
             f"unfoldable pub {m} : Codec {T}\n{m} = closed {self.number} {self.all} {self.each}",
             f"""abbrev pub found{self.camel} : {self.found} → Seen {T}
@@ -131,3 +145,93 @@ unfolding {m}
         if self.public:
             proofs[f"write_{self.name}"] = Proof(needs(3) + [f"(λ c. search {m}-writes)"])
         return proofs
+
+
+class Statuses(Enumeration):
+    """A closed enumeration that results begin with: its 0 is success, and the others are failures, which have a type of their own."""
+
+    def __init__(self, declared, meaning, topic):
+        super().__init__(declared, meaning, topic)
+        (self.ok, first), *self.failing = declared.parts
+        if first != 0 or not self.failing:
+            raise Trouble(f"{topic.path}: a union switches on {self.code_type}, so its first number is 0, for success, and others follow")
+        self.failures, failing = (name.replace("stat", "fail") for name in (self.code_type, meaning))
+        if self.failures == self.code_type or failing == meaning:
+            raise Trouble(f"{topic.path}: {self.code_type} has no `stat` in its name or its meaning, in whose place its failures have `fail`")
+        self.failing_number, self.failing_variants = f"{lower(failing)}Number", f"{lower(failing)}Is"
+        start = lower(meaning)
+        self.failure, self.status = f"{start}Failure", Status(self.code_type, self.ok, self.failures, meaning, f"{start}Or", f"{start}For", self.answer)
+
+    def passed_on(self):
+        return [self.failures, *super().passed_on()]
+
+    def aliased(self):
+        return {**super().aliased(), self.failing_variants: self.failures}
+
+    # ------------------------------------------------ code
+
+    def enum_code(self):
+        comment = f"// {self.declared.comment}\n" if self.declared.comment else ""
+        cases = "".join(f"    {name},\n" for name, _ in self.failing)
+        return f"""// The failures of {self.code_type}: a type of their own, so that the failing arm of a result can hold no success.
+pub enum {self.failures} {{
+{cases}}}
+
+{comment}pub enum {self.code_type} {{
+    {self.ok},
+    Failed({self.failures}),
+}}"""
+
+    def case_code(self, name):
+        return f"{self.code_type}::{name}" if name == self.ok else f"{self.code_type}::Failed({self.failures}::{name})"
+
+    def numbers_code(self):
+        cases = [(f"{self.failures}::{name}", number) for name, number in self.failing]
+        return f"impl {self.failures} {{\n{self.number_code(self.failing_number, cases)}\n}}\n\n{super().numbers_code()}"
+
+    def numbers(self):
+        return [(self.case_code(self.ok), 0), (f"{self.code_type}::Failed(f)", "f.number()")]
+
+    # ------------------------------------------------ specifications
+
+    def variant(self, name):
+        if name == self.ok:
+            return super().variant(name)
+        return f"({self.variants}.Failed {self.failing_variants}.{escaped(name)})"
+
+    def meanings(self):
+        m, T, E, status = self.meaning, self.type, escaped(self.failures), self.status
+        ok, failed = super().variant(self.ok), f"{self.variants}.Failed f"
+        return super().meanings() + [
+            f"abbrev pub {self.failing_number} : {E} → ℕ\n{self.failing_number} f = {self.number} ({failed})",
+            f"-- success, or a failure: what a result is by its status\nabbrev pub {self.failure} : {T} → Option {E}\n{self.failure} {ok} = none\n{self.failure} ({failed}) = some f",
+            f"abbrev pub {status.to} : Option {E} → {T}\n{status.to} none = {ok}\n{status.to} (some f) = {failed}",
+            f"pub {m}-to-of : (a : {T}) → {status.to} ({self.failure} a) ≡ a\n{m}-to-of {ok} = refl\n{m}-to-of ({failed}) = refl",
+            f"pub {m}-of-to : (o : Option {E}) → {self.failure} ({status.to} o) ≡ o\n{m}-of-to none = refl\n{m}-of-to (some f) = refl",
+            f"""abbrev pub {status.success} : Status {T} {E}
+{status.success} = record {{ of = {self.failure}; to = {status.to}; to-of = {m}-to-of; of-to = {m}-of-to }}""",
+        ]
+
+    def laws(self):
+        """A result, by the answer of the call that reads its status: what that refuses, and what it says."""
+        m, E, success, view, lost = self.meaning, escaped(self.failures), self.status.success, f"view{self.camel}", f"lost{self.camel}"
+        of = f"{{M N S T R : Type 0}} {{F : Format M S}} {{G : Format N T}} {{W : Arms {E} S T R}} {{D : Format (Result {E} M N) R}} (X : OnStatus {m} {success} F G W D) (s : List ℕ) (p : ℕ) (r : {self.answer})"
+        took = f"{self.alias}.Took a n"
+        return super().laws() + [
+            f"""pub {m}-lost : {of} (u q : Refusal) → q ≡ {lost} r → {view} r ≡ {m} .kind .read s p → r ≡ {self.alias}.Refused u
+    → refused q ≡ D .held .read s p
+{m}-lost X s p r u q g e f = status-lost {view} X s p r {lost} ({self.alias}.Refused u) q g e f refl""",
+            f"""pub {m}-took : {of} (a c : {self.type}) (n : ℕ) (z : Answer R) → {view} r ≡ {m} .kind .read s p → r ≡ {took} → a ≡ c
+    → z ≡ run (armBy {m} {success} F G W ({success} .of c)) s n true → z ≡ D .held .read s p
+{m}-took X s p r a c n z e f h k = status-took {view} X s p r ({took}) a c n z refl e f h k""",
+        ]
+
+    # ------------------------------------------------ proofs
+
+    def proofs(self):
+        count = len(self.failing)
+        return {
+            **super().proofs(),
+            f"{self.failures}/number": Proof(needs(count) + [f"(λ c. search (numbered {self.failing_number}))"] * count, name="number"),
+            f"{self.code_type}/number": Proof(needs(3) + [f"(λ c. search (numbered {self.number}))"] * 2, name="number"),
+        }

@@ -1,6 +1,6 @@
 """The text that every declared kind has: its answer, its public functions, and what follows from them."""
 
-from generator.known import camel, escaped, stem
+from generator.known import bracket, camel, escaped, stem
 
 NEEDS = "(search needs)"
 
@@ -18,11 +18,6 @@ def nested(parts):
 
 def product(types):
     return types[0] if len(types) == 1 else f"{bracket(types[0])} × {product(types[1:])}" if len(types) == 2 else f"{bracket(types[0])} × ({product(types[1:])})"
-
-
-def bracket(text):
-    """A text as an argument."""
-    return f"({text})" if " " in text and not text.startswith("(") else text
 
 
 def folded(function, parts):
@@ -239,6 +234,26 @@ lost-{self.meaning} A = lost-at lost{self.camel}"""
         own = field.type in {declared.name for declared in self.topic.declared}
         return field.good if field.codec or own else f"({field.good} s h k)"
 
+    def good_head(self, value):
+        """That every value of a kind with pieces is in range: if it lies inside, where that is needed."""
+        m = self.meaning
+        inside = f" → {m} .held .inside s {value} ≡ true" if self.known.inside else ""
+        return f"pub {m}-good : ({value} : {self.type}) {{vs : List Val}} → Is {self.dashed}·.the-row {value} vs{inside} → {m} .codec .kind .Good ({m} .held .mean s {value})"
+
+    def good_value(self, field, value, inside):
+        """That a field's value is in range; `inside` proves that it lies inside."""
+        if field.name == "opaque":
+            return f"piece-good s {bracket(value)} h k"
+        if field.name == "words":
+            return f"words-good s {bracket(value)} h k {bracket(inside)}"
+        if field.inside:
+            return f"(let e : {field.lies(value)} ≡ true = {inside} in search {self.good_of(field)})"
+        return f"search {self.good_of(field)}"
+
+    def pieces(self, *fields):
+        """What is unfolded to see the pieces among fields."""
+        return " ".join(dict.fromkeys(field.piece.held for field in fields if field and field.piece))
+
     def small_law(self):
         m = self.meaning
         return f"pub {m}-small : (v : {self.type}) → length ({m} .kind .write v) ≤ most\n{m}-small v = omega (arith, {m}-between v)"
@@ -260,9 +275,10 @@ lost-{self.meaning} A = lost-at lost{self.camel}"""
         proofs = {f"read_{self.name}": Proof("tie.spec " + " ".join(["(search reads)"] * 4 + ["(λ c. search reads)"] * 2))}
         m, good = self.meaning, self.known.good
         if not self.known.codec:
+            law = "write-in" if self.known.inside else "write-on"
             proofs[f"write_{self.name}"] = Proof(
                 needs(5) + [f"(λ c. search (write-off {m}-writer))"] + [f"(λ c. search (write-place {m}-writer))"] * 2 + needs(3)
-                + [f"(λ c. search (write-on {m}-writer, {good}))"]
+                + [f"(λ c. search ({law} {m}-writer, {good}))"]
             )  # fmt: skip
         elif self.known.fixed:
             proofs[f"write_{self.name}"] = Proof(

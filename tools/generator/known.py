@@ -12,6 +12,21 @@ def escaped(name):
     return f"«{name}»" if "_" in name or name in RESERVED else name
 
 
+def bracket(text):
+    """A text as an argument."""
+    return f"({text})" if " " in text and not bracketed(text) else text
+
+
+def bracketed(text):
+    """Whether a text is one pair of brackets, and what stands in them."""
+    depth = 0
+    for at, sign in enumerate(text):
+        depth += {"(": 1, ")": -1}.get(sign, 0)
+        if depth == 0:
+            return sign == ")" and at == len(text) - 1
+    return False
+
+
 def camel(name):
     return "".join(part[:1].upper() + part[1:] for part in re.split("[_-]", name))
 
@@ -19,6 +34,26 @@ def camel(name):
 def stem(name):
     """The name of a type as functions and kinds.txt have it: that of READ3res is read3res."""
     return name.lower()
+
+
+@dataclass(frozen=True)
+class Held:
+    """What is held as a piece: the code and the laws of its size and of where it lies."""
+
+    size: str  # how many bytes it has, by its count
+    inside: str  # whether it lies inside
+    lies: str  # what that means,
+    held: str  # and what is unfolded to see it
+    writer: str  # the law of its size,
+    small: str  # that this is no large number,
+    sum: str  # and the same for a sum; none if the sums' own rule set has it
+    within: str
+
+
+PIECES = {
+    "opaque": Held("opaque_size", "inside", "isInside", "pieceHeld", "bytes-writer", "size-small", "", "opaque-within"),
+    "words": Held("words_size", "words_inside", "areInside", "wordsHeld", "words-writer", "words-small", "by-words", "words-within"),
+}
 
 
 @dataclass(frozen=True)
@@ -38,6 +73,11 @@ class Known:
     least: int = 0  # if the bytes vary: from how many
     most: int = 0  # to how many
     defined: str = ""  # what definitions call the meaning, if they have another name for it
+    inside: bool = False  # it is in range only if it lies inside: a list of words, and what has one
+
+    @property
+    def piece(self):
+        return PIECES.get(self.name)
 
     @property
     def format(self):
@@ -54,13 +94,15 @@ class Known:
             return f"(fixed-writer {self.meaning}-fixed)"
         if self.codec:
             return f"(codec-writer {self.meaning})"
-        return f"{self.meaning}-writer"
+        return self.piece.writer if self.piece else f"{self.meaning}-writer"
 
     @property
     def bound(self):
         """The law that its size is no large number."""
-        if self.fixed or self.name == "opaque":
+        if self.fixed:
             return ""
+        if self.piece:
+            return self.piece.sum
         return f"{self.meaning}-small" if self.codec else f"{self.meaning}-most"
 
     @property
@@ -70,7 +112,17 @@ class Known:
 
     @property
     def within(self):
-        return "opaque-within" if self.name == "opaque" else f"{self.meaning}-within"
+        return self.piece.within if self.piece else f"{self.meaning}-within"
+
+    def small(self, value):
+        """The law that the size of a value is no large number, if it varies."""
+        if self.piece:
+            return f"{self.piece.small} ({value} .count)"
+        return f"{self.meaning}-{'between' if self.codec else 'bound'} {bracket(value)}"
+
+    def lies(self, value):
+        """Whether the pieces of a value lie inside the source s, in the specifications."""
+        return f"{self.piece.lies if self.piece else f'{self.meaning} .held .inside'} s {bracket(value)}"
 
     def size_of(self, value):
         """The code that says how many bytes a value has."""
@@ -78,10 +130,10 @@ class Known:
             return str(self.fixed)
         if self.fixed:
             return f"{self.type}::SIZE"
-        return f"opaque_size({value}.count)" if self.name == "opaque" else f"{self.name}_size({value})"
+        return f"{self.piece.size}({value}.count)" if self.piece else f"{self.name}_size({value})"
 
     def inside_of(self, value):
-        return f"inside(src, {value})" if self.name == "opaque" else f"{self.name}_inside(src, {value})"
+        return f"{self.piece.inside if self.piece else f'{self.name}_inside'}(src, {value})"
 
     def put_of(self, value, out):
         return f"put_{self.name}({value}, {out})" if self.codec else f"put_{self.name}(src, {value}, {out})"
@@ -92,7 +144,10 @@ ITEMS = {
     "u64": Known("u64", "u64", "U64Read", False, True, "hyper", "ℕ", "ℕ", 8, "hyper-good"),
     "bool": Known("bool", "bool", "BoolRead", True, True, "flag", "Bool", "Bool", 4, "flag-good"),
     "opaque": Known("opaque", "Piece", "PieceRead", True, False, "bytes", "List ℕ", "Piece", 0, "piece-good", 4, 1 << 21),
+    "words": Known("words", "Piece", "PieceRead", True, False, "wordList", "List ℕ", "Piece", 0, "words-good", 4, 1 << 23, inside=True),
 }
+
+OPAQUE = ITEMS["opaque"]
 
 # Read, written and proved as a hyper.
 VERIFIER = replace(ITEMS["u64"], defined="verifier")
@@ -117,31 +172,33 @@ SPECS = {
     XDR + "Meaning.Codecs": "⨾ mapped void",
     XDR + "Meaning.Items": "word hyper verifier flag closed",
     XDR + "Meaning.Format": "Format Renaming exactly ⨟ named optional flagged ifFormat",
-    XDR + "Meaning.Formats": "bytes pieceHeld",
+    XDR + "Meaning.Formats": "bytes pieceHeld wordList wordsHeld",
     XDR + "Meaning.Cases": "Cases maybe maybeHeld caseNames",
-    XDR + "Meaning.Status": "Result ok failed Arms onStatus",
+    XDR + "Meaning.Status": "Status Result ok failed Arms onStatus",
     XDR + "Meaning.Programs": "Procedure procedure AnswersFor AnswersBy",
-    XDR + "Meaning.Pieces": "isInside sizeUpTo",
+    XDR + "Meaning.Pieces": "isInside sizeUpTo areInside",
     XDR + "Meaning.Sizes": "OfSize",
     XDR + "Meaning.Public": "Answers Writes output laid laidOf",
     XDR + "Meaning.Views": "viewWrote",
-    XDR + "Laws.Padding": "size-small",
+    XDR + "Laws.Padding": "size-small words-small",
+    XDR + "Laws.Marks": "and-left and-right",
     XDR + "Laws.Pieces": "piece-good",
+    XDR + "Laws.Words": "words-good",
     XDR + "Laws.Ranges": "word-good hyper-good flag-good",
     XDR + "Laws.Closed": "by-number",
     XDR + "Laws.Fixed": "Fixed word-fixed hyper-fixed flag-fixed pair-fixed seen-fixed of-size",
     XDR + "Laws.One": "Told",
-    XDR + "Laws.Plans": "Planned planned plan at then next Step Loses step lost-at asks optionally reads",
+    XDR + "Laws.Plans": "Planned planned plan at then next Step Loses step lost-at asks optionally reads run",
     XDR + "Laws.Records": "ByPlan by-plan fields one",
     XDR + "Laws.Tags": "tag-lost tag-none tag-is",
     XDR + "Laws.Numbers": "found-at found-none numbered",
-    XDR + "Laws.Lengths": "Within void-within chain-within pair-within view-within mapped-within closed-within no-default word-within hyper-within flag-within opaque-within",
+    XDR + "Laws.Lengths": "Within void-within chain-within pair-within view-within mapped-within closed-within no-default word-within hyper-within flag-within opaque-within words-within",
     XDR + "Laws.Write": "Ready of-long",
-    XDR + "Laws.Writers": "Writer bytes-writer put-outside put-short write-off write-place write-on plain-off plain-on",
-    XDR + "Laws.Lays": "sums lays rooms size-is fixed-off fixed-on",
+    XDR + "Laws.Writers": "Writer bytes-writer words-writer put-outside put-short write-off write-place write-on write-in plain-off plain-on",
+    XDR + "Laws.Lays": "sums by-words lays rooms size-is fixed-off fixed-on",
     XDR + "Laws.Fields": "fixed-writer codec-writer pair-writer pair-sized named-sized Lays lays-of lays-codec lays-none lays-both lays-named lays-all lays-plain marked",
     XDR + "Laws.Optional": "Between maybe-plan maybe-between maybe-within held-within Optional OptionalHeld lays-void lays-value none-bytes none-size some-word some-hyper some-size option-writer optionSize void-inside value-inside held-void held-value held-sized void-size value-size",
-    XDR + "Laws.Status": "OnStatus ok-inside failed-inside alone-inside ok-lays failed-lays alone-lays resultSize status-sized ok-size failed-size alone-size ok-fixed failed-fixed status-within",
+    XDR + "Laws.Status": "OnStatus ok-inside failed-inside alone-inside ok-lays failed-lays alone-lays resultSize status-sized ok-size failed-size alone-size ok-fixed failed-fixed status-within armBy status-lost status-took",
     XDR + "Laws.Programs": "for-lost for-took by-procedure by-none",
     "Rattle.nfsattr.specs.Laws.Status": "nfsstat-lost nfsstat-took",
     XDR + "declared.piece.Piece": "Piece",
@@ -149,8 +206,8 @@ SPECS = {
     XDR + "declared.refusal.Refusal.the-variants": "PastEnd",
 }
 CODE = {
-    "xdr": "MOST Piece PieceRead BoolRead U32Read U64Read Refusal Wrote inside write_u32",
-    "xdr::inner": "u32_at u64_at bool_at opaque_at opaque_size put_u32 put_u64 put_u32_pair put_u32_u64 put_bool put_opaque",
+    "xdr": "MOST Piece PieceRead BoolRead U32Read U64Read Refusal Wrote inside words_inside write_u32",
+    "xdr::inner": "u32_at u64_at bool_at opaque_at opaque_size words_at words_size put_u32 put_u64 put_u32_pair put_u32_u64 put_bool put_opaque put_words",
     "xdr::order": "Opening open_at place room",
 }
 

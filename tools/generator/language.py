@@ -16,10 +16,13 @@ ITEMS = {
     ("bool",): "bool",
 }
 
+# What so many of a type are that a count says, which stands before them.
+COUNTED = {"opaque": "opaque", "string": "opaque", "u32": "words", "int": "words"}
+
 
 @dataclass(frozen=True)
 class Field:
-    type: str  # an item, `opaque`, or the name of a type
+    type: str  # an item, `opaque`, `words`, or the name of a type
     name: str
 
 
@@ -31,6 +34,8 @@ class Declared:
     name: str
     parts: tuple  # of an enumeration: (name, number); of a program: its procedures; otherwise fields, of a union on a status those behind success and a failure
     comment: str
+    tag: str = ""  # of a union on a status: the type of that,
+    ok: str = ""  # and its name for success
 
 
 @dataclass(frozen=True)
@@ -47,7 +52,7 @@ def types_of(declared):
         return []
     if declared.shape == "program":
         return [type for part in declared.parts for type in (part.arguments, part.results)]
-    return [part.type for part in declared.parts]
+    return [part.type for part in declared.parts] + [declared.tag] * bool(declared.tag)
 
 
 @dataclass(frozen=True)
@@ -134,7 +139,9 @@ def declaration(reader):
     elif kind == "program":
         parts = read_program(reader)
     else:
-        kind, parts = read_union(reader)
+        kind, parts, *on = read_union(reader)
+        reader.take(";")
+        return Declared(kind, name, tuple(parts), comment, *on)
     reader.take(";")
     return Declared(kind, name, tuple(parts), comment)
 
@@ -187,10 +194,12 @@ def read_union(reader):
     """A union on a flag whose FALSE has nothing, or on the status of a result. There is no other so far."""
     for token in ("switch", "("):
         reader.take(token)
-    tag = reader.take("bool", "nfsstat3")
+    tag = reader.word()
     reader.word()
-    for token in (")", "{", "case", "TRUE" if tag == "bool" else "NFS3_OK", ":"):
+    for token in (")", "{", "case"):
         reader.take(token)
+    ok = reader.take("TRUE") if tag == "bool" else reader.word()
+    reader.take(":")
     parts = [read_field(reader)]
     if tag == "bool":
         shape = "optional"
@@ -207,7 +216,7 @@ def read_union(reader):
         for token in ("void", ";"):
             reader.take(token)
     reader.take("}")
-    return shape, parts
+    return (shape, parts) if shape == "optional" else (shape, parts, tag, ok)
 
 
 def read_field(reader):
@@ -218,8 +227,10 @@ def read_field(reader):
     elif (first,) in ITEMS:
         first = ITEMS[(first,)]
     name = reader.word()
-    if first in ("opaque", "string"):
-        first = "opaque"
+    counted = COUNTED.get(first)
+    # An int is no item so far, and a list of them is one of words.
+    if first in ("opaque", "string", "int") or counted and reader.peek() == "<":
+        first = counted
         reader.take("<")
         if reader.peek() != ">":
             reader.take()

@@ -1,7 +1,7 @@
 """The text of a value that a flag says is there."""
 
 from generator.kind import NEEDS, Kind, Proof, bracket, lower, most_of, needs
-from generator.known import Known, escaped
+from generator.known import OPAQUE, Known, escaped
 
 
 # A number is written in one step with its flag: by what, and the law of that.
@@ -15,7 +15,7 @@ class Optional(Kind):
         self.value = declared.parts[0].name
         self.value_type = type
         message = self.type if field.codec else f"Option {bracket(field.message)}"
-        self.known = Known(self.name, self.code_type, self.answer, True, field.codec, meaning, message, self.type, 0, f"{meaning}-good", 4, 4 + most_of(field))
+        self.known = Known(self.name, self.code_type, self.answer, True, field.codec, meaning, message, self.type, 0, f"{meaning}-good", 4, 4 + most_of(field), inside=field.inside)
         self.variable = "v" if field.codec else "x"
         self.cases = lower(meaning) + "Cases"
         self.variants = f"{lower(meaning)}Is"
@@ -131,13 +131,10 @@ unfolding {m}
                 f"abbrev pub {m}-writer : Writer {m}\n{m}-writer = record {{ size = {size}; sized = held-sized {m}-optional {field.writer} }}",
                 f"""pub {m}-bound : (x : {T}) → {size} x ≤ {self.known.most}
 {m}-bound {self.variants}.Void = omega arith
-{m}-bound ({self.variants}.{escaped(self.value)} f) = omega (arith, {self.value_bound()})""",
+{m}-bound ({self.variants}.{escaped(self.value)} f) = omega (arith, {field.small("f")})""",
                 self.most_law(size),
             ]
         return [plan, self.step_laws(), self.told_law(), within] + own
-
-    def value_bound(self):
-        return "size-small (f .count)" if self.field.name == "opaque" else f"{self.field.meaning}-bound f"
 
     def ranges(self):
         m, T, field = self.meaning, self.type, self.field
@@ -147,10 +144,11 @@ unfolding {m}
 unfolding {m}
 {m}-good {variants}.Void p = search flag-good
 {m}-good ({variants}.{value} f) p = search (flag-good, {field.good})"""], []  # fmt: skip
-        return [], [f"""pub {m}-good : (m : {T}) {{vs : List Val}} → Is {self.dashed}·.the-row m vs → {m} .codec .kind .Good ({m} .held .mean s m)
-unfolding {m} pieceHeld
-{m}-good {variants}.Void p = (flag-good false, tt)
-{m}-good ({variants}.{value} f) p = (flag-good true, {'piece-good s f h k' if field.name == 'opaque' else f'search {self.good_of(field)}'})"""]  # fmt: skip
+        i = " i" * field.inside
+        return [], [f"""{self.good_head("m")}
+unfolding {m} {self.pieces(OPAQUE, field)}
+{m}-good {variants}.Void p{i} = (flag-good false, tt)
+{m}-good ({variants}.{value} f) p{i} = (flag-good true, {self.good_value(field, "f", "i")})"""]  # fmt: skip
 
     def proofs(self):
         m, field = self.meaning, self.field
@@ -178,7 +176,9 @@ unfolding {m} pieceHeld
                 + [f"(λ c. search (needs, lays-plain, lays-void {m}-optional))", NEEDS, f"(λ c. search (needs, lays-plain, lays-value {m}-optional))"]
             )  # fmt: skip
         else:
-            proofs[f"{self.name}_inside"] = Proof(needs(3) + [f"(λ c. search (void-inside {m}-optional))", f"(λ c. search (value-inside {m}-optional))"])
+            proofs[f"{self.name}_inside"] = Proof(
+                needs(3) + [f"(λ c. search (void-inside {m}-optional))", f"(λ c. search (value-inside {m}-optional))"], unfolding=self.pieces(field)
+            )
             proofs[f"{self.name}_size"] = Proof(
                 needs(3) + [add, f"(λ c. search (void-size {m}-optional {field.writer}))", f"(λ c. search (value-size {m}-optional {field.writer}))"]
             )

@@ -1,7 +1,7 @@
 """The text of a record: fields one after another."""
 
 from generator.kind import NEEDS, Kind, Proof, bracket, folded, least_of, lower, most_of, needs, nested, product, projections
-from generator.known import Known, camel, escaped
+from generator.known import OPAQUE, Known, camel, escaped
 
 # More calls than these in one reader, and its proof is not found.
 MOST_FIELDS = 6
@@ -23,7 +23,8 @@ class Record(Kind):
         plain = any(field.plain for field in fields)
         message = self.type if codec else camel(meaning)
         least, most = sum(map(least_of, fields)), sum(map(most_of, fields))
-        self.known = Known(self.name, self.code_type, self.answer, plain, codec, meaning, message, self.type, fixed, f"{meaning}-good", least, most)
+        inside = any(field.inside for field in fields)
+        self.known = Known(self.name, self.code_type, self.answer, plain, codec, meaning, message, self.type, fixed, f"{meaning}-good", least, most, inside=inside)
         self.variable = "v" if codec else "x"
         self.locals = [f"f{at}" for at in range(1, len(fields) + 1)]
 
@@ -209,7 +210,7 @@ unfolding {m}
         m, size, T = self.meaning, lower(self.meaning) + "Size", self.type
         names = lower(m) + "Names"
         writer = self.rest(0)
-        bounds = [self.bound(name, field) for name, field in zip(self.names, self.fields) if not field.fixed]
+        bounds = [field.small(f"x .{escaped(name)}") for name, field in zip(self.names, self.fields) if not field.fixed]
         laws = self.link_laws() + [
             f"abbrev pub {size} : {T} → ℕ\n{size} x = {writer} .size {bracket(self.values('x'))}",
             f"""pub {m}-sized : (s : List ℕ) (x : {T}) → Ready {m} s x → length (output {m} s x) ≡ {size} x
@@ -232,21 +233,13 @@ unfolding {m}
 {m}-lays s x o z a = lays-named _ {names} s x o z a"""
         ]
 
-    def bound(self, name, field):
-        """A size that varies is no large number."""
-        value = f"x .{escaped(name)}"
-        if field.name == "opaque":
-            return f"size-small ({value} .count)"
-        return f"{field.meaning}-{'between' if field.codec else 'bound'} ({value})"
-
     def inside_law(self):
         m = self.meaning
         held = [(name, field) for name, field in zip(self.names, self.fields) if not field.codec]
         letters = "abcdef"[: len(held)]
         premises, proofs = [], []
         for letter, (name, field) in zip(letters, held):
-            value = f"x .{escaped(name)}"
-            inside = f"isInside s ({value})" if field.name == "opaque" else f"{field.meaning} .held .inside s ({value})"
+            inside = field.lies(f"x .{escaped(name)}")
             premises.append(f"{letter} ≡ {inside}")
             proofs.append(f"e{letter}")
             last = inside
@@ -258,7 +251,7 @@ unfolding {m}
             proof = f"ap₂ (λ a b. a && b) {one} {bracket(proof)}"
         hypotheses = " ".join(f"e{letter}" for letter in letters)
         return f"""pub {m}-inside : (s : List ℕ) (x : {self.type}) ({' '.join(letters)} : Bool) → {' → '.join(premises)} → {joined} ≡ {m} .held .inside s x
-unfolding {m} pieceHeld
+unfolding {m} {self.pieces(OPAQUE, *self.fields)}
 {m}-inside s x {' '.join(letters)} {hypotheses} = {proof}"""
 
     def codec_laws(self):
@@ -308,13 +301,27 @@ unfolding {m}
             return [f"""pub {m}-good : (m : {self.type}) {{vs : List Val}} → Is {self.dashed}·.the-row m vs → {m} .kind .Good m
 unfolding {m}
 {m}-good m p = search ({goods})"""], []  # fmt: skip
-        goods = []
-        for name, field in zip(self.names, self.fields):
-            goods.append(f"piece-good s (m .{escaped(name)}) h k" if field.name == "opaque" else f"search {self.good_of(field)}")
-        return [], [f"""pub {m}-good : (m : {self.type}) {{vs : List Val}} → Is {self.dashed}·.the-row m vs → {m} .codec .kind .Good ({m} .held .mean s m)
-unfolding {m} pieceHeld
-{m}-good m p = {nested(goods)}"""]  # fmt: skip
+        goods = [self.good_at(at) for at in range(len(self.fields))]
+        return [], [f"""{self.good_head("m")}
+unfolding {m} {self.pieces(OPAQUE, *self.fields)}
+{m}-good m p{" i" * self.known.inside} = {nested(goods)}"""]  # fmt: skip
 
+    def good_at(self, at):
+        """That a field is in range."""
+        values = [f"m .{escaped(name)}" for name in self.names]
+        return self.good_value(self.fields[at], values[at], self.inside_at(at, values))
+
+    def inside_at(self, at, values):
+        """That a field lies inside, as i says it of all of them: those without pieces do so in any case."""
+        lies = [field.lies(value) if not field.codec else "true" for field, value in zip(self.fields, values)]
+        behind = [lies[-1]]
+        for one in reversed(lies[:-1]):
+            behind.insert(0, behind[0] if one == "true" else f"{one} && {bracket(behind[0])}")
+        proof = "i"
+        for before in range(at):
+            if lies[before] != "true":
+                proof = f"and-right {bracket(lies[before])} {bracket(behind[before + 1])} {bracket(proof)}"
+        return proof if at == len(lies) - 1 else f"and-left {bracket(lies[at])} {bracket(behind[at + 1])} {bracket(proof)}"
 
     # ------------------------------------------------ proofs
 

@@ -1,27 +1,50 @@
 """The text of a union on a status: what follows success, or a failure and what follows it."""
 
-from generator.kind import NEEDS, Kind, Proof, bracket, least_of, lower, most_of, needs
-from generator.known import Known
+from dataclasses import dataclass
 
-# The status that results begin with: its type, its failures, its meaning, the law that one is success, and its bytes.
-STATUS, FAILURES, CODEC, SUCCESS, BYTES = "nfsstat3", "nfsfail3", "nfsstat", "successOr", 4
-ANSWER = "Nfsstat3Read"
+from generator.kind import NEEDS, Kind, Proof, bracket, least_of, lower, most_of, needs
+from generator.known import OPAQUE, Known, escaped, stem
+
+# The bytes of a status.
+BYTES = 4
 NOTHING = "(Unit {0})"
+
+
+@dataclass(frozen=True)
+class Status:
+    """The status that a result begins with: its type, as one sees it that has it before two arms."""
+
+    type: str
+    ok: str  # its case of success
+    failures: str  # the type of all others
+    meaning: str
+    success: str  # that one case is success, and each other one is a failure
+    to: str  # the status of a failure, or of none
+    answer: str
+
+    @property
+    def name(self):
+        return stem(self.type)
+
+
+# The one that is written by hand.
+NFS = Status("nfsstat3", "NFS3_OK", "nfsfail3", "nfsstat", "successOr", "statusFor", "Nfsstat3Read")
 
 
 class Result(Kind):
     """A status, and behind it one of two arms: that of success, which is a field, or that of a failure, which may be nothing."""
 
-    def __init__(self, declared, meaning, topic, arms, types):
+    def __init__(self, declared, meaning, topic, status, arms, types):
         super().__init__(declared, meaning, topic)
+        self.status = status
         self.arms = arms  # the kind of each; None for a failure that nothing follows
         self.types = types
         there = [arm for arm in arms if arm]
         sizes = [(least_of(arm), most_of(arm)) if arm else (0, 0) for arm in arms]
-        message = f"Result {FAILURES} {' '.join(bracket(arm.message) if arm else NOTHING for arm in arms)}"
+        message = f"Result {escaped(status.failures)} {' '.join(bracket(arm.message) if arm else NOTHING for arm in arms)}"
         plain = any(arm.plain for arm in there)
         least, most = BYTES + min(size[0] for size in sizes), BYTES + max(size[1] for size in sizes)
-        self.known = Known(self.name, self.code_type, self.answer, plain, False, meaning, message, self.type, 0, f"{meaning}-good", least, most)
+        self.known = Known(self.name, self.code_type, self.answer, plain, False, meaning, message, self.type, 0, f"{meaning}-good", least, most, inside=any(arm.inside for arm in there))
         self.variants = f"{lower(meaning)}Is"
         self.law = f"{meaning}-status"
 
@@ -37,20 +60,24 @@ class Result(Kind):
     def enum_code(self):
         comment = f"// {self.declared.comment}\n" if self.declared.comment else ""
         failed = f", {self.types[1]}" if self.arms[1] else ""
-        return f"{comment}pub enum {self.code_type} {{\n    NFS3_OK({self.types[0]}),\n    Failed({FAILURES}{failed}),\n}}"
+        return f"{comment}pub enum {self.code_type} {{\n    {self.status.ok}({self.types[0]}),\n    Failed({self.status.failures}{failed}),\n}}"
 
     def arm_code(self, at, value):
         """An arm's own value, in the code."""
         if at == 0:
-            return f"{self.code_type}::NFS3_OK({value})"
+            return f"{self.code_type}::{self.status.ok}({value})"
         return f"{self.code_type}::Failed(e" + (f", {value})" if self.arms[1] else ")")
 
+    def statuses(self):
+        """The status of each arm, in the code."""
+        return f"{self.status.type}::{self.status.ok}", f"{self.status.type}::Failed(e)"
+
     def at_code(self):
-        arms = "".join(f"        {pattern} => {{\n{self.follow_code(at)}        }}\n" for at, pattern in enumerate((f"{STATUS}::NFS3_OK", f"{STATUS}::Failed(e)")))
+        arms = "".join(f"        {status} => {{\n{self.follow_code(at)}        }}\n" for at, status in enumerate(self.statuses()))
         return f"""{self.at_head()}
 {{
-    let r1 = {STATUS}_at(src, at);
-    let {ANSWER}::Took {{ value: status, next: n1 }} = r1 else {{
+    let r1 = {self.status.name}_at(src, at);
+    let {self.status.answer}::Took {{ value: status, next: n1 }} = r1 else {{
         return {self.answer}::Refused(r1.refusal());
     }};
     match status {{
@@ -93,20 +120,20 @@ class Result(Kind):
 
     def link_code(self, at):
         field = self.arms[at]
-        return f"""fn put_{self.name}_{at + 1}(src: &[u8], status: {STATUS}, f: {self.types[at]}, out: &mut [u8])
-    ensures {{ λ _. ⌜ Lays (exactly {CODEC} ⨟ {field.format}) (now (src .entry)) (status, f) (now (out .entry)) (now (out .exit)) ⌝ }}
+        return f"""fn put_{self.name}_{at + 1}(src: &[u8], status: {self.status.type}, f: {self.types[at]}, out: &mut [u8])
+    ensures {{ λ _. ⌜ Lays (exactly {self.status.meaning} ⨟ {field.format}) (now (src .entry)) (status, f) (now (out .entry)) (now (out .exit)) ⌝ }}
 {{
     if out.len() < {BYTES} {{
         return;
     }}
-    put_{STATUS}(status, &mut out[0..]);
+    put_{self.status.name}(status, &mut out[0..]);
     {field.put_of("f", f"&mut out[{BYTES}..]")};
 }}"""
 
     def put_code(self):
         arms = ""
-        for at, status in enumerate((f"{STATUS}::NFS3_OK", f"{STATUS}::Failed(e)")):
-            put = f"put_{self.name}_{at + 1}(src, {status}, f, out)" if self.arms[at] else f"put_{STATUS}({status}, out)"
+        for at, status in enumerate(self.statuses()):
+            put = f"put_{self.name}_{at + 1}(src, {status}, f, out)" if self.arms[at] else f"put_{self.status.name}({status}, out)"
             arms += f"        {self.arm_code(at, 'f')} => {put},\n"
         return f"{self.put_head()}\n{{\n{self.tests_code()}    match x {{\n{arms}    }}\n}}"
 
@@ -116,11 +143,11 @@ class Result(Kind):
         return " ".join(bracket(arm.format) if arm else "(exactly void)" for arm in self.arms)
 
     def held(self):
-        return f"{FAILURES} {' '.join(bracket(arm.held) if arm else NOTHING for arm in self.arms)}"
+        return f"{escaped(self.status.failures)} {' '.join(bracket(arm.held) if arm else NOTHING for arm in self.arms)}"
 
     def cases(self):
         """The two cases: of what is held, as it is taken and as it is made, and of the type."""
-        ok = ("(ok f)", "(ok f)", f"({self.variants}.«NFS3_OK» f)")
+        ok = ("(ok f)", "(ok f)", f"({self.variants}.{escaped(self.status.ok)} f)")
         if self.arms[1]:
             return [ok, ("(failed e f)", "(failed e f)", f"({self.variants}.Failed e f)")]
         return [ok, ("(failed e u)", "(failed e tt)", f"({self.variants}.Failed e)")]
@@ -139,7 +166,7 @@ class Result(Kind):
             f"pub {m}-to-from : (y : {T}) → {start}To ({start}From y) ≡ y{to_from}",
             f"""abbrev pub {start}Arms : Arms {self.held()} {T}
 {start}Arms = record {{ to = {start}To; from = {start}From; from-to = {m}-from-to; to-from = {m}-to-from }}""",
-            f"unfoldable pub {m} : Format ({self.known.message}) {T}\n{m} = onStatus {CODEC} {SUCCESS} {self.formats()} {start}Arms",
+            f"unfoldable pub {m} : Format ({self.known.message}) {T}\n{m} = onStatus {self.status.meaning} {self.status.success} {self.formats()} {start}Arms",
             self.views(),
         ]
 
@@ -151,17 +178,17 @@ class Result(Kind):
     def laws(self):
         m, T, start = self.meaning, self.type, lower(self.meaning)
         size = f"{start}Size"
-        of = f"{CODEC} {SUCCESS} {self.formats()} {start}Arms"
+        of = f"{self.status.meaning} {self.status.success} {self.formats()} {start}Arms"
         within = " ".join(arm.within if arm else "void-within" for arm in self.arms)
         bounds = ""
         for arm, (_, _, own) in zip(self.arms, self.cases()):
-            law = self.value_bound(arm)
+            law = arm.small("f") if arm and not arm.fixed else ""
             bounds += f"\n{m}-bound {own} = omega {f'(arith, {law})' if law else 'arith'}"
         return [
             f"-- {self.code_type}\npub {self.law} : OnStatus {of} {m}\nunfolding {m}\n{self.law} = record {{ is = refl }}",
             self.step_laws(),
             self.told_law(),
-            f"pub {m}-within : Within 0 ({m} .codec .kind)\nunfolding {m}\n{m}-within = status-within {of} {CODEC}-within {within}",
+            f"pub {m}-within : Within 0 ({m} .codec .kind)\nunfolding {m}\n{m}-within = status-within {of} {self.status.meaning}-within {within}",
             f"abbrev pub {size} : {T} → ℕ\n{size} x = resultSize {self.sizes()} ({start}From x)",
             f"abbrev pub {m}-writer : Writer {m}\n{m}-writer = record {{ size = {size}; sized = status-sized {self.sizes()} }}",
             f"pub {m}-bound : (x : {T}) → {size} x ≤ {self.known.most}{bounds}",
@@ -169,32 +196,29 @@ class Result(Kind):
         ]
 
     def sizes(self):
-        return f"{self.law} {CODEC}-fixed {self.writers()}"
-
-    def value_bound(self, arm):
-        if not arm or arm.fixed:
-            return ""
-        return f"{arm.meaning}-{'between' if arm.codec else 'bound'} f"
+        return f"{self.law} {self.status.meaning}-fixed {self.writers()}"
 
     # ------------------------------------------------ ranges
 
     def ranges(self):
         m, goods = self.meaning, []
         for arm, status, (_, _, own) in zip(self.arms, ("none", "(some e)"), self.cases()):
-            good = f"search {self.good_of(arm)}" if arm else "tt"
-            goods.append(f"{m}-good {own} p = ({CODEC}-good (statusFor {status}), {good})")
-        return [], [f"""pub {m}-good : (m : {self.type}) {{vs : List Val}} → Is {self.dashed}·.the-row m vs → {m} .codec .kind .Good ({m} .held .mean s m)
-unfolding {m} pieceHeld
+            good = self.good_value(arm, "f", "i") if arm else "tt"
+            goods.append(f"{m}-good {own} p{' i' * self.known.inside} = ({self.status.meaning}-good ({self.status.to} {status}), {good})")
+        return [], [f"""{self.good_head("m")}
+unfolding {m} {self.pieces(OPAQUE, *self.arms)}
 {chr(10).join(goods)}"""]  # fmt: skip
 
     # ------------------------------------------------ proofs
 
     def proofs(self):
         m, count = self.meaning, len(self.arms)
-        status = f"(fixed-writer {CODEC}-fixed)"
+        status = f"(fixed-writer {self.status.meaning}-fixed)"
         proofs = {f"{self.name}_at": Proof(self.at_proof())}
         asked = [bool(arm and not arm.codec) for arm in self.arms]
-        proofs[f"{self.name}_inside"] = Proof(needs(count + sum(asked)) + [f"(λ c. search ({law}-inside {self.law}))" for law in self.told])
+        proofs[f"{self.name}_inside"] = Proof(
+            needs(count + sum(asked)) + [f"(λ c. search ({law}-inside {self.law}))" for law in self.told], unfolding=self.pieces(*self.arms)
+        )
         proofs[f"{self.name}_size"] = Proof(self.size_proof())
         for at, arm in enumerate(self.arms):
             if arm:
@@ -215,10 +239,10 @@ unfolding {m} pieceHeld
 
     def at_proof(self):
         """The status, each arm with its own refusal, and in the end what each took."""
-        answers = needs(4) + [f"(λ c. search ({CODEC}-lost {self.law}))"]
+        answers = needs(4) + [f"(λ c. search ({self.status.meaning}-lost {self.law}))"]
         ends = []
         for arm in self.arms:
-            rules = ", ".join([f"{CODEC}-took {self.law}", "asks", "marked", *(arm.steps if arm else ())])
+            rules = ", ".join([f"{self.status.meaning}-took {self.law}", "asks", "marked", *(arm.steps if arm else ())])
             one = f"(λ c. search ({rules}) depth 20)"
             answers += needs(1) + (needs(4) + [one] if arm else [])
             ends.append(one)

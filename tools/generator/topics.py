@@ -5,13 +5,13 @@ import subprocess
 import tempfile
 from pathlib import Path
 
-from generator.enumeration import Enumeration
+from generator.enumeration import Enumeration, Statuses
 from generator.known import ITEMS, VERIFIER, Known, Words, camel, escaped, stem
 from generator.language import read_topic, types_of
 from generator.optional import Optional
 from generator.program import Program
 from generator.record import MOST_FIELDS, Record
-from generator.status import Result
+from generator.status import NFS, Result
 from generator.table import Trouble, read_table, read_text
 
 HEADER = "made by tools/generate from "
@@ -89,6 +89,8 @@ class Library:
         self.code, self.specs, self.bounds = {}, {}, {}
         for crate in self.below:
             self.scan(crate)
+        self.statuses = {NFS.type: NFS}
+        self.switched = {one.tag for topic in topics for one in topic.declared}
         self.made = {}
         for topic in self.ordered(topics):
             self.made[topic.path] = Made(self, topic)
@@ -178,6 +180,8 @@ class Made:
             else:
                 kind = self.kind(declared)
                 kind.public = stem(declared.name) in library.kinds
+                if isinstance(kind, Statuses):
+                    library.statuses[declared.name] = kind.status
                 self.kinds.append(kind)
                 if kind.known:
                     library.known[kind.code_type] = kind.known
@@ -197,7 +201,7 @@ class Made:
             return Program(declared, self.topic, kinds)
         meaning = self.meaning(declared.name)
         if declared.shape == "enum":
-            return Enumeration(declared, meaning, self.topic)
+            return (Statuses if declared.name in self.library.switched else Enumeration)(declared, meaning, self.topic)
         fields = [self.library.kind_of(part.type, self.topic) for part in declared.parts]
         types = [self.code_type(part.type) for part in declared.parts]
         if declared.shape == "optional":
@@ -205,16 +209,25 @@ class Made:
                 raise Trouble(f"{self.topic.path}: {declared.name}: a value behind a flag has pieces or a fixed size, so far")
             return Optional(declared, meaning, self.topic, fields[0], types[0])
         if declared.shape == "status":
-            return Result(declared, meaning, self.topic, (fields + [None])[:2], (types + [""])[:2])
+            return Result(declared, meaning, self.topic, self.status(declared), (fields + [None])[:2], (types + [""])[:2])
         if len(fields) > MOST_FIELDS:
             raise Trouble(f"{self.topic.path}: {declared.name} has {len(fields)} fields, and {MOST_FIELDS} are the most: make groups of them")
         if not fields:
             raise Trouble(f"{self.topic.path}: {declared.name} has no field")
         return Record(declared, meaning, self.topic, fields, types)
 
+    def status(self, declared):
+        """The status that a union switches on."""
+        status = self.library.statuses.get(declared.tag)
+        if status is None:
+            raise Trouble(f"{self.topic.path}: {declared.name} switches on {declared.tag}, which is neither bool nor a status that is declared before")
+        if declared.ok != status.ok:
+            raise Trouble(f"{self.topic.path}: {declared.name}: the first case of {declared.tag} is {status.ok}, and not {declared.ok}")
+        return status
+
     def meaning(self, name):
         row = self.library.kinds.get(stem(name))
-        meaning = row.meaning if row else re.sub("3(?=[a-z])", "-", re.sub("3$", "", stem(name))).replace("_", "-")
+        meaning = row.meaning if row else re.sub("3(?=[a-z])", "-", re.sub("3(?=_|$)", "", stem(name))).replace("_", "-")
         if meaning in Words().specs:
             raise Trouble(f"{self.topic.path}: {name} cannot be called {meaning}, which is a name of the laws already")
         if meaning == escaped(name):

@@ -1,4 +1,5 @@
 -- made by tools/generate: ranges
+pub mod MntRanges
 pub mod PortmapRanges
 
 -- end of ranges

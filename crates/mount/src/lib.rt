@@ -7,6 +7,7 @@ pub mod export;
 pub mod group;
 pub mod path;
 // made by tools/generate: modules
+pub mod mnt;
 pub mod portmap;
 // end of modules
 
@@ -24,6 +25,17 @@ pub use path::dirpath;
 pub use path::read_dirpath;
 pub use path::write_dirpath;
 // made by tools/generate: names
+pub use mnt::Mountres3Read;
+pub use mnt::Mountstat3Read;
+pub use mnt::fhandle3;
+pub use mnt::mountfail3;
+pub use mnt::mountres3;
+pub use mnt::mountres3_ok;
+pub use mnt::mountstat3;
+pub use mnt::read_mountres3;
+pub use mnt::read_mountstat3;
+pub use mnt::write_mountres3;
+pub use mnt::write_mountstat3;
 pub use portmap::MappingRead;
 pub use portmap::mapping;
 pub use portmap::read_mapping;

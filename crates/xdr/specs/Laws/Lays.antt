@@ -19,13 +19,13 @@ use Rattle.xdr.specs.Meaning.Public.{Writes, laid}
 use Rattle.xdr.specs.Meaning.Views.{viewWrote}
 use Rattle.xdr.specs.Meaning.Items.{word, hyper, word-pair, flag}
 use Rattle.xdr.specs.Meaning.Formats.{eightBytes, eightHeld}
-use Rattle.xdr.specs.Laws.Padding.{flag-length, eight-length, size-small}
+use Rattle.xdr.specs.Laws.Padding.{flag-length, eight-length, size-small, words-small}
 use Rattle.xdr.specs.Laws.Ranges.{eight-good, eight-bytes}
 use Rattle.xdr.specs.Laws.Room.{room-off, room-laid}
 use Rattle.xdr.specs.Laws.Fixed.{Fixed, word-fixed, hyper-fixed, word-pair-fixed, pair-fixed}
 use Rattle.xdr.specs.Laws.Write.{Ready, laid-short, laid-is, laid-same, lent, lent-first}
 use Rattle.xdr.specs.Laws.Writers.{room-place, plain-off, plain-on}
-use Rattle.xdr.specs.Meaning.Pieces.{sizeUpTo}
+use Rattle.xdr.specs.Meaning.Pieces.{sizeUpTo, wordsUpTo}
 use Rattle.xdr.specs.declared.answer.Wrote.{Wrote}
 use Rattle.xdr.specs.declared.answer.Wrote.the-variants as wrote
 use Rattle.xdr.specs.declared.refusal.Refusal.{Refusal}
@@ -132,6 +132,9 @@ by-length n a e h = omega arith
 
 pub by-count : (n a : ℕ) → n ≡ sizeUpTo a → n ≤ 4294967296
 by-count n a e = omega (arith, size-small a)
+
+pub by-words : (n a : ℕ) → n ≡ wordsUpTo a → n ≤ 4294967296
+by-words n a e = omega (arith, words-small a)
 
 pub ruleset sums = (tt, lit≤, sum-two, sum-three, sum-four, sum-five, by-length, by-count)
 
