@@ -90,7 +90,7 @@ class Library:
         for crate in self.below:
             self.scan(crate)
         self.statuses = {NFS.type: NFS}
-        self.switched = {one.tag for topic in topics for one in topic.declared}
+        self.switched = {one.tag for topic in topics for one in topic.declared if one.tag}
         self.made = {}
         for topic in self.ordered(topics):
             self.made[topic.path] = Made(self, topic)
