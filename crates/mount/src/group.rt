@@ -1,8 +1,14 @@
 // Groups of an export (RFC 1813, appendix I): a list of names, each behind a true flag, and a false flag at its end. A list is held as the place
 // of its first flag and the count of its names.
 ghost use mathlib.Core.Path.{_≡_};
+ghost use mathlib.Core.Bool.{true};
+ghost use Rattle.xdr.specs.Meaning.Items.{flag};
+ghost use Rattle.xdr.specs.Meaning.Format.{exactly, _⨟_};
+ghost use Rattle.xdr.specs.Meaning.Formats.{bytes};
 ghost use Rattle.xdr.specs.Meaning.Public.{Answers};
 ghost use Rattle.xdr.specs.Meaning.Views.{viewPiece};
+ghost use Rattle.xdr.specs.Laws.Fields.{Lays};
+ghost use Rattle.mount.specs.Laws.Laying.{LaysFrom};
 ghost use Rattle.mount.specs.Meaning.Group.{groups, next-group, viewNextGroup, lostNextGroup};
 use xdr::BoolRead;
 use xdr::Piece;
@@ -10,6 +16,8 @@ use xdr::PieceRead;
 use xdr::Refusal;
 use xdr::inner::bool_at;
 use xdr::inner::opaque_at;
+use xdr::inner::put_bool;
+use xdr::inner::put_opaque;
 use xdr::order::Opening;
 use xdr::order::open_at;
 
@@ -115,5 +123,53 @@ pub fn next_group(src: &[u8], at: usize) -> NextGroupRead
     match open_at(src, at) {
         Opening::Refused(r) => NextGroupRead::Refused(r),
         Opening::Open => next_group_at(src, at),
+    }
+}
+
+// A name behind its flag, at the front of a buffer.
+fn put_name(src: &[u8], x: Piece, out: &mut [u8])
+    ensures { λ _. ⌜ Lays (exactly flag ⨟ bytes) (now (src .entry)) (true, x) (now (out .entry)) (now (out .exit)) ⌝ }
+{
+    if out.len() < 4 {
+        return;
+    }
+    put_bool(true, &mut out[0..]);
+    put_opaque(src, x, &mut out[4..]);
+}
+
+fn put_next_group(src: &[u8], x: NextGroup, out: &mut [u8])
+    ensures { λ _. ⌜ Lays next-group (now (src .entry)) x (now (out .entry)) (now (out .exit)) ⌝ }
+{
+    match x {
+        NextGroup::End => put_bool(false, out),
+        NextGroup::Name(name) => put_name(src, name, out),
+    }
+}
+
+// The list that is read at a place of a source, name by name, at the front of a buffer. A form of a list is as long as what is written, so
+// each name goes as far behind the buffer's start as it stands behind the list's.
+pub fn put_groups(src: &[u8], at: usize, out: &mut [u8])
+    ensures { λ _. ⌜ LaysFrom bytes (now (src .entry)) at (now (out .entry)) (now (out .exit)) ⌝ }
+{
+    let mut here = at;
+    loop {
+        let step = next_group_at(src, here);
+        let NextGroupRead::Took {
+            value,
+            next,
+            plain: _,
+        } = step
+        else {
+            return;
+        };
+        if out.len() < next - at {
+            return;
+        }
+        let to = here - at;
+        put_next_group(src, value, &mut out[to..]);
+        let NextGroup::Name(_) = value else {
+            return;
+        };
+        here = next;
     }
 }

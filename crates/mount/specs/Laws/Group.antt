@@ -18,6 +18,10 @@ use Rattle.xdr.specs.Laws.One.{Told}
 use Rattle.xdr.specs.Laws.Plans.{Planned, plan, at, Step, step, Loses, lost-at, optionally}
 use Rattle.xdr.specs.Laws.Even.{Even, even-within, opaque-even, list-even}
 use Rattle.xdr.specs.Laws.Lengths.{Within}
+use borrow.Rule.Slice.PartMut.{midOf, putMid}
+use Rattle.xdr.specs.Laws.Fields.{Lays}
+use Rattle.xdr.specs.Laws.Optional.{OptionalHeld}
+use Rattle.mount.specs.Laws.Laying.{LaysFrom, Partly, partly-start, partly-refused, partly-short, partly-end, partly-on}
 use Rattle.xdr.specs.Laws.Walks.{by-names, by-names-refused, tally, tally-starts, tally-goes, tally-ends, tally-refused, step-inside}
 use Rattle.xdr.specs.declared.answer.PieceRead.{PieceRead}
 use Rattle.xdr.specs.declared.answer.PieceRead.the-variants as Piece
@@ -88,3 +92,49 @@ module _ (s : List ℕ) (at : ℕ) where
 
           pub names-fit : Fits w64 n → Fits w64 (count + 1)
           names-fit f = omega (arith, name-inside)
+
+-- what is laid of a list, name by name
+pub next-group-optional : OptionalHeld bytes nextGroupCases next-group
+unfolding next-group
+next-group-optional = record { is = refl }
+
+module _ (s : List ℕ) (at : ℕ) (o : List ℕ) where
+  pub lay-start : Partly bytes s at o at o
+  lay-start = partly-start bytes s at o
+
+  module _ (here : ℕ) (z : List ℕ) (inv : Partly bytes s at o here z) (a : NextGroupRead) (given : (i : ℕ) → Fits w8 (getD s i 0))
+      (e : viewNextGroup a ≡ next-group .held .read s here) where
+    pub lay-refused : (r : Refusal) → a ≡ NextGroup·.Refused r → LaysFrom bytes s at o z
+    unfolding next-group
+    lay-refused r f = partly-refused bytes nextGroupCases s (known-bytes s given) at o here z inv (sym e ∙ ap viewNextGroup f)
+
+    module _ (v : NextGroup) (n : ℕ) (p : Bool) (f : a ≡ NextGroup·.Took v n p) where
+      group-read : next-group .held .read s here ≡ took v n p
+      group-read = sym e ∙ ap viewNextGroup f
+
+      group-step : (here + 4 ≤ n) × (n ≤ length s)
+      unfolding next-group
+      group-step = step-inside bytes s (known-bytes s given) here (by-names bytes nextGroupCases s here group-read)
+
+      pub lay-less : length s - n < length s - here
+      lay-less = omega (arith, group-step)
+
+      module _ (k : at ≤ here) where
+        pub lay-ahead : at ≤ n
+        lay-ahead = omega (arith, group-step)
+
+        pub lay-place : n - at ≤ length z → here - at ≤ length z
+        lay-place j = omega (arith, group-step)
+
+      pub lay-short : length z < n - at → length z ≡ length o → LaysFrom bytes s at o z
+      unfolding next-group
+      lay-short j l = partly-short bytes nextGroupCases s (known-bytes s given) at o here z inv group-read opaque-even (omega arith)
+
+      module _ (zs : List ℕ) (laid : Lays next-group s v (midOf (here - at) (length z - (here - at)) z) zs) where
+        pub lay-end : v ≡ nextGroupIs.End → LaysFrom bytes s at o (putMid (here - at) (length z - (here - at)) z zs)
+        unfolding next-group
+        lay-end i = partly-end bytes nextGroupCases s (known-bytes s given) at o here z inv group-read opaque-even laid (ap (nextGroupCases .from) i)
+
+        pub lay-on : (x : Piece) → v ≡ nextGroupIs.Name x → Partly bytes s at o n (putMid (here - at) (length z - (here - at)) z zs)
+        unfolding next-group
+        lay-on x i = partly-on bytes nextGroupCases s (known-bytes s given) at o here z inv group-read opaque-even laid x (ap (nextGroupCases .from) i)
