@@ -2,7 +2,6 @@
 pub mod Path
 pub mod Group
 pub mod Export
-pub mod Laying
 -- made by tools/generate: laws
 pub mod Mnt
 pub mod Portmap

@@ -2,19 +2,35 @@
 // walked with `next_export`. A path above 1,024 bytes is refused with 10 once the whole list is read.
 ghost use mathlib.Core.Path.{_≡_};
 ghost use Prim.Native.Nat.{_+_, _≤_};
+ghost use mathlib.Core.Bool.{true};
+ghost use Rattle.xdr.specs.Meaning.Items.{flag};
+ghost use Rattle.xdr.specs.Meaning.Format.{exactly, _⨟_};
+ghost use Rattle.xdr.specs.Meaning.Formats.{bytes};
 ghost use Rattle.xdr.specs.Meaning.Public.{Answers};
-ghost use Rattle.xdr.specs.Meaning.Views.{viewPiece};
-ghost use Rattle.mount.specs.Meaning.Export.{node, nodes, next-node, next-export, exports, viewNode, lostNode, viewNextExport, lostNextExport, orLong, finished, walked};
+ghost use Rattle.xdr.specs.Meaning.Within.{WritesWithin};
+ghost use Rattle.xdr.specs.Meaning.Views.{viewPiece, viewWrote};
+ghost use Rattle.xdr.specs.Laws.Fields.{Lays};
+ghost use Rattle.xdr.specs.Laws.Laying.{LaysFrom};
+ghost use Rattle.mount.specs.Meaning.Group.{groups};
+ghost use Rattle.mount.specs.Laws.Export.{overBound};
+ghost use Rattle.mount.specs.declared.export.Walked.the-variants.{Within};
+ghost use Rattle.mount.specs.Meaning.Export.{node, nodes, longList, next-node, next-export, exports, viewNode, lostNode, viewNextExport, lostNextExport, orLong, finished, walked};
 use crate::group::groups_at;
+use crate::group::put_groups;
 use crate::path::MNTPATHLEN;
 use xdr::BoolRead;
 use xdr::Piece;
 use xdr::PieceRead;
 use xdr::Refusal;
+use xdr::Wrote;
 use xdr::inner::bool_at;
 use xdr::inner::opaque_at;
+use xdr::inner::opaque_size;
+use xdr::inner::put_bool;
+use xdr::inner::put_opaque;
 use xdr::order::Opening;
 use xdr::order::open_at;
+use xdr::order::place;
 
 // An export: its path, and its groups, which are a list of names.
 pub struct exportnode {
@@ -267,5 +283,118 @@ pub fn next_export(src: &[u8], at: usize) -> NextExportRead
     match open_at(src, at) {
         Opening::Refused(r) => NextExportRead::Refused(r),
         Opening::Open => next_export_at(src, at),
+    }
+}
+
+// An entry at the front of a buffer: its path, and behind it its groups.
+fn put_node_1(src: &[u8], f1: Piece, f2: Piece, out: &mut [u8])
+    ensures { λ _. ⌜ Lays (bytes ⨟ groups) (now (src .entry)) (f1, f2) (now (out .entry)) (now (out .exit)) ⌝ }
+{
+    let n = opaque_size(f1.count);
+    if out.len() < n {
+        return;
+    }
+    put_opaque(src, f1, &mut out[0..]);
+    put_groups(src, f2.at, &mut out[n..]);
+}
+
+fn put_node(src: &[u8], x: exportnode, out: &mut [u8])
+    ensures { λ _. ⌜ Lays node (now (src .entry)) x (now (out .entry)) (now (out .exit)) ⌝ }
+{
+    let f1 = x.ex_dir;
+    let f2 = x.ex_groups;
+    put_node_1(src, f1, f2, out);
+}
+
+// The same behind its flag.
+fn put_entry(src: &[u8], x: exportnode, out: &mut [u8])
+    ensures { λ _. ⌜ Lays (exactly flag ⨟ node) (now (src .entry)) (true, x) (now (out .entry)) (now (out .exit)) ⌝ }
+{
+    if out.len() < 4 {
+        return;
+    }
+    put_bool(true, &mut out[0..]);
+    put_node(src, x, &mut out[4..]);
+}
+
+fn put_next_node(src: &[u8], x: NextExport, out: &mut [u8])
+    ensures { λ _. ⌜ Lays next-node (now (src .entry)) x (now (out .entry)) (now (out .exit)) ⌝ }
+{
+    match x {
+        NextExport::End => put_bool(false, out),
+        NextExport::Export(v) => put_entry(src, v, out),
+    }
+}
+
+// The list that is read at a place of a source, entry by entry, at the front of a buffer. A form of a list is as long as what is written, so
+// each entry goes as far behind the buffer's start as it stands behind the list's.
+fn put_exports(src: &[u8], at: usize, out: &mut [u8])
+    ensures { λ _. ⌜ LaysFrom node (now (src .entry)) at (now (out .entry)) (now (out .exit)) ⌝ }
+{
+    let mut here = at;
+    loop {
+        let step = next_node_at(src, here);
+        let NextExportRead::Took {
+            value,
+            next,
+            plain: _,
+        } = step
+        else {
+            return;
+        };
+        if out.len() < next - at {
+            return;
+        }
+        let to = here - at;
+        put_next_node(src, value, &mut out[to..]);
+        let NextExport::Export(_) = value else {
+            return;
+        };
+        here = next;
+    }
+}
+
+// A list that does not read, or in which a path is over the bound: 9, 3 for the source, 4, and then 10.
+fn refuse_long(source: usize, inside: bool, room: usize, at: usize) -> Wrote
+    ensures { λ r. ⌜ viewWrote r ≡ overBound source inside room at ⌝ }
+{
+    let w = place(source, inside, 0, room, at);
+    let Wrote::Done(_) = w else {
+        return w;
+    };
+    Wrote::Refused(Refusal::LongPath(0))
+}
+
+// A list that was walked, and is within the bound.
+fn write_walked(
+    src: &[u8],
+    x: Piece,
+    count: usize,
+    next: usize,
+    plain: bool,
+    out: &mut [u8],
+    at: usize,
+) -> Wrote
+    requires { ⌜ Within count next plain ≡ walked (x .at) (nodes .codec .kind .read (now src) (x .at)) ⌝ }
+    ensures { λ r. ⌜ WritesWithin nodes longList (now (src .entry)) x at (now (out .entry)) (viewWrote r) (now (out .exit)) ⌝ }
+{
+    let from = x.at;
+    let many = x.count;
+    let w = place(src.len(), count == many, next - from, out.len(), at);
+    let Wrote::Done(_) = w else {
+        return w;
+    };
+    put_exports(src, from, &mut out[at..]);
+    w
+}
+
+// 4 where the list does not read with its count at its place; 10 right after it.
+pub fn write_exports(src: &[u8], x: Piece, out: &mut [u8], at: usize) -> Wrote
+    ensures { λ r. ⌜ WritesWithin nodes longList (now (src .entry)) x at (now (out .entry)) (viewWrote r) (now (out .exit)) ⌝ }
+{
+    match walk(src, x.at) {
+        Walked::Refused(_) => refuse_long(src.len(), false, out.len(), at),
+        Walked::Within { count, next, plain } => write_walked(src, x, count, next, plain, out, at),
+        Walked::Over { count, place: _ } => refuse_long(src.len(), count == x.count, out.len(), at),
     }
 }

@@ -8,7 +8,7 @@ ghost use Rattle.xdr.specs.Meaning.Formats.{bytes};
 ghost use Rattle.xdr.specs.Meaning.Public.{Answers};
 ghost use Rattle.xdr.specs.Meaning.Views.{viewPiece};
 ghost use Rattle.xdr.specs.Laws.Fields.{Lays};
-ghost use Rattle.mount.specs.Laws.Laying.{LaysFrom};
+ghost use Rattle.xdr.specs.Laws.Laying.{LaysFrom};
 ghost use Rattle.mount.specs.Meaning.Group.{groups, next-group, viewNextGroup, lostNextGroup};
 use xdr::BoolRead;
 use xdr::Piece;

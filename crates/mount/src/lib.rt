@@ -17,6 +17,7 @@ pub use export::exportnode;
 pub use export::exports;
 pub use export::next_export;
 pub use export::read_exports;
+pub use export::write_exports;
 pub use group::NextGroup;
 pub use group::NextGroupRead;
 pub use group::next_group;

@@ -59,3 +59,4 @@ pub mod Even
 pub mod Walks
 pub mod Within
 pub mod Programs
+pub mod Laying

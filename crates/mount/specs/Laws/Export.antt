@@ -13,18 +13,32 @@ use borrow.Author.Tests.{le-leb, lt-leb}
 use mir.Syntax.{w8, w64}
 use mir.Val.{Fits}
 use Rattle.xdr.specs.Meaning.Bytes.{Bytes}
-use Rattle.xdr.specs.Meaning.Answer.{Answer, took, refused}
-use Rattle.xdr.specs.Meaning.Format.{Format, optional}
+use Rattle.xdr.specs.Meaning.Answer.{Answer, took, refused, most, Written, done, unwritten}
+use Rattle.xdr.specs.Meaning.Format.{Format, _⨟_, optional}
 use Rattle.xdr.specs.Meaning.Formats.{bytes, pieceHeld}
 use Rattle.xdr.specs.Meaning.Linked.{placedAt, elementsOf, hasCount}
 use Rattle.xdr.specs.Meaning.Lists.{linked}
 use Rattle.xdr.specs.Meaning.Pieces.{bytesIn}
-use Rattle.xdr.specs.Meaning.Views.{viewPiece}
+use Rattle.xdr.specs.Meaning.Views.{viewPiece, viewWrote}
 use Rattle.xdr.specs.Laws.Even.{Even, opaque-even, chain-even, named-even, list-even, even-within}
 use Rattle.xdr.specs.Laws.Held.{taken-inside}
 use Rattle.xdr.specs.Laws.Lengths.{Within}
 use Rattle.xdr.specs.Laws.Linked.{put, optional-some}
 use Rattle.xdr.specs.Laws.Lists.{known-bytes}
+use Rattle.xdr.specs.Laws.Fields.{Lays, lays-named}
+use Rattle.xdr.specs.Laws.Laying.{LaysFrom, Partly, partly-start, partly-refused, partly-short, partly-end, partly-on, list-lays}
+use Rattle.xdr.specs.Laws.Optional.{OptionalHeld}
+use Rattle.xdr.specs.Laws.Placing.{at-place, has-room}
+use Rattle.xdr.specs.Laws.Placing as placing·
+use Rattle.xdr.specs.Laws.Within.{within-as, over-refused, over-done}
+use Rattle.xdr.specs.Laws.Write.{Put, Ready}
+use Rattle.xdr.specs.Meaning.Kind.{Found, Sound}
+use Rattle.xdr.specs.Meaning.Public.{output}
+use Rattle.xdr.specs.Meaning.Within.{isWithin, WritesWithin}
+use Rattle.xdr.specs.Meaning.Order.{placing}
+use Rattle.xdr.specs.declared.answer.Wrote.{Wrote}
+use Rattle.xdr.specs.declared.answer.Wrote.the-variants as wrote
+use borrow.Rule.Slice.PartMut.{midOf, putMid}
 use Rattle.xdr.specs.Laws.One.{Told}
 use Rattle.xdr.specs.Laws.Plans.{Planned, plan, at, Step, step, Loses, lost-at, optionally, _then_}
 use Rattle.xdr.specs.Laws.Walks.{by-names, by-names-refused, list-ends, list-goes, list-refused, step-inside, step-size}
@@ -302,3 +316,211 @@ module _ (s : List ℕ) (at : ℕ) (a : NextExportRead) (e : viewNextExport a �
 
       pub next-room : Fits w64 n → Fits w64 (at + 4)
       next-room f = omega (arith, step-inside node s (known-bytes s given) at has)
+
+-- what is laid of a list, entry by entry
+pub next-node-optional : OptionalHeld node nextExportCases next-node
+unfolding next-node
+next-node-optional = record { is = refl }
+
+pub node-lays : (s : List ℕ) (x : exportnode) (o z : List ℕ) → Lays (bytes ⨟ groups) s (x .«ex_dir», x .«ex_groups») o z → Lays node s x o z
+unfolding node
+node-lays s x o z a = lays-named _ nodeNames s x o z a
+
+pub groups-lays : (s : List ℕ) (x : Piece) (o z : List ℕ) → LaysFrom bytes s (x .at) o z → Lays groups s x o z
+unfolding groups
+groups-lays s x o z a = list-lays bytes s x o z a
+
+module _ (s : List ℕ) (at : ℕ) (o : List ℕ) where
+  pub put-start : Partly node s at o at o
+  put-start = partly-start node s at o
+
+  module _ (here : ℕ) (z : List ℕ) (inv : Partly node s at o here z) (a : NextExportRead) (given : (i : ℕ) → Fits w8 (getD s i 0))
+      (e : viewNextExport a ≡ next-node .held .read s here) where
+    pub put-refused : (r : Refusal) → a ≡ NextExport·.Refused r → LaysFrom node s at o z
+    unfolding next-node
+    put-refused r f = partly-refused node nextExportCases s (known-bytes s given) at o here z inv (sym e ∙ ap viewNextExport f)
+
+    module _ (v : NextExport) (n : ℕ) (p : Bool) (f : a ≡ NextExport·.Took v n p) where
+      entry-read : next-node .held .read s here ≡ took v n p
+      entry-read = sym e ∙ ap viewNextExport f
+
+      entry-step : (here + 4 ≤ n) × (n ≤ length s)
+      unfolding next-node
+      entry-step = step-inside node s (known-bytes s given) here (by-names node nextExportCases s here entry-read)
+
+      pub put-less : length s - n < length s - here
+      put-less = omega (arith, entry-step)
+
+      module _ (k : at ≤ here) where
+        pub put-ahead : at ≤ n
+        put-ahead = omega (arith, entry-step)
+
+        pub put-place : n - at ≤ length z → here - at ≤ length z
+        put-place j = omega (arith, entry-step)
+
+      pub put-short : length z < n - at → length z ≡ length o → LaysFrom node s at o z
+      unfolding next-node
+      put-short j l = partly-short node nextExportCases s (known-bytes s given) at o here z inv entry-read node-even (omega arith)
+
+      module _ (zs : List ℕ) (laid : Lays next-node s v (midOf (here - at) (length z - (here - at)) z) zs) where
+        pub put-end : v ≡ nextExportIs.End → LaysFrom node s at o (putMid (here - at) (length z - (here - at)) z zs)
+        unfolding next-node
+        put-end i = partly-end node nextExportCases s (known-bytes s given) at o here z inv entry-read node-even laid (ap (nextExportCases .from) i)
+
+        pub put-on : (x : exportnode) → v ≡ nextExportIs.Export x → Partly node s at o n (putMid (here - at) (length z - (here - at)) z zs)
+        unfolding next-node
+        put-on x i = partly-on node nextExportCases s (known-bytes s given) at o here z inv entry-read node-even laid x (ap (nextExportCases .from) i)
+
+-- what a writer says of a list that does not read, or has a path over the bound
+abbrev pub overBound : ℕ → Bool → ℕ → ℕ → Written
+overBound source inside room at = by (placing source inside 0 room at)
+  where
+    by : Written → Written
+    by (done n) = unwritten (LongPath 0)
+    by (unwritten r) = unwritten r
+
+module _ (source : ℕ) (inside : Bool) (room at : ℕ) (w : Wrote) (e : viewWrote w ≡ placing source inside 0 room at) where
+  pub over-off : (r : Refusal) → w ≡ wrote.Refused r → viewWrote w ≡ overBound source inside room at
+  over-off r f = let g : placing source inside 0 room at ≡ unwritten r = sym e ∙ ap viewWrote f in ap viewWrote f ∙ sym (rw g)
+
+  pub over-on : (n : ℕ) → w ≡ wrote.Done n → viewWrote (wrote.Refused (LongPath 0)) ≡ overBound source inside room at
+  over-on n f = let g : placing source inside 0 room at ≡ done n = sym e ∙ ap viewWrote f in sym (rw g)
+
+-- what a walk says of a held list
+module _ (s : List ℕ) (x : Piece) where
+  read-there : Answer (List Exportnode)
+  read-there = linked node .kind .read s (x .at)
+
+  -- it does not read
+  gone : (a : Answer (List Exportnode)) → linked node .kind .read s (x .at) ≡ a → (r : Refusal) → walked·.Refused r ≡ walked (x .at) a
+      → nodes .held .inside s x ≡ false
+  unfolding nodes
+  gone (took l n b) e r f = by (longAt (x .at) (longList l)) f
+    where
+      by : (w : Long) → walked·.Refused r ≡ finished w (length l) n b → nodes .held .inside s x ≡ false
+      by long.Nowhere g = let z : _≡_ {A = ℕ} 0 1 = cc g in absurd (omega arith)
+      by (long.At k) g = let z : _≡_ {A = ℕ} 0 1 = cc g in absurd (omega arith)
+  gone (refused q) e r f = ap (hasCount (x .count)) e
+
+  -- it has so many entries, and a path over the bound
+  over : (a : Answer (List Exportnode)) → linked node .kind .read s (x .at) ≡ a → (c k : ℕ) → walked·.Over c k ≡ walked (x .at) a
+      → (nodes .held .inside s x ≡ eqb c (x .count)) × (isWithin (longList (nodes .held .mean s x)) ≡ false)
+  unfolding nodes
+  over (took l n b) e c k f = by (longList l) refl f
+    where
+      by : (o : Option ℕ) → longList l ≡ o → walked·.Over c k ≡ finished (longAt (x .at) o) (length l) n b
+          → (nodes .held .inside s x ≡ eqb c (x .count)) × (isWithin (longList (nodes .held .mean s x)) ≡ false)
+      by none i g = let z : _≡_ {A = ℕ} 0 1 = cc g in absurd (omega arith)
+      by (some j) i g =
+          let h : c ≡ length l = cc g in
+          (ap (hasCount (x .count)) e ∙ ap (λ m. eqb m (x .count)) (sym h), ap (λ z. isWithin (longList (elementsOf z))) e ∙ ap isWithin i)
+  over (refused q) e c k f = let z : _≡_ {A = ℕ} 0 1 = cc f in absurd (omega arith)
+
+  -- it has so many entries, and is within the bound
+  pub record Whole (c n : ℕ) (b : Bool) : Type 0 where
+    pub list : List Exportnode
+    pub reads : linked node .kind .read s (x .at) ≡ took list n b
+    pub count : c ≡ length list
+    pub short : longList list ≡ none
+
+  whole : (a : Answer (List Exportnode)) → linked node .kind .read s (x .at) ≡ a → (c n : ℕ) (b : Bool) → walked·.Within c n b ≡ walked (x .at) a → Whole c n b
+  whole (took l n′ b′) e c n b f = by (longList l) refl f
+    where
+      by : (o : Option ℕ) → longList l ≡ o → walked·.Within c n b ≡ finished (longAt (x .at) o) (length l) n′ b′ → Whole c n b
+      by none i g =
+          let h : n′ ≡ n = cc g in
+          let j : b′ ≡ b = cc g in
+          record { list = l; reads = e ∙ ap₂ (λ (n : ℕ) b. took l n b) h j; count = cc g; short = i }
+      by (some k) i g = let z : _≡_ {A = ℕ} 0 1 = cc g in absurd (omega arith)
+  whole (refused q) e c n b f = let z : _≡_ {A = ℕ} 0 1 = cc f in absurd (omega arith)
+
+  module _ (at : ℕ) (o : List ℕ) (w : Wrote) where
+    over-writes : (i : Bool) → viewWrote w ≡ overBound (length s) i (length o) at → i ≡ nodes .held .inside s x
+        → (nodes .held .inside s x ≡ true → isWithin (longList (nodes .held .mean s x)) ≡ false) → WritesWithin nodes longList s x at o (viewWrote w) o
+    over-writes i e f g = by (placing (length s) i 0 (length o) at) refl
+      where
+        by : (z : Written) → placing (length s) i 0 (length o) at ≡ z → WritesWithin nodes longList s x at o (viewWrote w) o
+        by (done n) h =
+            let j : viewWrote w ≡ unwritten (LongPath 0) = e ∙ rw h in
+            let k : placing (length s) i 0 (length o) at ≡ placing (length s) (nodes .held .inside s x) 0 (length o) at = ap (λ b. placing (length s) b 0 (length o) at) f in
+            subst (λ v. WritesWithin nodes longList s x at o v o) (sym j) (over-done nodes longList s x at o k g h)
+        by (unwritten r) h =
+            let j : viewWrote w ≡ unwritten r = e ∙ rw h in
+            let k : placing (length s) i 0 (length o) at ≡ placing (length s) (nodes .held .inside s x) 0 (length o) at = ap (λ b. placing (length s) b 0 (length o) at) f in
+            subst (λ v. WritesWithin nodes longList s x at o v o) (sym j) (over-refused nodes longList s x at o k g h)
+
+    module _ (z : Walked) (e : z ≡ walked (x .at) (nodes .codec .kind .read s (x .at))) where
+      pub list-gone : (r : Refusal) → z ≡ walked·.Refused r → viewWrote w ≡ overBound (length s) false (length o) at
+          → WritesWithin nodes longList s x at o (viewWrote w) o
+      unfolding nodes
+      list-gone r f g =
+          let i = gone (linked node .kind .read s (x .at)) refl r (sym f ∙ e) in
+          over-writes false g (sym i) (λ t. let j : false ≡ true = sym i ∙ t in let v : _≡_ {A = ℕ} 0 1 = cc j in absurd (omega arith))
+
+      pub list-over : (c k : ℕ) → z ≡ walked·.Over c k → viewWrote w ≡ overBound (length s) (eqb c (x .count)) (length o) at
+          → WritesWithin nodes longList s x at o (viewWrote w) o
+      unfolding nodes
+      list-over c k f g =
+          let i = over (linked node .kind .read s (x .at)) refl c k (sym f ∙ e) in
+          over-writes (eqb c (x .count)) g (sym (i .0)) (λ t. i .1)
+
+  pub walk-is : (z : Walked) (c n : ℕ) (b : Bool) → z ≡ walked (x .at) (nodes .codec .kind .read s (x .at)) → z ≡ walked·.Within c n b
+      → walked·.Within c n b ≡ walked (x .at) (nodes .codec .kind .read s (x .at))
+  walk-is z c n b e f = sym f ∙ e
+
+  -- writing a list that is within the bound
+  module _ (c n : ℕ) (b : Bool) (e : walked·.Within c n b ≡ walked (x .at) (nodes .codec .kind .read s (x .at))) where
+    its : Whole c n b
+    unfolding nodes
+    its = whole (linked node .kind .read s (x .at)) refl c n b e
+
+    list-inside : nodes .held .inside s x ≡ eqb c (x .count)
+    unfolding nodes
+    list-inside = ap (hasCount (x .count)) (its .reads) ∙ ap (λ m. eqb m (x .count)) (sym (its .count))
+
+    list-short : longList (nodes .held .mean s x) ≡ none
+    unfolding nodes
+    list-short = ap (λ z. longList (elementsOf z)) (its .reads) ∙ its .short
+
+    module _ (given : (i : ℕ) → Fits w8 (getD s i 0)) where
+      its-form : Found (linked node .kind) s (x .at) (its .list) n b
+      its-form = subst (Sound (linked node .kind) s (x .at)) (its .reads) (linked node .laws .sound s (x .at) (known-bytes s given))
+
+      pub list-ahead : x .at ≤ n
+      list-ahead = omega (arith, its-form .next)
+
+      list-good : nodes .codec .kind .Good (nodes .held .mean s x)
+      unfolding nodes
+      list-good =
+          let f = its-form in
+          subst (linked node .kind .Good) (ap elementsOf (sym (its .reads))) (linked node .laws .good (its .list) (f .loose) (f .used) (f .form))
+
+      list-size : length (output nodes s x) ≡ n - x .at
+      unfolding nodes
+      list-size =
+          let f = its-form in
+          let l : length (f .used) ≡ length (linked node .kind .write (its .list)) = nodes-even .of (its .list) (f .loose) (f .used) (f .form) in
+          ap (λ z. length (linked node .kind .write (elementsOf z))) (its .reads) ∙ omega (arith, l, f .next)
+
+      module _ (at : ℕ) (o : List ℕ) (w : Wrote) (g : viewWrote w ≡ placing (length s) (eqb c (x .count)) (n - x .at) (length o) at) where
+        said : viewWrote w ≡ placing (length s) (nodes .held .inside s x) (n - x .at) (length o) at
+        said = g ∙ ap (λ i. placing (length s) i (n - x .at) (length o) at) (sym list-inside)
+
+        pub list-refuses : (r : Refusal) → w ≡ wrote.Refused r → WritesWithin nodes longList s x at o (viewWrote w) o
+        list-refuses r f =
+            within-as nodes longList s x at o list-short (placing·.refuses nodes s x (λ r. list-size) at o said (ap viewWrote f))
+
+        pub list-place : (k : ℕ) → w ≡ wrote.Done k → at ≤ length o
+        list-place k f = at-place nodes s x (λ r. list-size) at o said (ap viewWrote f)
+
+        pub list-writes : (k : ℕ) (zs : List ℕ) → w ≡ wrote.Done k → LaysFrom node s (x .at) (midOf at (length o - at) o) zs
+            → WritesWithin nodes longList s x at o (viewWrote w) (putMid at (length o - at) o zs)
+        unfolding nodes
+        list-writes k zs f a =
+            let d = placing·.ready nodes s x (λ r. list-size) at o said (ap viewWrote f) in
+            let m : length (output nodes s x) ≤ length (midOf at (length o - at) o) =
+            omega (arith, has-room nodes s x (λ r. list-size) at o said (ap viewWrote f), list-size) in
+            let p = list-lays node s x (midOf at (length o - at) o) zs a .put d m in
+            let q : Put (midOf at (length o - at) o) zs (n - x .at) (output nodes s x) =
+            subst (λ j. Put (midOf at (length o - at) o) zs j (output nodes s x)) list-size p in
+            within-as nodes longList s x at o list-short (placing·.wrote nodes s x (λ r. list-size) at o said (ap viewWrote f) list-good q)

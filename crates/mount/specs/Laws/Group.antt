@@ -21,7 +21,7 @@ use Rattle.xdr.specs.Laws.Lengths.{Within}
 use borrow.Rule.Slice.PartMut.{midOf, putMid}
 use Rattle.xdr.specs.Laws.Fields.{Lays}
 use Rattle.xdr.specs.Laws.Optional.{OptionalHeld}
-use Rattle.mount.specs.Laws.Laying.{LaysFrom, Partly, partly-start, partly-refused, partly-short, partly-end, partly-on}
+use Rattle.xdr.specs.Laws.Laying.{LaysFrom, Partly, partly-start, partly-refused, partly-short, partly-end, partly-on}
 use Rattle.xdr.specs.Laws.Walks.{by-names, by-names-refused, tally, tally-starts, tally-goes, tally-ends, tally-refused, step-inside}
 use Rattle.xdr.specs.declared.answer.PieceRead.{PieceRead}
 use Rattle.xdr.specs.declared.answer.PieceRead.the-variants as Piece

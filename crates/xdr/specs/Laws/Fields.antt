@@ -65,14 +65,14 @@ pub lays-codec : {M : Type 0} (C : Codec M) (s : List ℕ) (x : M) (o z : List �
 lays-codec C s x o z e = record { put = λ r h. put-laid refl h e }
 
 -- the first field, and the others behind it
-module _ {M N S T : Type 0} {F : Format M S} {G : Format N T} (A : Writer F) (B : Writer G) (s : List ℕ) (x : S) (y : T) (o : List ℕ) (n : ℕ) where
-  pub lays-none : n ≡ A .size x → length o < n → Lays (F ⨟ G) s (x, y) o o
-  lays-none e h =
+module _ {M N S T : Type 0} {F : Format M S} (A : Writer F) (G : Format N T) (s : List ℕ) (x : S) (y : T) (o : List ℕ) (n : ℕ) where
+  pub front-none : n ≡ A .size x → length o < n → Lays (F ⨟ G) s (x, y) o o
+  front-none e h =
       record { put = λ r l. absurd (omega (arith, A .sized s x (ready-left F G s x y r), both-long F G s x y)) }
 
-  pub lays-both : (z w : List ℕ) → n ≡ A .size x → n ≤ length o → Lays F s x (tailOf 0 o) z → Lays G s y (tailOf n (after 0 o z)) w
+  pub front-both : (z w : List ℕ) → n ≡ A .size x → n ≤ length o → Lays F s x (tailOf 0 o) z → Lays G s y (tailOf n (after 0 o z)) w
       → Lays (F ⨟ G) s (x, y) o (after n (after 0 o z) w)
-  lays-both z w e h a b = record { put = both }
+  front-both z w e h a b = record { put = both }
     where
       both : Ready (F ⨟ G) s (x, y) → length (output (F ⨟ G) s (x, y)) ≤ length o
           → Put o (after n (after 0 o z) w) (length (output (F ⨟ G) s (x, y))) (output (F ⨟ G) s (x, y))
@@ -87,6 +87,15 @@ module _ {M N S T : Type 0} {F : Format M S} {G : Format N T} (A : Writer F) (B 
           let v : n + length (output G s y) ≡ length (output (F ⨟ G) s (x, y)) = omega (arith, t, k) in
           let f : Put o (after n (after 0 o z) w) (n + length (output G s y)) (output (F ⨟ G) s (x, y)) = field q (omega (arith, t, k)) (b .put j u) in
           record { is = f .is ∙ ap (λ m. output (F ⨟ G) s (x, y) ++ drop m o) v; long = refl }
+
+-- the same, by the sizes of both
+module _ {M N S T : Type 0} {F : Format M S} {G : Format N T} (A : Writer F) (B : Writer G) (s : List ℕ) (x : S) (y : T) (o : List ℕ) (n : ℕ) where
+  pub lays-none : n ≡ A .size x → length o < n → Lays (F ⨟ G) s (x, y) o o
+  lays-none = front-none A G s x y o n
+
+  pub lays-both : (z w : List ℕ) → n ≡ A .size x → n ≤ length o → Lays F s x (tailOf 0 o) z → Lays G s y (tailOf n (after 0 o z)) w
+      → Lays (F ⨟ G) s (x, y) o (after n (after 0 o z) w)
+  lays-both = front-both A G s x y o n
 
 -- under the names of a record
 module _ {M N S T : Type 0} (F : Format M S) (R : Renaming M N S T) (s : List ℕ) (x : T) (o z : List ℕ) where

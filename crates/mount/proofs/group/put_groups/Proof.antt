@@ -4,7 +4,7 @@ use mathlib.Core.Path.{_≡_}
 use Prim.Native.Nat.{_-_, _≤_}
 use lib.ListN.{length}
 use Rattle.xdr.specs.Meaning.Formats.{bytes}
-use Rattle.mount.specs.Laws.Laying.{Partly}
+use Rattle.xdr.specs.Laws.Laying.{Partly}
 use Rattle.mount.specs.Laws.Group.{lay-start, lay-refused, lay-less, lay-ahead, lay-place, lay-short, lay-end, lay-on}
 use Rattle.mount.proofs.group.put_groups.Statement.{statement}
 use Rattle.mount.proofs.group.put_groups.Tie as tie
