@@ -79,7 +79,8 @@ fn kinds(out: &mut [u8], at: Out) -> Out {
   set_size3 set_atime set_mtime sattr3 diropargs3 symlinkdata3 stable_how sattrguard3 getattr3args
   getattr3res setattr3args setattr3res lookup3args lookup3res read3args read3res write3args
   write3res current_accept_stat current_auth_stat current_accept_body current_accepted_reply
-  current_rejected_reply current_reply_body current_rpc_body current_rpc_msg
+  current_rejected_reply current_reply_body current_rpc_body current_rpc_msg dirpath mountstat3
+  mountres3 exports mapping
 ",
         // end of names
     )

@@ -8,6 +8,7 @@ mod files;
 mod items;
 mod kinds;
 mod messages;
+mod mounts;
 mod procedures;
 // end of copiers
 pub mod replies;
