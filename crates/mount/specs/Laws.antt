@@ -2,6 +2,8 @@
 pub mod Path
 pub mod Group
 pub mod Export
+pub mod Ask
+pub mod One
 -- made by tools/generate: laws
 pub mod Mnt
 pub mod Portmap

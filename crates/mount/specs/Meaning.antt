@@ -2,6 +2,8 @@
 pub mod Path
 pub mod Group
 pub mod Export
+pub mod Ask
+pub mod Views
 -- made by tools/generate: meanings
 pub mod Mnt
 pub mod Portmap

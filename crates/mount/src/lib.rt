@@ -3,6 +3,7 @@
 // `read_X(src, at)` reads an X of a message from a place on; `write_X(.., out, at)` writes one into a buffer from a place on. One that has
 // pieces is written from the source that they are of. A type has the RFC's name.
 // Every input gets an answer. What the answers mean stands in specs/Meaning.
+pub mod asking;
 pub mod export;
 pub mod group;
 pub mod path;
@@ -11,6 +12,9 @@ pub mod mnt;
 pub mod portmap;
 // end of modules
 
+pub use asking::Asked;
+pub use asking::answer;
+pub use asking::ask;
 pub use export::NextExport;
 pub use export::NextExportRead;
 pub use export::exportnode;
