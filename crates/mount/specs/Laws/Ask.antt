@@ -60,7 +60,7 @@ use Rattle.rpcwire.specs.declared.choice.Choice.{Choice}
 use Rattle.rpcwire.specs.declared.choice.Choice.the-variants as Choice
 use Rattle.mount.specs.Meaning.Path.{dirpath}
 use Rattle.mount.specs.Meaning.Portmap.{port-mapping, viewMapping}
-use Rattle.mount.specs.Meaning.Ask.{Turn, refuse, reply, silence, hand-over, mnt, umnt, export, getport, Due, Said, mountServes, portmapServes, pathAt, mappingAt, taking, inVersion, mountProcedure, portmapProcedure, handedOn, valueOf, xidOf, after, due, HandedOver, Outcome, outcome, size, replying, carriedOut, Asks, Leaves, TurnPromised}
+use Rattle.mount.specs.Meaning.Ask.{refuse, reply, silence, hand-over, mnt, umnt, export, getport, Due, Said, mountServes, portmapServes, pathAt, mappingAt, taking, inVersion, mountProcedure, portmapProcedure, handedOn, valueOf, xidOf, after, due, HandedOver, Outcome, outcome, size, replying, carriedOut, Asks, Leaves, TurnPromised}
 use Rattle.mount.specs.declared.portmap.mapping.{mapping}
 use Rattle.mount.specs.declared.portmap.MappingRead.{MappingRead}
 use Rattle.mount.specs.declared.portmap.MappingRead.the-variants as Mapping
@@ -82,15 +82,16 @@ module _ (x : ℕ) where
   pub mismatch-size : (v : ℕ) → size (progMismatch x v) ≡ 32
   mismatch-size v = ap length (prog-mismatch-bytes [] x v)
 
-module _ (x : ℕ) (m : «rpc_msg») where
-  pub success-sends : m ≡ success x → Sendable m
-  success-sends e = rw e (record { whole = accepted-with-inside [] x _; small = omega (arith, success-size x) })
+accepted-small : (x : ℕ) (b : «accept_body») → size (acceptedWith x b) ≤ most
+unfolding word number opaque pieceHeld auth-flavor opaque-auth mismatch-info accept-body-of accepted-reply-of reply-body-of rpc-body-of rpc-msg-of
+accepted-small x SUCCESS = omega arith
+accepted-small x «PROG_UNAVAIL» = omega arith
+accepted-small x («PROG_MISMATCH» i) = omega arith
+accepted-small x «PROC_UNAVAIL» = omega arith
+accepted-small x «GARBAGE_ARGS» = omega arith
 
-  pub unavail-sends : m ≡ procUnavail x → Sendable m
-  unavail-sends e = rw e (record { whole = accepted-with-inside [] x _; small = omega (arith, unavail-size x) })
-
-  pub mismatch-sends : (v : ℕ) → m ≡ progMismatch x v → Sendable m
-  mismatch-sends v e = rw e (record { whole = accepted-with-inside [] x _; small = omega (arith, mismatch-size x v) })
+pub accepted-sends : (x : ℕ) (b : «accept_body») (m : «rpc_msg») → m ≡ acceptedWith x b → Sendable m
+accepted-sends x b m e = rw e (record { whole = accepted-with-inside [] x b; small = accepted-small x b })
 
 -- what the writer of a message says and leaves
 abbrev saidOf : Written → Said
@@ -367,6 +368,18 @@ module _ (s : List ℕ) (seen : Bool) (h : Bytes s) where
 
   pub handed-over : {p v f : ℕ} {a : Option «auth_unix»} {n : ℕ} → decided crate s seen ≡ choice.hand-over p v f a n → HandedOver s n
   handed-over e = subst (Known s) e known
+
+-- so its arguments begin in the message, and 3 and 9 are never said of them
+module _ (s : List ℕ) (h : Bytes s) {n : ℕ} (t : HandedOver s n) where
+  pub in-message : (length s ≤ most) × (n ≤ length s)
+  in-message =
+      let a : Answers rpc-msg s 0 (took (t .message) n (t .plain)) = record { is = sym (t .reads); bytes = h } in (
+        opened-took s 0 (rpc-msg .held .read s 0) (sym (t .reads)) .1,
+        kept rpc-msg .within (record { source = s; place = 0; value = t .message; next = n; plain = t .plain; answers = a }) .1,
+      )
+
+  pub read-there : {A : Type 0} (y : Answer A) → opened s n y ≡ y
+  read-there y = opened-in s n y (in-message .0) (in-message .1)
 
 -- ---- the answer, by that of `choose`
 
