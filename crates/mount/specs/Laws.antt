@@ -2,6 +2,7 @@
 pub mod Path
 pub mod Group
 pub mod Export
+pub mod Steps
 pub mod Ask
 pub mod One
 -- made by tools/generate: laws

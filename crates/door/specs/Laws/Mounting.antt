@@ -1,0 +1,51 @@
+-- What the proofs of the exported functions about mounts and ports cite.
+-- Assumes nothing.
+use mathlib.Core.Path.{_≡_, refl, sym, ap}
+use mathlib.Core.Bool.{Bool, not, cond}
+use mathlib.Core.Option.{Option}
+use mathlib.Core.List.{List, _∷_}
+use Prim.Native.Nat.{ℕ, _+_, _≤_, _<_}
+use native.Mathlib.Omega.{arith}
+use lib.Dec.{eqb}
+use lib.ListN.{length}
+use Rattle.xdr.specs.Meaning.Answer.{Answer, took, Written}
+use Rattle.xdr.specs.Meaning.Format.{Format}
+use Rattle.xdr.specs.Meaning.Within.{WritesWithin}
+use Rattle.mount.specs.Meaning.Ask.{Said, Asks}
+use Rattle.xdr.specs.declared.piece.Piece.{Piece}
+use Rattle.door.specs.Meaning.Figures.{Shows, Says}
+use Rattle.door.specs.Meaning.Exports.{wroteCode, wroteFigures}
+use Rattle.door.specs.Meaning.Values.{readCode, readFigures, ValueCalled}
+use Rattle.door.specs.Laws.Values.{value-told}
+use Rattle.door.specs.Meaning.Mounting.{askedCode, askedFigures, AskCalled, WithinCalled}
+
+module _ (s : List ℕ) (seen : ℕ) (o i : List ℕ) where
+  pub ask-short : length i < 13 → AskCalled s seen o i 254 o i
+  ask-short h = record { room = λ g. absurd (omega arith); short = λ g. (refl, refl, refl) }
+
+  pub ask-told : 13 ≤ length i → {c : Said} {r : ℕ} {o′ i′ : List ℕ} → Says askedCode askedFigures c i r i′ → Asks s (not (eqb seen 0)) o c o′
+      → AskCalled s seen o i r o′ i′
+  ask-told h t c =
+      record {
+        room = λ g. record { said = _; asks = c; number = t .number; list = t .shown .list };
+        short = λ g. absurd (omega arith);
+      }
+
+module _ {M : Type 0} (F : Format M Piece) (over : M → Option ℕ) (s : List ℕ) (x : Piece) (start : ℕ) (o i : List ℕ) where
+  pub within-short : length i < 1 → WithinCalled F over s x start o i 254 o i
+  within-short h = record { room = λ g. absurd (omega arith); short = λ g. (refl, refl, refl) }
+
+  pub within-told : 1 ≤ length i → {w : Written} {r : ℕ} {o′ i′ : List ℕ} → Says wroteCode wroteFigures w i r i′ → WritesWithin F over s x start o w o′
+      → WithinCalled F over s x start o i r o′ i′
+  within-told h t c =
+      record {
+        room = λ g. record { answer = _; writes = c; number = t .number; list = t .shown .list };
+        short = λ g. absurd (omega arith);
+      }
+
+-- a value whose figures a function shows by its cases
+module _ {S R : Type 0} (view : R → Answer S) (Answered : Answer S → Type 0) (f : S → List ℕ) (k : ℕ) (i : List ℕ) where
+  pub value-shows : 2 + k ≤ length i → {c t : R} {i′ : List ℕ} {v : S} {n : ℕ} {b : Bool} → Answered (view c) → c ≡ t
+      → Shows (λ x. n ∷ cond b 1 0 ∷ f x) v i i′ → view t ≡ took v n b → ValueCalled Answered f k i 0 i′
+  value-shows h {v = v} {n = n} {b = b} a e s m =
+      value-told view Answered f k i h a e (s .shown) (sym (ap (readFigures f k) m)) (sym (ap readCode m))
