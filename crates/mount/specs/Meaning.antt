@@ -4,6 +4,7 @@ pub mod Group
 pub mod Export
 pub mod Ask
 pub mod Views
+pub mod Same
 -- made by tools/generate: meanings
 pub mod Mnt
 pub mod Portmap

@@ -7,6 +7,7 @@ pub mod asking;
 pub mod export;
 pub mod group;
 pub mod path;
+pub mod same;
 // made by tools/generate: modules
 pub mod mnt;
 pub mod portmap;
@@ -29,6 +30,8 @@ pub use path::MNTPATHLEN;
 pub use path::dirpath;
 pub use path::read_dirpath;
 pub use path::write_dirpath;
+pub use same::Compared;
+pub use same::same_exports;
 // made by tools/generate: names
 pub use mnt::Mountres3Read;
 pub use mnt::Mountstat3Read;
