@@ -10,13 +10,14 @@ ghost use Rattle.mount.specs.Meaning.Export.{nodes, longList};
 ghost use Rattle.mount.specs.Meaning.Views.{viewAsked};
 ghost use Rattle.door.specs.Meaning.Figures.{Shown, Shows, Says};
 ghost use Rattle.door.specs.Meaning.Values.{pieceFigures};
-ghost use Rattle.door.specs.Meaning.Mounting.{turnFigures, askedCode, askedFigures, AskCalled, ExportsCalled, nextExportFigures, NextExportCalled, nextGroupFigures, NextGroupCalled, WithinCalled};
+ghost use Rattle.door.specs.Meaning.Mounting.{turnFigures, askedCode, askedFigures, AskCalled, ExportsCalled, nextExportFigures, NextExportCalled, nextGroupFigures, NextGroupCalled, WithinCalled, comparedCode, comparedFigures, SameCalled};
 use crate::exports::SHORT_LIST;
 use crate::exports::tell_wrote;
 use crate::figures::bit;
 use crate::figures::put_figures;
 use crate::values_read::tell_refused;
 use mount::Asked;
+use mount::Compared;
 use mount::NextExport;
 use mount::NextExportRead;
 use mount::NextGroup;
@@ -25,6 +26,7 @@ use mount::ask;
 use mount::next_export;
 use mount::next_group;
 use mount::read_exports;
+use mount::same_exports;
 use mount::write_dirpath;
 use mount::write_exports;
 use rpcwire::Caller;
@@ -283,4 +285,56 @@ pub extern "C" fn yugerzat_write_exports(
     }
     let w = write_exports(src, Piece { at: place, count }, out, start);
     tell_wrote(w, info)
+}
+
+fn tell_compared(c: Compared, info: &mut [u64]) -> u32
+    requires { ⌜ 1 ≤ length (now info) ⌝ }
+    ensures { λ r. ⌜ Says comparedCode comparedFigures c (now (info .entry)) r (now (info .exit)) ⌝ }
+{
+    match c {
+        Compared::Refused(r) => {
+            put_figures(&[], 1, info);
+            r.number()
+        }
+        Compared::Same => {
+            put_figures(&[1], 0, info);
+            0
+        }
+        Compared::Different => {
+            put_figures(&[], 1, info);
+            0
+        }
+    }
+}
+
+// Compares two export lists, each of so many entries behind a place of its own buffer. 0: info holds 1 if both mean the same list, whatever
+// their flags and padding, and else 0. 3, 4, 10: one of them is no list that could be written.
+#[no_mangle]
+pub extern "C" fn yugerzat_same_exports(
+    a: &[u8],
+    a_place: usize,
+    a_count: usize,
+    b: &[u8],
+    b_place: usize,
+    b_count: usize,
+    info: &mut [u64],
+) -> u32
+    ensures { λ r. ⌜ SameCalled (now (a .entry)) (record { at = «a_place»; count = «a_count» }) (now (b .entry)) (record { at = «b_place»; count = «b_count» }) (now (info .entry)) r (now (info .exit)) ⌝ }
+{
+    if info.len() < 1 {
+        return SHORT_LIST;
+    }
+    let c = same_exports(
+        a,
+        Piece {
+            at: a_place,
+            count: a_count,
+        },
+        b,
+        Piece {
+            at: b_place,
+            count: b_count,
+        },
+    );
+    tell_compared(c, info)
 }

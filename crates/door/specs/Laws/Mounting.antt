@@ -13,11 +13,14 @@ use Rattle.xdr.specs.Meaning.Format.{Format}
 use Rattle.xdr.specs.Meaning.Within.{WritesWithin}
 use Rattle.mount.specs.Meaning.Ask.{Said, Asks}
 use Rattle.xdr.specs.declared.piece.Piece.{Piece}
-use Rattle.door.specs.Meaning.Figures.{Shows, Says}
+use Rattle.door.specs.Meaning.Figures.{Shown, Shows, Says}
+use Rattle.door.specs.Laws.Figures.{at-case, shown-case}
+use Rattle.mount.specs.Meaning.Same.{Compares}
+use Rattle.mount.specs.declared.same.Compared.{Compared}
 use Rattle.door.specs.Meaning.Exports.{wroteCode, wroteFigures}
 use Rattle.door.specs.Meaning.Values.{readCode, readFigures, ValueCalled}
 use Rattle.door.specs.Laws.Values.{value-told}
-use Rattle.door.specs.Meaning.Mounting.{askedCode, askedFigures, AskCalled, WithinCalled}
+use Rattle.door.specs.Meaning.Mounting.{askedCode, askedFigures, AskCalled, WithinCalled, comparedCode, comparedFigures, SameCalled}
 
 module _ (s : List ℕ) (seen : ℕ) (o i : List ℕ) where
   pub ask-short : length i < 13 → AskCalled s seen o i 254 o i
@@ -49,3 +52,18 @@ module _ {S R : Type 0} (view : R → Answer S) (Answered : Answer S → Type 0)
       → Shows (λ x. n ∷ cond b 1 0 ∷ f x) v i i′ → view t ≡ took v n b → ValueCalled Answered f k i 0 i′
   value-shows h {v = v} {n = n} {b = b} a e s m =
       value-told view Answered f k i h a e (s .shown) (sym (ap (readFigures f k) m)) (sym (ap readCode m))
+
+module _ (s : List ℕ) (x : Piece) (t : List ℕ) (y : Piece) (i : List ℕ) where
+  pub same-short : length i < 1 → SameCalled s x t y i 254 i
+  same-short h = record { room = λ g. absurd (omega arith); short = λ g. (refl, refl) }
+
+  pub same-told : (c : Compared) (r : ℕ) (i′ : List ℕ) → 1 ≤ length i → Says comparedCode comparedFigures c i r i′ → Compares s x t y c → SameCalled s x t y i r i′
+  same-told c r i′ h u d =
+      record {
+        room = λ g. record { answer = c; compares = d; number = u .number; list = u .shown .list };
+        short = λ g. absurd (omega arith);
+      }
+
+-- a comparison's answer, by its case
+pub says-compared : {x t : Compared} {f i i′ : List ℕ} {r : ℕ} → x ≡ t → Shown f i i′ → f ≡ comparedFigures t → r ≡ comparedCode t → Says comparedCode comparedFigures x i r i′
+says-compared e s h n = record { number = at-case comparedCode e n; shown = shown-case comparedFigures e s h }

@@ -16,6 +16,9 @@ use Rattle.rpc.specs.declared.auth.auth_unix.{«auth_unix»}
 use Rattle.mount.specs.Meaning.Group.{next-group}
 use Rattle.mount.specs.Meaning.Export.{exports, next-export}
 use Rattle.mount.specs.Meaning.Ask.{Said, refuse, reply, silence, hand-over, mnt, umnt, export, getport, Asks}
+use Rattle.mount.specs.Meaning.Same.{Compares}
+use Rattle.mount.specs.declared.same.Compared.{Compared}
+use Rattle.mount.specs.declared.same.Compared.the-variants as compared
 use Rattle.mount.specs.declared.export.NextExport.{NextExport}
 use Rattle.mount.specs.declared.export.NextExport.the-variants as nextExportIs
 use Rattle.mount.specs.declared.group.NextGroup.{NextGroup}
@@ -86,3 +89,24 @@ NextGroupCalled s at = ValueCalled (Answers next-group s at) nextGroupFigures 3
 pub record WithinCalled {M : Type 0} (F : Format M Piece) (over : M → Option ℕ) (s : List ℕ) (x : Piece) (start : ℕ) (o i : List ℕ) (r : ℕ) (o′ i′ : List ℕ) : Type 0 where
   pub room : 1 ≤ length i → WrittenTold (λ y w o″. WritesWithin F over s y start o w o″) x i r o′ i′
   pub short : length i < 1 → (r ≡ 254) × (o′ ≡ o) × (i′ ≡ i)
+
+-- `yugerzat_same_exports`: 1 for the same list, 0 for another
+abbrev pub comparedCode : Compared → ℕ
+comparedCode (compared.Refused r) = numberOf r
+comparedCode compared.Same = 0
+comparedCode compared.Different = 0
+
+abbrev pub comparedFigures : Compared → List ℕ
+comparedFigures (compared.Refused r) = 0 ∷ []
+comparedFigures compared.Same = 1 ∷ []
+comparedFigures compared.Different = 0 ∷ []
+
+pub record SameTold (s : List ℕ) (x : Piece) (t : List ℕ) (y : Piece) (i : List ℕ) (r : ℕ) (i′ : List ℕ) : Type 0 where
+  pub answer : Compared
+  pub compares : Compares s x t y answer
+  pub number : r ≡ comparedCode answer
+  pub list : i′ ≡ sets i 0 (comparedFigures answer)
+
+pub record SameCalled (s : List ℕ) (x : Piece) (t : List ℕ) (y : Piece) (i : List ℕ) (r : ℕ) (i′ : List ℕ) : Type 0 where
+  pub room : 1 ≤ length i → SameTold s x t y i r i′
+  pub short : length i < 1 → (r ≡ 254) × (i′ ≡ i)
