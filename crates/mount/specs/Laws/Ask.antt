@@ -230,6 +230,15 @@ module _ (s : List ℕ) (x : ℕ) (a : Option «auth_unix») (n : ℕ) (o : List
   unfolding handedOn
   to-another e = sym (rw (ne-eqb p 100005 (e .0 .1), ne-eqb p 100000 (e .1)))
 
+  -- another version gets 32 bytes, whatever the procedure is
+  pub mount-mismatch : (v ≡ mountServes → ⊥) → handedOn s x a n 100005 v f ≡ reply (progMismatch x mountServes)
+  unfolding handedOn inVersion
+  mount-mismatch h = rw (ne-eqb v mountServes h)
+
+  pub portmap-mismatch : (v ≡ portmapServes → ⊥) → handedOn s x a n 100000 v f ≡ reply (progMismatch x portmapServes)
+  unfolding handedOn inVersion
+  portmap-mismatch h = rw (ne-eqb v portmapServes h)
+
 pub said-held : {r t : Outcome} → r ≡ t → (r .said ≡ t .said) × (r .held ≡ t .held)
 said-held e = (ap (λ (r : Outcome). r .said) e, ap (λ (r : Outcome). r .held) e)
 
