@@ -149,6 +149,17 @@ pub extern "C" fn yugerzat_ask(message: &[u8], seen: u32, out: &mut [u8], info: 
     tell_asked(c, info)
 }
 
+fn put_list(v: Piece, next: usize, plain: bool, info: &mut [u64])
+    requires { ⌜ 4 ≤ length (now info) ⌝ }
+    ensures { λ _. ⌜ Shown (next ∷ cond plain 1 0 ∷ pieceFigures v) (now (info .entry)) (now (info .exit)) ⌝ }
+{
+    put_figures(
+        &[next as u64, bit(plain), v.at as u64, v.count as u64],
+        0,
+        info,
+    );
+}
+
 // The figures of an export list: the place of its first flag, and the count of its entries.
 #[no_mangle]
 pub extern "C" fn yugerzat_read_exports(src: &[u8], at: usize, info: &mut [u64]) -> u32
@@ -161,11 +172,7 @@ pub extern "C" fn yugerzat_read_exports(src: &[u8], at: usize, info: &mut [u64])
     match v {
         PieceRead::Refused(r) => tell_refused(r, 2, info),
         PieceRead::Took { value, next, plain } => {
-            put_figures(
-                &[next as u64, bit(plain), value.at as u64, value.count as u64],
-                0,
-                info,
-            );
+            put_list(value, next, plain, info);
             0
         }
     }
@@ -173,7 +180,7 @@ pub extern "C" fn yugerzat_read_exports(src: &[u8], at: usize, info: &mut [u64])
 
 fn put_next_export(v: NextExport, next: usize, plain: bool, info: &mut [u64])
     requires { ⌜ 7 ≤ length (now info) ⌝ }
-    ensures { λ _. ⌜ Shows (λ x. next ∷ cond plain 1 0 ∷ nextExportFigures x) v (now (info .entry)) (now (info .exit)) ⌝ }
+    ensures { λ _. ⌜ Shown (next ∷ cond plain 1 0 ∷ nextExportFigures v) (now (info .entry)) (now (info .exit)) ⌝ }
 {
     match v {
         NextExport::End => put_figures(&[next as u64, bit(plain)], 5, info),
@@ -218,7 +225,7 @@ pub extern "C" fn yugerzat_next_export(src: &[u8], at: usize, info: &mut [u64]) 
 
 fn put_next_group(v: NextGroup, next: usize, plain: bool, info: &mut [u64])
     requires { ⌜ 5 ≤ length (now info) ⌝ }
-    ensures { λ _. ⌜ Shows (λ x. next ∷ cond plain 1 0 ∷ nextGroupFigures x) v (now (info .entry)) (now (info .exit)) ⌝ }
+    ensures { λ _. ⌜ Shown (next ∷ cond plain 1 0 ∷ nextGroupFigures v) (now (info .entry)) (now (info .exit)) ⌝ }
 {
     match v {
         NextGroup::End => put_figures(&[next as u64, bit(plain)], 3, info),

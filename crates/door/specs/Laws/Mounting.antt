@@ -1,25 +1,23 @@
 -- What the proofs of the exported functions about mounts and ports cite.
 -- Assumes nothing.
-use mathlib.Core.Path.{_≡_, refl, sym, ap}
-use mathlib.Core.Bool.{Bool, not, cond}
+use mathlib.Core.Path.{_≡_, refl}
+use mathlib.Core.Bool.{not}
 use mathlib.Core.Option.{Option}
 use mathlib.Core.List.{List, _∷_}
-use Prim.Native.Nat.{ℕ, _+_, _≤_, _<_}
+use Prim.Native.Nat.{ℕ, _≤_, _<_}
 use native.Mathlib.Omega.{arith}
 use lib.Dec.{eqb}
 use lib.ListN.{length}
-use Rattle.xdr.specs.Meaning.Answer.{Answer, took, Written}
+use Rattle.xdr.specs.Meaning.Answer.{Written}
 use Rattle.xdr.specs.Meaning.Format.{Format}
 use Rattle.xdr.specs.Meaning.Within.{WritesWithin}
 use Rattle.mount.specs.Meaning.Ask.{Said, Asks}
 use Rattle.xdr.specs.declared.piece.Piece.{Piece}
-use Rattle.door.specs.Meaning.Figures.{Shown, Shows, Says}
+use Rattle.door.specs.Meaning.Figures.{Shown, Says}
 use Rattle.door.specs.Laws.Figures.{at-case, shown-case}
 use Rattle.mount.specs.Meaning.Same.{Compares}
 use Rattle.mount.specs.declared.same.Compared.{Compared}
 use Rattle.door.specs.Meaning.Exports.{wroteCode, wroteFigures}
-use Rattle.door.specs.Meaning.Values.{readCode, readFigures, ValueCalled}
-use Rattle.door.specs.Laws.Values.{value-told}
 use Rattle.door.specs.Meaning.Mounting.{askedCode, askedFigures, AskCalled, WithinCalled, comparedCode, comparedFigures, SameCalled}
 
 module _ (s : List ℕ) (seen : ℕ) (o i : List ℕ) where
@@ -46,12 +44,9 @@ module _ {M : Type 0} (F : Format M Piece) (over : M → Option ℕ) (s : List �
         short = λ g. absurd (omega arith);
       }
 
--- a value whose figures a function shows by its cases
-module _ {S R : Type 0} (view : R → Answer S) (Answered : Answer S → Type 0) (f : S → List ℕ) (k : ℕ) (i : List ℕ) where
-  pub value-shows : 2 + k ≤ length i → {c t : R} {i′ : List ℕ} {v : S} {n : ℕ} {b : Bool} → Answered (view c) → c ≡ t
-      → Shows (λ x. n ∷ cond b 1 0 ∷ f x) v i i′ → view t ≡ took v n b → ValueCalled Answered f k i 0 i′
-  value-shows h {v = v} {n = n} {b = b} a e s m =
-      value-told view Answered f k i h a e (s .shown) (sym (ap (readFigures f k) m)) (sym (ap readCode m))
+-- the figures of a value behind the place and the mark, by its case
+pub shown-value : {A : Type 0} (f : A → List ℕ) {x t : A} {n p : ℕ} {g i i′ : List ℕ} → x ≡ t → Shown g i i′ → g ≡ n ∷ p ∷ f t → Shown (n ∷ p ∷ f x) i i′
+shown-value f {n = n} {p = p} e s h = shown-case (λ z. n ∷ p ∷ f z) e s h
 
 module _ (s : List ℕ) (x : Piece) (t : List ℕ) (y : Piece) (i : List ℕ) where
   pub same-short : length i < 1 → SameCalled s x t y i 254 i

@@ -1,6 +1,5 @@
 use borrow.Author.Needs.{needs}
 use Rattle.xdr.specs.Meaning.Views.{viewPiece}
-use Rattle.door.specs.Laws.Figures.{listed}
 use Rattle.door.specs.Laws.Values.{value-short, value-told}
 use Rattle.door.proofs.mounting.yugerzat_read_exports.Statement.{statement}
 use Rattle.door.proofs.mounting.yugerzat_read_exports.Tie as tie
@@ -10,4 +9,4 @@ yugerzat-read-exports-spec =
     tie.close
     (tie.spec
     (λ c. search (value-short viewPiece, needs)) (search needs) (search needs) (search needs) (search needs) (search needs) (search needs)
-    (λ c. search (value-told viewPiece, needs)) (search needs) (λ c. search (value-told viewPiece, listed, needs)))
+    (λ c. search (value-told viewPiece, needs)) (search needs) (λ c. search (value-told viewPiece, needs)))
