@@ -5,6 +5,7 @@ pub mod Export
 pub mod Steps
 pub mod Ask
 pub mod One
+pub mod Pairs
 pub mod Same
 -- made by tools/generate: laws
 pub mod Mnt

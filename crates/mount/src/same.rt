@@ -4,7 +4,7 @@ ghost use mathlib.Core.Bool.{true};
 ghost use Rattle.xdr.specs.Meaning.Formats.{bytes};
 ghost use Rattle.mount.specs.Meaning.Group.{groups, next-group};
 ghost use Rattle.mount.specs.Meaning.Export.{node, nodes, next-node};
-ghost use Rattle.mount.specs.Meaning.Same.{Alike, worse, standingOf, Compares};
+ghost use Rattle.mount.specs.Meaning.Same.{Alike, withCount, worse, standingOf, Compares};
 use crate::export::NextExport;
 use crate::export::NextExportRead;
 use crate::export::Walked;
@@ -31,6 +31,15 @@ pub enum Standing {
     Within,
 }
 
+fn with_count(count: usize, n: usize, found: Standing) -> Standing
+    ensures { λ r. ⌜ r ≡ withCount count n found ⌝ }
+{
+    if count == n {
+        return found;
+    }
+    Standing::Outside
+}
+
 fn stands(src: &[u8], x: Piece) -> Standing
     ensures { λ r. ⌜ r ≡ standingOf (now (src .entry)) x ⌝ }
 {
@@ -42,20 +51,8 @@ fn stands(src: &[u8], x: Piece) -> Standing
             count,
             next: _,
             plain: _,
-        } => {
-            if count == n {
-                Standing::Within
-            } else {
-                Standing::Outside
-            }
-        }
-        Walked::Over { count, place: _ } => {
-            if count == n {
-                Standing::Long
-            } else {
-                Standing::Outside
-            }
-        }
+        } => with_count(count, n, Standing::Within),
+        Walked::Over { count, place: _ } => with_count(count, n, Standing::Long),
     }
 }
 

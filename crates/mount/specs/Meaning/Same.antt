@@ -5,7 +5,7 @@ use mathlib.Core.Bool.{Bool, true, false, cond, _&&_}
 use mathlib.Core.Option.{Option, none, some}
 use mathlib.Core.List.{List}
 use Prim.Native.Nat.{ℕ}
-use lib.Dec.{leb}
+use lib.Dec.{leb, eqb}
 use lib.ListN.{length}
 use Rattle.xdr.specs.Meaning.Answer.{most}
 use Rattle.xdr.specs.Meaning.Bytes.{Bytes}
@@ -65,6 +65,10 @@ standingBy inside short = cond inside (cond short standing.Within standing.Long)
 
 abbrev pub standingOf : List ℕ → Piece → Standing
 standingOf s x = standingBy (isHeld s x) (isShort s x)
+
+-- what was found of a list, if its count is the one that was read
+abbrev pub withCount : ℕ → ℕ → Standing → Standing
+withCount c n found = cond (eqb c n) found standing.Outside
 
 abbrev pub worse : Standing → Standing → Standing
 worse standing.Outside v = standing.Outside

@@ -2,7 +2,8 @@ use borrow.Author.Needs.{needs}
 use Prim.Native.Nat.{_-_}
 use lib.ListN.{length}
 use Rattle.xdr.specs.Meaning.Formats.{bytes}
-use Rattle.mount.specs.Laws.Same.{Along, groupSteps, walk-starts, step-left, step-right, step-within, walk-differs, walk-ends, step-less, walk-on}
+use Rattle.mount.specs.Laws.Same.{groupSteps}
+use Rattle.mount.specs.Laws.Pairs.{Along, walk-starts, step-left, step-right, step-within, walk-differs, walk-ends, step-less, walk-on}
 use Rattle.mount.proofs.same.same_groups.Statement.{statement}
 use Rattle.mount.proofs.same.same_groups.Tie as tie
 

@@ -2,7 +2,8 @@ use borrow.Author.Needs.{needs}
 use Prim.Native.Nat.{_-_}
 use lib.ListN.{length}
 use Rattle.mount.specs.Meaning.Export.{node}
-use Rattle.mount.specs.Laws.Same.{Along, nodeSteps, walk-starts, step-left, step-right, step-within, walk-differs, walk-ends, step-less, walk-on}
+use Rattle.mount.specs.Laws.Same.{nodeSteps}
+use Rattle.mount.specs.Laws.Pairs.{Along, walk-starts, step-left, step-right, step-within, walk-differs, walk-ends, step-less, walk-on}
 use Rattle.mount.proofs.same.same_nodes.Statement.{statement}
 use Rattle.mount.proofs.same.same_nodes.Tie as tie
 
