@@ -31,6 +31,7 @@ pub enum Standing {
     Within,
 }
 
+// What was found of a list counts only if it has as many entries as were read.
 fn with_count(count: usize, n: usize, found: Standing) -> Standing
     ensures { λ r. ⌜ r ≡ withCount count n found ⌝ }
 {
@@ -71,6 +72,7 @@ fn both(u: Standing, v: Standing) -> Standing
     }
 }
 
+// Lengths first: a piece that is the front of another is not the same.
 fn same_bytes(a: &[u8], p: Piece, b: &[u8], q: Piece) -> bool
     requires { ⌜ bytes .held .inside (now a) p ≡ true ⌝ }
     requires { ⌜ bytes .held .inside (now b) q ≡ true ⌝ }
