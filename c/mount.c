@@ -320,7 +320,7 @@ static bool same_piece(struct yugerzat_piece one, struct yugerzat_piece other)
     return one.count == other.count && (one.count == 0 || memcmp(one.bytes, other.bytes, one.count) == 0);
 }
 
-/* What is laid by hand. If `odd` says so, true flags are other numbers now and then, and padding is not zero: `loose`. */
+/* What is laid by hand. If `odd` says so, true flags are other numbers at times, and padding is not zero: `loose`. */
 static uint8_t laid[BUFFER];
 static size_t laid_count;
 static bool odd, loose;

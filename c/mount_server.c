@@ -1,7 +1,7 @@
 /*
- * One box that answers for mounts and ports, in small: `answer` is what stands in a server's loop, message in, reply out.
- * It exports /theatre to two machines, and serves everything on port 2049. A client asks for the port, mounts, lists what
- * is exported, and prints what it hears.
+ * One box that answers for mounts and ports, in small: `answer` is what stands in a server's loop, message in, reply
+ * out. It exports /theatre to two machines, and serves everything on port 2049. A client asks for the port, mounts,
+ * lists what is exported, and prints what it hears.
  */
 #include <stdio.h>
 

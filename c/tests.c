@@ -1682,7 +1682,7 @@ static enum yugerzat_answer ask_by_message(const uint8_t *message, size_t count,
     return yugerzat_ask(message + first, count - first, 0, out, BUFFER, info, 13);
 }
 
-/* A call of a procedure, by each credential: what is asked, into no room at all; silence, if it came before; every cut. */
+/* A call of a procedure, by each credential: what is asked, even without room; silence, if it came before; every cut. */
 static void asked(enum yugerzat_answer answer, const char *procedure, const char *arguments, const uint64_t *first)
 {
     static const uint64_t callers[2][8] = {{0}, {1, 1, 40, 3, 2, 3, 56, 2}};
@@ -2016,8 +2016,8 @@ static void piece_limits(
 }
 
 /*
- * What is refused as a piece or for its path, in a source that is not too long: before room, after the start. In one that
- * is too long, that comes first.
+ * What is refused as a piece or for its path, in a source that is not too long: before room, after the start. In one
+ * that is too long, that comes first.
  */
 static void piece_refused(
     piece_writer *write, const uint8_t *source, size_t length, size_t at, size_t count, enum yugerzat_answer due)

@@ -416,11 +416,11 @@ enum {
  * ports (100000) too; `seen` is 0 where its call did not come before.
  *
  * YUGERZAT_HAND_OVER: it is a call for NFS (100003). YUGERZAT_SILENCE: the call was seen before.
- * YUGERZAT_MNT, YUGERZAT_UMNT, YUGERZAT_EXPORT (mount version 3), YUGERZAT_GETPORT (port mapper version 2): it is a call
- * of that procedure, and its arguments were read. out is untouched.
+ * YUGERZAT_MNT, YUGERZAT_UMNT, YUGERZAT_EXPORT (mount version 3), YUGERZAT_GETPORT (port mapper version 2): it is a
+ * call of that procedure, and its arguments were read. out is untouched.
  * YUGERZAT_REPLY: a reply to send back stands at the start of out. It has 32 bytes where mount or the port mapper is
- * called in another version (it names the one that is served), and else 24: the procedure is 0, which succeeds, or it is
- * none of these; or it is a reply of yugerzat_choose.
+ * called in another version (it names the one that is served), and else 24: the procedure is 0, which succeeds, or none
+ * of these; or it is a reply of yugerzat_choose.
  * Refusals: YUGERZAT_TOO_LONG, YUGERZAT_ENDS, YUGERZAT_UNDECLARED, YUGERZAT_REPLY_CAME, YUGERZAT_LONG_PATH, and
  * YUGERZAT_NO_ROOM where a reply is due and out is shorter than that. The first two figures are YUGERZAT_FIGURE_PLACE
  * and YUGERZAT_FIGURE_WANTING. All figures that have no meaning for the answer are 0.
@@ -429,9 +429,9 @@ YUGERZAT_MUST_USE enum yugerzat_answer yugerzat_ask(const uint8_t *message, size
     uint8_t *out, size_t out_len, uint64_t *info, size_t info_len);
 
 /*
- * LISTS OF EXPORTS, the results of EXPORT, are chains: every entry stands behind a flag that is true, and a flag that is
- * false ends the list. A list is two figures, the place of its first flag and the count of its entries. So are the
- * groups of an entry, a chain of names.
+ * LISTS OF EXPORTS, the results of EXPORT, are linked lists: every entry stands behind a flag that is true, and a flag
+ * that is false ends the list. A list is two figures, the place of its first flag and the count of its entries. So are
+ * the groups of an entry, a linked list of names.
  */
 enum {
     YUGERZAT_FIGURE_EXPORTS_AT = 2, /* as asked */
@@ -462,8 +462,8 @@ YUGERZAT_MUST_USE enum yugerzat_answer yugerzat_read_exports(
     const uint8_t *src, size_t src_len, size_t at, uint64_t *info, size_t info_len);
 
 /*
- * Reads what stands at a place of a list: its end, or an entry. A list that was read is walked from its own place on, by
- * YUGERZAT_FIGURE_NEXT of each entry. Refusals: those of yugerzat_read_exports.
+ * Reads what stands at a place of a list: its end, or an entry. A list that was read is walked from its own place on,
+ * by YUGERZAT_FIGURE_NEXT of each entry. Refusals: those of yugerzat_read_exports.
  */
 YUGERZAT_MUST_USE enum yugerzat_answer yugerzat_next_export(
     const uint8_t *src, size_t src_len, size_t at, uint64_t *info, size_t info_len);
@@ -484,8 +484,8 @@ YUGERZAT_MUST_USE enum yugerzat_answer yugerzat_write_exports(const uint8_t *sou
     size_t count, uint8_t *out, size_t out_len, size_t start, uint64_t *info, size_t info_len);
 
 /*
- * Whether two lists mean the same: the same paths with the same names, in the same order. Odd flags and dirty padding do
- * not matter. Refusals, with the figure 0: YUGERZAT_TOO_LONG, YUGERZAT_OUTSIDE, YUGERZAT_LONG_PATH, as in writing.
+ * Whether two lists mean the same: the same paths with the same names, in the same order. Odd flags and dirty padding
+ * do not matter. Refusals, with the figure 0: YUGERZAT_TOO_LONG, YUGERZAT_OUTSIDE, YUGERZAT_LONG_PATH, as in writing.
  */
 YUGERZAT_MUST_USE enum yugerzat_answer yugerzat_same_exports(const uint8_t *one, size_t one_len, size_t one_at,
     size_t one_count, const uint8_t *other, size_t other_len, size_t other_at, size_t other_count, uint64_t *info,

@@ -21,9 +21,9 @@
  *     yugerzat_put_rpc_msg(&header, out, sizeof out, 0, &writing);
  *     yugerzat_put_mountres3(&result, out, sizeof out, writing.after, &writing);
  *
- * PATHS have at most YUGERZAT_MNTPATHLEN bytes. A longer one is YUGERZAT_LONG_PATH: in reading, after all other refusals
- * of that message, and with the place of its length word; in writing without a place. Names and handles have no bound,
- * so what yugerzat.h says of plain holds here too: whoever passes messages on tests their counts.
+ * PATHS have at most YUGERZAT_MNTPATHLEN bytes. A longer one is YUGERZAT_LONG_PATH: in reading, after all other
+ * refusals of that message, and with the place of its length word; in writing without a place. Names and handles have
+ * no bound, so what yugerzat.h says of plain holds here too: whoever passes messages on tests their counts.
  *
  * LISTS OF EXPORTS are not copied out of a message either. A list has the address of its first flag, how many bytes it
  * has up to its end, and how many entries. yugerzat_take_export walks it.
@@ -381,10 +381,10 @@ struct yugerzat_asked {
  *
  * YUGERZAT_HAND_OVER: it is a call for NFS (100003).
  * YUGERZAT_MNT, YUGERZAT_UMNT, YUGERZAT_EXPORT, YUGERZAT_GETPORT: it is a call of that procedure, and asked has its
- * arguments. Nobody says whether these came plain; yugerzat_get_dirpath does. out is untouched.
- * YUGERZAT_REPLY: a reply to send back stands at the start of out. Mount or the port mapper was called in another version
- * than 3 or 2 (the reply has 32 bytes and names that one), or procedure 0 was, which succeeds, or one that is not served;
- * or it is a reply of yugerzat_choose_program.
+ * arguments; whether a path came plain, yugerzat_get_dirpath tells. out is untouched.
+ * YUGERZAT_REPLY: a reply to send back stands at the start of out. Mount or the port mapper was called in another
+ * version than 3 or 2 (the reply has 32 bytes and names that one), or procedure 0 was, which succeeds, or one that is
+ * not served; or it is a reply of yugerzat_choose_program.
  * YUGERZAT_SILENCE: the call was seen before.
  * Refusals: YUGERZAT_TOO_LONG, YUGERZAT_ENDS, YUGERZAT_UNDECLARED, YUGERZAT_REPLY_CAME, YUGERZAT_LONG_PATH, and
  * YUGERZAT_NO_ROOM where a reply is due and out is too short; lend it YUGERZAT_LONGEST_REPLY_BYTES, which is what

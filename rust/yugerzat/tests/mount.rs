@@ -1,5 +1,5 @@
-//! Mounts and ports: every answer of `ask`; paths at their bound; results, mappings and lists of exports as the RFCs lay them
-//! out, loose ones, every cut, every refusal, every failure.
+//! Mounts and ports: every answer of `ask`; paths at their bound; results, mappings and lists of exports as the RFCs lay
+//! them out, loose ones, every cut, every refusal, every failure.
 use std::collections::hash_map::DefaultHasher;
 use std::fmt::Debug;
 use std::hash::{Hash, Hasher};

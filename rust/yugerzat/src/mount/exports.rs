@@ -156,8 +156,8 @@ pub struct Export<'a> {
     pub groups: Groups<'a>,
 }
 
-/// A list of names in an [`Export`]: `groups`. It borrows the bytes of the message. Two are equal if they have the same names
-/// in the same order.
+/// A list of names in an [`Export`]: `groups`. It borrows the bytes of the message. Two are equal if they have the same
+/// names in the same order.
 #[derive(Clone, Copy)]
 pub struct Groups<'a> {
     /// The list, from its first flag to its end.
