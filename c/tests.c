@@ -1682,7 +1682,7 @@ static enum yugerzat_answer ask_by_message(const uint8_t *message, size_t count,
     return yugerzat_ask(message + first, count - first, 0, out, BUFFER, info, 13);
 }
 
-/* A call of a procedure, by each credential: what is asked, even without room; silence, if it came before; every cut. */
+/* A call of a procedure, by each credential: what is asked, even without room; silence if it came before; every cut. */
 static void asked(enum yugerzat_answer answer, const char *procedure, const char *arguments, const uint64_t *first)
 {
     static const uint64_t callers[2][8] = {{0}, {1, 1, 40, 3, 2, 3, 56, 2}};
