@@ -2217,7 +2217,21 @@ static void test_same_exports(void)
     list = around_path(BEFORE_PATH, 1025, END END, &count);
     CHECK(one_refused(list, count, 0, 2, YUGERZAT_LONG_PATH));
     CHECK(one_refused(list, count, 0, 1, YUGERZAT_OUTSIDE));
+    /* of two refusals the lower number, whichever list has it */
     memset(long_message, 0, sizeof long_message);
+    for (i = 0; i < 2; i++) {
+        fresh();
+        CHECK(yugerzat_same_exports(list, count, 0, 2 - i, list, count, 0, 1 + i, info, 1) == YUGERZAT_OUTSIDE &&
+              told(0));
+        fresh();
+        CHECK(yugerzat_same_exports(list, count, 0, 2 - i, long_message, YUGERZAT_LIMIT_BYTES + 1, 0, 0, info, 1) ==
+                  YUGERZAT_TOO_LONG &&
+              told(0));
+        fresh();
+        CHECK(yugerzat_same_exports(long_message, YUGERZAT_LIMIT_BYTES + 1, 0, 0, list, count, 0, 2 - i, info, 1) ==
+                  YUGERZAT_TOO_LONG &&
+              told(0));
+    }
     CHECK(one_refused(long_message, YUGERZAT_LIMIT_BYTES + 1, 0, 0, YUGERZAT_TOO_LONG));
     CHECK(one_refused(long_message, YUGERZAT_LIMIT_BYTES + 1, SIZE_MAX, 7, YUGERZAT_TOO_LONG));
     fresh();

@@ -485,7 +485,8 @@ YUGERZAT_MUST_USE enum yugerzat_answer yugerzat_write_exports(const uint8_t *sou
 
 /*
  * Whether two lists mean the same: the same paths with the same names, in the same order. Odd flags and dirty padding
- * do not matter. Refusals, with the figure 0: YUGERZAT_TOO_LONG, YUGERZAT_OUTSIDE, YUGERZAT_LONG_PATH, as in writing.
+ * do not matter. Refusals, with the figure 0: YUGERZAT_TOO_LONG, YUGERZAT_OUTSIDE, YUGERZAT_LONG_PATH, as in writing;
+ * the first of these that one of the lists has.
  */
 YUGERZAT_MUST_USE enum yugerzat_answer yugerzat_same_exports(const uint8_t *one, size_t one_len, size_t one_at,
     size_t one_count, const uint8_t *other, size_t other_len, size_t other_at, size_t other_count, uint64_t *info,
