@@ -727,6 +727,12 @@ static void test_long_paths(void)
         CHECK(!yugerzat_take_group(&groups, &name) && groups.count == 7);
         groups.length = 3;
         CHECK(!yugerzat_take_group(&groups, &name) && groups.count == 7 && !name.bytes);
+        /* .. and one that is less */
+        same_list.bytes = groups.bytes = bytes;
+        same_list.length = groups.length = count;
+        same_list.count = groups.count = 0;
+        CHECK(!yugerzat_take_export(&same_list, &node) && same_list.bytes == bytes && same_list.count == 0);
+        CHECK(!yugerzat_take_group(&groups, &name) && groups.bytes == bytes && groups.count == 0);
     }
 }
 
