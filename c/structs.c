@@ -36,11 +36,16 @@ static const struct {
     {YUGERZAT_FRAGMENT_TOO_LONG, 7, "a fragment is longer than the record buffer has room"},
     {YUGERZAT_REPLY_CAME, 8, "a reply where a call is due"},
     {YUGERZAT_PAST_END, 9, "a start place is past the end"},
+    {YUGERZAT_LONG_PATH, 10, "a path is above 1,024 bytes"},
     {YUGERZAT_HAND_OVER, 100, "a call for a program that is served"},
     {YUGERZAT_REPLY, 101, "a reply is to be sent"},
     {YUGERZAT_SILENCE, 102, "a call that came before gets no reply"},
     {YUGERZAT_MORE, 103, "the record is not complete"},
     {YUGERZAT_COMPLETE, 104, "the record is complete"},
+    {YUGERZAT_MNT, 105, "a call of MNT"},
+    {YUGERZAT_UMNT, 106, "a call of UMNT"},
+    {YUGERZAT_EXPORT, 107, "a call of EXPORT"},
+    {YUGERZAT_GETPORT, 108, "a call of GETPORT"},
     {YUGERZAT_WIDE_NUMBER, 253, "a number to be written is too large or not declared"},
     {YUGERZAT_SHORT_LIST, 254, "a list of figures is too short"},
     {YUGERZAT_UNKNOWN_KIND, 255, "there is no kind of that number"},
@@ -48,7 +53,7 @@ static const struct {
 
 static void test_names(void)
 {
-    static const uint32_t none[] = {10, 99, 105, 252, 256, 0x7FFFFFFF, 0xFFFFFFFF};
+    static const uint32_t none[] = {11, 99, 109, 252, 256, 0x7FFFFFFF, 0xFFFFFFFF};
     static const char *const wrong[] = {"", "?", "fattr", "fattr33", "FATTR3", " fattr3", "fattr3 ", "post-op-attr"};
     enum yugerzat_kind kind;
     size_t i;

@@ -121,6 +121,22 @@ static inline bool out_is(size_t place, const char *due)
     return memcmp(out + place, b.at, b.count) == 0;
 }
 
+/* Bytes that hold a path of a length, all 'p', between others; they stand until the next call. */
+static inline const uint8_t *around_path(const char *before, size_t length, const char *behind, size_t *count)
+{
+    static uint8_t text[BUFFER];
+    struct bytes first = hex(before), last = hex(behind);
+    size_t pad = (4 - length % 4) % 4;
+    memcpy(text, first.at, first.count);
+    yugerzat_set_word(text + first.count, 0, (uint32_t)length);
+    memset(text + first.count + 4, 'p', length);
+    memset(text + first.count + 4 + length, 0, pad);
+    *count = first.count + 4 + length + pad;
+    memcpy(text + *count, last.at, last.count);
+    *count += last.count;
+    return text;
+}
+
 /* The bytes of a message behind five others. */
 static inline struct bytes behind_five(const struct bytes *b)
 {
@@ -145,7 +161,8 @@ static inline bool refusal_of(const struct yugerzat_refusal *refusal, enum yuger
 {
     switch (answer) {
     case YUGERZAT_ENDS: return refusal_is(refusal, answer, (size_t)told[0], told[1], 0);
-    case YUGERZAT_UNDECLARED: return refusal_is(refusal, answer, (size_t)told[0], 0, 0);
+    case YUGERZAT_UNDECLARED:
+    case YUGERZAT_LONG_PATH: return refusal_is(refusal, answer, (size_t)told[0], 0, 0);
     default: return refusal_is(refusal, answer, YUGERZAT_NO_PLACE, 0, 0);
     }
 }

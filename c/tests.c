@@ -72,7 +72,11 @@ static bool went_on(enum yugerzat_answer answer, const struct bytes *b, uint64_t
     case YUGERZAT_DONE: return info[YUGERZAT_FIGURE_NEXT] == b->count;
     case YUGERZAT_UNDECLARED: return info[YUGERZAT_FIGURE_PLACE] == place && info[YUGERZAT_FIGURE_WANTING] == 0;
     case YUGERZAT_HAND_OVER:
-    case YUGERZAT_REPLY: return true;
+    case YUGERZAT_REPLY:
+    case YUGERZAT_MNT:
+    case YUGERZAT_UMNT:
+    case YUGERZAT_EXPORT:
+    case YUGERZAT_GETPORT: return true;
     case YUGERZAT_ENDS:
         if (info[YUGERZAT_FIGURE_PLACE] == b->count)
             return info[YUGERZAT_FIGURE_WANTING] == 4 || info[YUGERZAT_FIGURE_WANTING] == 8;
@@ -313,6 +317,11 @@ static void test_kinds(void)
     loose(YUGERZAT_KIND_CURRENT_REJECTED_REPLY, "00000007", 4, "00000000 00000000 00000000");
     loose(YUGERZAT_KIND_CURRENT_ACCEPTED_REPLY, "00000002 00000001 99000001 00000005", 16,
         "00000002 00000001 99000000 00000005");
+    loose(YUGERZAT_KIND_DIRPATH, "00000001 2F00FF00", 8, "00000001 2F000000");
+    loose(YUGERZAT_KIND_MOUNTRES3, "00000000 00000001 99000001 00000001 FFFFFFFF", 20,
+        "00000000 00000001 99000000 00000001 FFFFFFFF");
+    loose(YUGERZAT_KIND_EXPORTS, "80000000 00000001 2F000001 00000002 00000001 61FFFFFF 00000000 00000000", 32,
+        "00000001 00000001 2F000000 00000001 00000001 61000000 00000000 00000000");
 
     undeclared(YUGERZAT_KIND_MSG_TYPE, "00000002", 0);
     undeclared(YUGERZAT_KIND_REPLY_STAT, "00000002", 0);
@@ -329,6 +338,10 @@ static void test_kinds(void)
     undeclared(YUGERZAT_KIND_SET_ATIME, "00000003", 0);
     undeclared(YUGERZAT_KIND_SATTR3, "00000000 00000000 00000000 00000000 00000000 00000003", 20);
     undeclared(YUGERZAT_KIND_REJECTED_REPLY, "00000001 00000006", 4);
+    undeclared(YUGERZAT_KIND_MOUNTSTAT3, "00000003", 0);
+    undeclared(YUGERZAT_KIND_MOUNTSTAT3, "00002715", 0);
+    undeclared(YUGERZAT_KIND_MOUNTRES3, "00000006", 0);
+    undeclared(YUGERZAT_KIND_MOUNTRES3, "FFFFFFFF", 0);
 
     /* A message that ends inside an item, and what is wanting: of a word or eight bytes, .. */
     ends(YUGERZAT_KIND_U32, "", 0, 4);
@@ -355,6 +368,9 @@ static void test_kinds(void)
     ends(YUGERZAT_KIND_AUTH_UNIX, "00000001 00000003 616263", 4, 1);
     ends(YUGERZAT_KIND_AUTH_UNIX, "00000001 00000000 00000002 00000003 00000002 00000004 00", 16, 3);
     ends(YUGERZAT_KIND_RPC_MSG, "0000002A 00000000 00000002 000186A3 00000003 00000001 00000001 00000190 01", 28, 399);
+    ends(YUGERZAT_KIND_MOUNTRES3, "00000000 00000001 99000000 00000002 0000", 12, 6);
+    ends(YUGERZAT_KIND_EXPORTS, "00000001 00000401 2F", 4, 1027);
+    ends(YUGERZAT_KIND_EXPORTS, "00000001 00000000 00000000 00", 12, 3);
 
     /* Lengths that would pass the end of every number. */
     ends(YUGERZAT_KIND_OPAQUE, "FFFFFFFF", 0, 4294967296);
@@ -1639,6 +1655,594 @@ static void test_part(void)
     CHECK(yugerzat_part(out, 5, 0, 5, NULL, 0) == YUGERZAT_SHORT_LIST && all_untouched());
 }
 
+/* ---- yugerzat_ask */
+
+#define NULL_AUTH "00000000 00000000 00000000 00000000"
+#define UNIX_AUTH                                                                                        \
+    "00000001 00000020 00000001 00000003 61626300 00000002 00000003 00000002 00000004 00000005 00000000" \
+    "00000000"
+#define MOUNT_3 "0000002A 00000000 00000002 000186A5 00000003 "
+#define PORTMAP_2 "0000002A 00000000 00000002 000186A0 00000002 "
+#define MNT MOUNT_3 "00000001"
+#define UMNT MOUNT_3 "00000003"
+#define EXPORT MOUNT_3 "00000005"
+#define GETPORT PORTMAP_2 "00000003"
+#define PATH "00000005 2F657870 6F000000"
+#define MAPPING "000186A3 00000003 00000006 FFFFFFFF"
+
+static enum yugerzat_answer ask(const char *message, uint32_t seen, size_t room)
+{
+    struct bytes b = hex(message);
+    fresh();
+    return yugerzat_ask(b.at, b.count, seen, out, room, info, 13);
+}
+
+static enum yugerzat_answer ask_by_message(const uint8_t *message, size_t count, size_t first)
+{
+    return yugerzat_ask(message + first, count - first, 0, out, BUFFER, info, 13);
+}
+
+/* A call of a procedure, by each credential: what is asked, even without room; silence if it came before; every cut. */
+static void asked(enum yugerzat_answer answer, const char *procedure, const char *arguments, const uint64_t *first)
+{
+    static const uint64_t callers[2][8] = {{0}, {1, 1, 40, 3, 2, 3, 56, 2}};
+    static const char *const auths[] = {NULL_AUTH, UNIX_AUTH};
+    char message[500];
+    uint64_t due[13];
+    size_t i, k, ends;
+    for (i = 0; i < 2; i++) {
+        snprintf(message, sizeof message, "%s %s %s", procedure, auths[i], arguments);
+        of = message;
+        ends = hex(procedure).count + hex(auths[i]).count;
+        for (k = 0; k < 4; k++)
+            due[k] = first[k];
+        due[4] = answer == YUGERZAT_HAND_OVER ? 0 : ends + hex(arguments).count;
+        if (answer == YUGERZAT_MNT || answer == YUGERZAT_UMNT)
+            due[0] += ends;
+        if (answer == YUGERZAT_HAND_OVER)
+            due[3] += ends;
+        memcpy(due + 5, callers[i], sizeof callers[i]);
+        CHECK(ask(message, 0, 0) == answer && figures(13, due) && out_untouched_from(0));
+        CHECK(ask(message, 0, BUFFER) == answer && figures(13, due) && out_untouched_from(0));
+        CHECK(ask(message, 1, BUFFER) == YUGERZAT_SILENCE && refused_at(13, 0) && out_untouched_from(0));
+        CHECK(ask(message, 0xFFFFFFFF, 0) == YUGERZAT_SILENCE && refused_at(13, 0) && out_untouched_from(0));
+        cut(ask_by_message, answer, 13, message, 0);
+        /* what follows is not looked at */
+        snprintf(message, sizeof message, "%s %s %s EEFF", procedure, auths[i], arguments);
+        CHECK(ask(message, 0, BUFFER) == answer && figures(13, due) && out_untouched_from(0));
+        of = "";
+    }
+}
+
+/* A call that gets a reply: not by arguments, of which it has none. Into room that is just enough, and into less. */
+static void asked_reply(const char *procedure, const char *due)
+{
+    char message[500];
+    size_t room, count = hex(due).count;
+    snprintf(message, sizeof message, "%s %s", procedure, NULL_AUTH);
+    of = message;
+    for (room = 0; room < count; room++)
+        CHECK(ask(message, 0, room) == YUGERZAT_NO_ROOM && refused_at(13, 0) && out_untouched_from(0));
+    CHECK(ask(message, 0, count) == YUGERZAT_REPLY && refused_at(13, count));
+    CHECK(out_is(0, due) && out_untouched_from(count));
+    CHECK(ask(message, 1, count) == YUGERZAT_SILENCE && refused_at(13, 0) && out_untouched_from(0));
+    snprintf(message, sizeof message, "%s %s %s", procedure, UNIX_AUTH, ARGUMENTS);
+    CHECK(ask(message, 0, BUFFER) == YUGERZAT_REPLY && refused_at(13, count));
+    CHECK(out_is(0, due) && out_untouched_from(count));
+    of = "";
+}
+
+/* What yugerzat_choose does not hand over is answered as it does. */
+static void asked_as_chosen(const char *message, enum yugerzat_answer answer)
+{
+    uint64_t due[13] = {0};
+    uint8_t written[BUFFER];
+    struct bytes b = hex(message);
+    size_t room;
+    of = message;
+    for (room = 0; room <= 24; room++) {
+        fresh();
+        CHECK(yugerzat_choose(b.at, b.count, 0, out, room, info, 12) ==
+              (answer == YUGERZAT_REPLY && room < 24 ? YUGERZAT_NO_ROOM : answer));
+        memcpy(due, info, 12 * sizeof *due);
+        memcpy(written, out, sizeof written);
+        CHECK(ask(message, 0, room) == (answer == YUGERZAT_REPLY && room < 24 ? YUGERZAT_NO_ROOM : answer));
+        CHECK(figures(13, due) && memcmp(written, out, sizeof written) == 0);
+    }
+    of = "";
+}
+
+/* A path of 1,024 bytes and one of a byte more, of a call; its length word stands at a place. */
+static void ask_long_path(enum yugerzat_answer answer, const char *before, size_t place)
+{
+    uint64_t due[13];
+    size_t count, n;
+    const uint8_t *message;
+    of = before;
+    message = around_path(before, 1024, ARGUMENTS, &count);
+    fresh();
+    CHECK(yugerzat_ask(message, count, 0, out, BUFFER, info, 13) == answer && out_untouched_from(0));
+    memcpy(due, info, sizeof due);
+    CHECK(due[0] == place + 4 && due[1] == 1024 && due[2] == 0 && due[3] == 0 && due[4] == place + 1028);
+    message = around_path(before, 1025, "", &count);
+    fresh();
+    CHECK(yugerzat_ask(message, count, 0, out, BUFFER, info, 13) == YUGERZAT_LONG_PATH);
+    CHECK(refused_at(13, place) && out_untouched_from(0));
+    /* it has to be there first; and one that came before is not looked at */
+    for (n = place + 4; n < count; n++) {
+        fresh();
+        CHECK(yugerzat_ask(message, n, 0, out, BUFFER, info, 13) == YUGERZAT_ENDS && ended_at(13, place, count - n));
+    }
+    fresh();
+    CHECK(yugerzat_ask(message, count, 1, out, BUFFER, info, 13) == YUGERZAT_SILENCE && refused_at(13, 0));
+    of = "";
+}
+
+static void test_ask(void)
+{
+    static const uint64_t nfs[4] = {100003, 3, 6, 0}, path[4] = {4, 5, 0, 0}, no_path[4] = {4, 0, 0, 0};
+    static const uint64_t none[4] = {0}, port[4] = {100003, 3, 6, 0xFFFFFFFF};
+    static const char *const unserved[] = {MOUNT_3 "00000002", MOUNT_3 "00000004", MOUNT_3 "00000006",
+        MOUNT_3 "FFFFFFFF", PORTMAP_2 "00000001", PORTMAP_2 "00000002", PORTMAP_2 "00000004", PORTMAP_2 "00000005",
+        PORTMAP_2 "01000003"};
+    static const char *const mounts[] = {"00000000", "00000001", "00000002", "00000004", "FFFFFFFF"};
+    static const char *const ports[] = {"00000000", "00000001", "00000003", "00000004", "02000000"};
+    static const char *const procedures[] = {"00000000", "00000001", "00000003", "00000005", "00000009"};
+    struct bytes b = hex(MNT NULL_AUTH PATH);
+    char text[200];
+    size_t i, k;
+    asked(YUGERZAT_HAND_OVER, "0000002A 00000000 00000002 000186A3 00000003 00000006", "", nfs);
+    asked(YUGERZAT_MNT, MNT, PATH, path);
+    asked(YUGERZAT_MNT, MNT, "00000000", no_path);
+    asked(YUGERZAT_UMNT, UMNT, PATH, path);
+    asked(YUGERZAT_EXPORT, EXPORT, "", none);
+    asked(YUGERZAT_GETPORT, GETPORT, MAPPING, port);
+    /* dirty padding of a path does not matter, but has to be there */
+    asked(YUGERZAT_MNT, MNT, "00000005 2F657870 6FEEEEEE", path);
+
+    asked_reply(MOUNT_3 "00000000", "0000002A 00000001 00000000 00000000 00000000 00000000");
+    asked_reply(PORTMAP_2 "00000000", "0000002A 00000001 00000000 00000000 00000000 00000000");
+    for (i = 0; i < sizeof unserved / sizeof *unserved; i++)
+        asked_reply(unserved[i], "0000002A 00000001 00000000 00000000 00000000 00000003");
+    /* another version, whatever the procedure is */
+    for (i = 0; i < sizeof mounts / sizeof *mounts; i++) {
+        for (k = 0; k < sizeof procedures / sizeof *procedures; k++) {
+            snprintf(text, sizeof text, "0000002A 00000000 00000002 000186A5 %s %s", mounts[i], procedures[k]);
+            asked_reply(text, "0000002A 00000001 00000000 00000000 00000000 00000002 00000003 00000003");
+            snprintf(text, sizeof text, "0000002A 00000000 00000002 000186A0 %s %s", ports[i], procedures[k]);
+            asked_reply(text, "0000002A 00000001 00000000 00000000 00000000 00000002 00000002 00000002");
+        }
+    }
+    /* every version of NFS is handed over */
+    CHECK(ask("0000002A 00000000 00000002 000186A3 00000004 00000000" NULL_AUTH, 0, 0) == YUGERZAT_HAND_OVER);
+
+    asked_as_chosen("0000002A 00000000 00000002 00000007 00000003 00000001" NULL_AUTH PATH, YUGERZAT_REPLY);
+    asked_as_chosen("0000002A 00000000 00000003 000186A5 00000003 00000001" NULL_AUTH PATH, YUGERZAT_REPLY);
+    asked_as_chosen("0000002A 00000002", YUGERZAT_REPLY);
+    asked_as_chosen("0000002A 00000001 00000000 00000000 00000000 00000000", YUGERZAT_REPLY_CAME);
+    asked_as_chosen("0000002A 00000001 00000001 00000001 00000005", YUGERZAT_REPLY_CAME);
+    asked_as_chosen(MNT "00000004 00000000 00000000 00000000" PATH, YUGERZAT_UNDECLARED);
+    asked_as_chosen(MNT "00000000 00000000 00000007 00000000" PATH, YUGERZAT_UNDECLARED);
+    /* a credential that ends: bytes are wanting in its body */
+    asked_as_chosen(
+        EXPORT "00000001 00000014 00000001 00000000 00000002 00000003 00000001 00000000 00000000", YUGERZAT_ENDS);
+    asked_as_chosen("", YUGERZAT_ENDS);
+
+    ask_long_path(YUGERZAT_MNT, MNT NULL_AUTH, 40);
+    ask_long_path(YUGERZAT_UMNT, UMNT NULL_AUTH, 40);
+    ask_long_path(YUGERZAT_MNT, MNT UNIX_AUTH, 72);
+    CHECK(ask(MNT NULL_AUTH "FFFFFFFF", 0, BUFFER) == YUGERZAT_ENDS && ended_at(13, 40, 4294967296));
+
+    fresh();
+    CHECK(yugerzat_ask(NULL, 0, 0, NULL, 0, info, 13) == YUGERZAT_ENDS && ended_at(13, 0, 4));
+    fresh();
+    CHECK(yugerzat_ask(b.at, b.count, 0, out, BUFFER, info, 12) == YUGERZAT_SHORT_LIST && all_untouched());
+    CHECK(yugerzat_ask(b.at, b.count, 0, out, BUFFER, NULL, 0) == YUGERZAT_SHORT_LIST && all_untouched());
+    CHECK(yugerzat_ask(b.at, b.count, 0, out, BUFFER, info, FIGURES) == YUGERZAT_MNT && info_untouched_from(13));
+    memset(long_message, 0, sizeof long_message);
+    memcpy(long_message, b.at, b.count);
+    fresh();
+    CHECK(yugerzat_ask(long_message, YUGERZAT_LIMIT_BYTES, 0, out, BUFFER, info, 13) == YUGERZAT_MNT);
+    fresh();
+    CHECK(yugerzat_ask(long_message, YUGERZAT_LIMIT_BYTES + 1, 0, out, BUFFER, info, 13) == YUGERZAT_TOO_LONG);
+    CHECK(refused_at(13, 0) && out_untouched_from(0));
+}
+
+/* ---- yugerzat_read_exports, yugerzat_next_export and yugerzat_next_group */
+
+/* Three entries: of two names, of one that is empty, and of none. */
+#define ENTRY_1                                                                                          \
+    "00000001 00000005 2F657870 6F000000 00000001 00000002 61620000 00000001 00000005 68656C6C 6F000000" \
+    "00000000"
+#define ENTRY_2 "00000001 00000001 2F000000 00000001 00000000 00000000"
+#define ENTRY_3 "00000001 00000000 00000000"
+#define END "00000000"
+#define LIST ENTRY_1 ENTRY_2 ENTRY_3 END
+
+/* What stands before a path: an entry, and the flag of another. The place of its length word. */
+#define BEFORE_PATH ENTRY_2 "00000001"
+#define LONG_PATH_AT 28
+
+static void test_exports(void)
+{
+    static const uint64_t list[4] = {88, 1, 0, 3}, empty[4] = {4, 1, 0, 0}, second[4] = {88, 1, 48, 2};
+    static const char *const loose_lists[] = {"FFFFFFFF 00000000 00000000 00000000",
+        "00000001 00000001 2F000001 00000000 00000000",
+        "00000001 00000000 80000000 00000001 61000000 00000000 00000000",
+        "00000001 00000000 00000001 00000001 61010000 00000000 00000000"};
+    const uint8_t *message;
+    size_t i, count, n;
+    reader_limits("yugerzat_read_exports", yugerzat_read_exports, YUGERZAT_FIGURES_EXPORTS, LIST);
+    reader_limits("yugerzat_read_exports of nothing", yugerzat_read_exports, YUGERZAT_FIGURES_EXPORTS, END);
+    CHECK(read_at(yugerzat_read_exports, LIST, 0, 4) == YUGERZAT_DONE && figures(4, list));
+    CHECK(read_at(yugerzat_read_exports, LIST EXPORT, 0, 4) == YUGERZAT_DONE && figures(4, list));
+    CHECK(read_at(yugerzat_read_exports, END, 0, 4) == YUGERZAT_DONE && figures(4, empty));
+    /* the rest of a list is a list */
+    CHECK(read_at(yugerzat_read_exports, LIST, 48, 4) == YUGERZAT_DONE && figures(4, second));
+    for (i = 0; i < sizeof loose_lists / sizeof *loose_lists; i++) {
+        of = loose_lists[i];
+        CHECK(read_at(yugerzat_read_exports, loose_lists[i], 0, 4) == YUGERZAT_DONE);
+        CHECK(info[0] == hex(loose_lists[i]).count && info[1] == 0 && info[2] == 0 && info[3] == 1);
+        of = "";
+    }
+    /* paths, at their bound and above; the list has to be there to its end first */
+    message = around_path(BEFORE_PATH, 1024, END END, &count);
+    fresh();
+    CHECK(yugerzat_read_exports(message, count, 0, info, 4) == YUGERZAT_DONE && info[0] == count && info[1] == 1 &&
+          info[3] == 2);
+    message = around_path(BEFORE_PATH, 1025, END, &count);
+    fresh();
+    CHECK(yugerzat_read_exports(message, count, 0, info, 4) == YUGERZAT_ENDS && ended_at(4, count, 4));
+    message = around_path(BEFORE_PATH, 1025, END ENTRY_3 END, &count);
+    fresh();
+    CHECK(yugerzat_read_exports(message, count, 0, info, 4) == YUGERZAT_LONG_PATH && refused_at(4, LONG_PATH_AT));
+    for (n = 0; n < count; n++) {
+        fresh();
+        CHECK(yugerzat_read_exports(message, n, 0, info, 4) == YUGERZAT_ENDS);
+    }
+    fresh();
+    CHECK(yugerzat_judge(YUGERZAT_KIND_EXPORTS, message, count, 0, info, 3) == YUGERZAT_LONG_PATH &&
+          refused_at(3, LONG_PATH_AT));
+    fresh();
+    CHECK(yugerzat_rewrite(YUGERZAT_KIND_EXPORTS, message, count, 0, out, BUFFER, info, 3) == YUGERZAT_LONG_PATH &&
+          refused_at(3, LONG_PATH_AT) && out_untouched_from(0));
+    /* the first of two; names are not bounded */
+    memcpy(long_message, message, count);
+    memcpy(long_message + count - 4, message, count);
+    fresh();
+    CHECK(yugerzat_read_exports(long_message, 2 * count - 4, 0, info, 4) == YUGERZAT_LONG_PATH &&
+          refused_at(4, LONG_PATH_AT));
+    message = around_path("00000001 00000000 00000001", 1025, END END, &count);
+    fresh();
+    CHECK(yugerzat_read_exports(message, count, 0, info, 4) == YUGERZAT_DONE && info[0] == count && info[3] == 1);
+
+    /* as many entries as a message can have */
+    memset(long_message, 0, sizeof long_message);
+    for (n = 0; n + 16 <= YUGERZAT_LIMIT_BYTES; n += 12)
+        long_message[n + 3] = 1;
+    fresh();
+    CHECK(yugerzat_read_exports(long_message, YUGERZAT_LIMIT_BYTES, 0, info, 4) == YUGERZAT_DONE);
+    CHECK(info[0] == YUGERZAT_LIMIT_BYTES && info[1] == 1 && info[3] == n / 12 && n / 12 == 87381);
+}
+
+static void test_next_export(void)
+{
+    static const uint64_t due[][7] = {
+        {48, 1, 1, 8, 5, 16, 2}, {72, 1, 1, 56, 1, 60, 1}, {84, 1, 1, 80, 0, 80, 0}, {88, 1, 0, 0, 0, 0, 0}};
+    static const uint64_t loose_entry[7] = {24, 0, 1, 8, 1, 12, 1};
+    const uint8_t *message;
+    size_t i, count, n, at = 0;
+    reader_limits("yugerzat_next_export", yugerzat_next_export, YUGERZAT_FIGURES_NEXT_EXPORT, ENTRY_1);
+    reader_limits("yugerzat_next_export at an end", yugerzat_next_export, YUGERZAT_FIGURES_NEXT_EXPORT, END);
+    for (i = 0; i < sizeof due / sizeof *due; i++) {
+        CHECK(read_at(yugerzat_next_export, LIST, at, 7) == YUGERZAT_DONE && figures(7, due[i]));
+        at = (size_t)info[YUGERZAT_FIGURE_NEXT];
+    }
+    CHECK(
+        read_at(yugerzat_next_export, "00000001 00000001 2F0000EE 00000001 00000000 00000000", 0, 7) == YUGERZAT_DONE);
+    CHECK(figures(7, loose_entry));
+    CHECK(
+        read_at(yugerzat_next_export, "FF000000 00000001 2F000000 00000100 00000000 00000000", 0, 7) == YUGERZAT_DONE);
+    CHECK(figures(7, loose_entry));
+    message = around_path("00000001", 1024, END, &count);
+    fresh();
+    CHECK(yugerzat_next_export(message, count, 0, info, 7) == YUGERZAT_DONE && info[0] == count && info[4] == 1024);
+    message = around_path("EEEEEEEE 00000001", 1025, END, &count);
+    fresh();
+    CHECK(yugerzat_next_export(message, count, 4, info, 7) == YUGERZAT_LONG_PATH && refused_at(7, 8));
+    for (n = 4; n < count; n++) {
+        fresh();
+        CHECK(yugerzat_next_export(message, n, 4, info, 7) == YUGERZAT_ENDS);
+    }
+}
+
+static void test_next_group(void)
+{
+    static const uint64_t due[][5] = {{28, 1, 1, 24, 2}, {44, 1, 1, 36, 5}, {48, 1, 0, 0, 0}};
+    static const uint64_t loose_name[5] = {12, 0, 1, 8, 1};
+    const uint8_t *message;
+    size_t i, count, at = 16;
+    reader_limits(
+        "yugerzat_next_group", yugerzat_next_group, YUGERZAT_FIGURES_NEXT_GROUP, "00000001 00000005 68656C6C 6F000000");
+    reader_limits("yugerzat_next_group at an end", yugerzat_next_group, YUGERZAT_FIGURES_NEXT_GROUP, END);
+    for (i = 0; i < sizeof due / sizeof *due; i++) {
+        CHECK(read_at(yugerzat_next_group, LIST, at, 5) == YUGERZAT_DONE && figures(5, due[i]));
+        at = (size_t)info[YUGERZAT_FIGURE_NEXT];
+    }
+    CHECK(read_at(yugerzat_next_group, "00000001 00000001 61EE0000", 0, 5) == YUGERZAT_DONE && figures(5, loose_name));
+    CHECK(read_at(yugerzat_next_group, "00010000 00000001 61000000", 0, 5) == YUGERZAT_DONE && figures(5, loose_name));
+    message = around_path("00000001", 2000, "", &count);
+    fresh();
+    CHECK(yugerzat_next_group(message, count, 0, info, 5) == YUGERZAT_DONE && info[0] == count && info[4] == 2000);
+}
+
+/* ---- dirpath, and yugerzat_write_exports */
+
+typedef enum yugerzat_answer piece_writer(
+    const uint8_t *, size_t, size_t, size_t, uint8_t *, size_t, size_t, uint64_t *, size_t);
+
+/* What stands at a place of a source is written so: at every start, into room that is just enough, and into less. */
+static void piece_limits(
+    const char *name, piece_writer *write, const char *source, size_t at, size_t count, const char *due)
+{
+    struct bytes s = hex(source), d = hex(due);
+    size_t start, room;
+    of = name;
+    for (start = 0; start < 10; start++) {
+        fresh();
+        CHECK(write(s.at, s.count, at, count, out, BUFFER, start, info, 1) == YUGERZAT_DONE && told(start + d.count));
+        CHECK(out_untouched_before(start) && out_is(start, due) && out_untouched_from(start + d.count));
+        fresh();
+        CHECK(write(s.at, s.count, at, count, out, start + d.count, start, info, 1) == YUGERZAT_DONE);
+        CHECK(out_is(start, due) && out_untouched_from(start + d.count));
+        for (room = start; room < start + d.count; room++) {
+            fresh();
+            CHECK(write(s.at, s.count, at, count, out, room, start, info, 1) == YUGERZAT_NO_ROOM);
+            CHECK(refused_writing(d.count));
+        }
+        fresh();
+        CHECK(write(s.at, s.count, at, count, out, start, start + 1, info, 1) == YUGERZAT_PAST_END);
+        CHECK(refused_writing(0));
+    }
+    fresh();
+    CHECK(write(s.at, s.count, at, count, NULL, 0, 0, info, 1) == YUGERZAT_NO_ROOM && refused_writing(d.count));
+    fresh();
+    CHECK(write(s.at, s.count, at, count, out, BUFFER, SIZE_MAX, info, 1) == YUGERZAT_PAST_END && refused_writing(0));
+    fresh();
+    CHECK(write(s.at, s.count, at, count, out, BUFFER, 0, NULL, 0) == YUGERZAT_SHORT_LIST && all_untouched());
+    CHECK(write(s.at, s.count, at, count, out, 0, 1, NULL, 0) == YUGERZAT_SHORT_LIST && all_untouched());
+    CHECK(write(s.at, s.count, at, count, out, BUFFER, 0, info, FIGURES) == YUGERZAT_DONE && told(d.count));
+    of = "";
+}
+
+/*
+ * What is refused as a piece or for its path, in a source that is not too long: before room, after the start. In one
+ * that is too long, that comes first.
+ */
+static void piece_refused(
+    piece_writer *write, const uint8_t *source, size_t length, size_t at, size_t count, enum yugerzat_answer due)
+{
+    fresh();
+    CHECK(write(source, length, at, count, out, BUFFER, 0, info, 1) == due && refused_writing(0));
+    fresh();
+    CHECK(write(source, length, at, count, out, 0, 0, info, 1) == due && refused_writing(0));
+    fresh();
+    CHECK(write(source, length, at, count, out, 5, 6, info, 1) == YUGERZAT_PAST_END && refused_writing(0));
+    fresh();
+    CHECK(write(source, length, at, count, out, 5, 6, NULL, 0) == YUGERZAT_SHORT_LIST && all_untouched());
+    memset(long_message, 0, sizeof long_message);
+    if (length)
+        memcpy(long_message, source, length);
+    fresh();
+    CHECK(write(long_message, YUGERZAT_LIMIT_BYTES + 1, at, count, out, BUFFER, 0, info, 1) == YUGERZAT_TOO_LONG);
+    CHECK(refused_writing(0));
+    fresh();
+    CHECK(write(long_message, YUGERZAT_LIMIT_BYTES + 1, at, count, out, 5, 6, info, 1) == YUGERZAT_PAST_END);
+    CHECK(refused_writing(0));
+}
+
+static void test_dirpath(void)
+{
+    static const size_t outside[][2] = {
+        {8, 1}, {9, 0}, {0, 9}, {1, 8}, {SIZE_MAX, 1}, {1, SIZE_MAX}, {SIZE_MAX, SIZE_MAX}, {0, 1025}, {7, 1025}};
+    const char *source = "EE2F6578 706FEEEE";
+    struct bytes s = hex(source);
+    const uint8_t *path;
+    size_t i, count;
+    /* reading, by its number: at the bound and above; the padding has to be there first */
+    path = around_path("EEEEEEEE", 1024, "", &count);
+    fresh();
+    CHECK(rewrite(YUGERZAT_KIND_DIRPATH, path, count, 4, out, BUFFER) == YUGERZAT_DONE && info[0] == count);
+    CHECK(info[1] == 1 && info[2] == 1028 && memcmp(out, path + 4, 1028) == 0 && out_untouched_from(1028));
+    path = around_path("EEEEEEEE", 1025, "", &count);
+    fresh();
+    CHECK(rewrite(YUGERZAT_KIND_DIRPATH, path, count, 4, out, BUFFER) == YUGERZAT_LONG_PATH);
+    CHECK(refused_at(3, 4) && out_untouched_from(0));
+    fresh();
+    CHECK(rewrite(YUGERZAT_KIND_DIRPATH, path, count - 1, 4, out, BUFFER) == YUGERZAT_ENDS && ended_at(3, 4, 1));
+
+    piece_limits("yugerzat_write_dirpath", yugerzat_write_dirpath, source, 1, 5, PATH);
+    piece_limits("yugerzat_write_dirpath of nothing", yugerzat_write_dirpath, source, 8, 0, "00000000");
+    piece_limits("yugerzat_write_dirpath of all", yugerzat_write_dirpath, source, 0, 8, "00000008 EE2F6578 706FEEEE");
+    fresh();
+    CHECK(yugerzat_write_dirpath(NULL, 0, 0, 0, out, BUFFER, 0, info, 1) == YUGERZAT_DONE && told(4));
+    for (i = 0; i < sizeof outside / sizeof *outside; i++)
+        piece_refused(yugerzat_write_dirpath, s.at, s.count, outside[i][0], outside[i][1], YUGERZAT_OUTSIDE);
+    path = around_path("", 1100, "", &count);
+    fresh();
+    CHECK(yugerzat_write_dirpath(path, count, 4, 1024, out, BUFFER, 0, info, 1) == YUGERZAT_DONE && told(1028));
+    CHECK(out_is(0, "00000400 70707070") && out[1027] == 'p' && out_untouched_from(1028));
+    piece_refused(yugerzat_write_dirpath, path, count, 4, 1025, YUGERZAT_LONG_PATH);
+    piece_refused(yugerzat_write_dirpath, path, count, 0, count, YUGERZAT_LONG_PATH);
+    piece_refused(yugerzat_write_dirpath, path, count, 5, count - 4, YUGERZAT_OUTSIDE);
+    memset(long_message, 'p', sizeof long_message);
+    fresh();
+    CHECK(yugerzat_write_dirpath(long_message, YUGERZAT_LIMIT_BYTES, YUGERZAT_LIMIT_BYTES - 5, 5, out, BUFFER, 0, info,
+              1) == YUGERZAT_DONE &&
+          told(12));
+}
+
+static void test_write_exports(void)
+{
+    /* a place and a count at which no list stands */
+    static const size_t outside[][2] = {{0, 0}, {0, 2}, {0, 4}, {4, 3}, {48, 3}, {88, 0}, {88, 1}, {85, 0}, {89, 0},
+        {SIZE_MAX, 0}, {0, SIZE_MAX}, {SIZE_MAX, SIZE_MAX}};
+    struct bytes s = hex(LIST);
+    const uint8_t *list;
+    uint64_t after;
+    size_t i, count, n;
+    piece_limits("yugerzat_write_exports", yugerzat_write_exports, LIST, 0, 3, LIST);
+    piece_limits("yugerzat_write_exports of the rest", yugerzat_write_exports, LIST, 48, 2, ENTRY_2 ENTRY_3 END);
+    piece_limits("yugerzat_write_exports of nothing", yugerzat_write_exports, LIST, 84, 0, END);
+    piece_limits("yugerzat_write_exports of odd flags and dirty padding", yugerzat_write_exports,
+        "EEEEEE FFFFFFFF 00000001 2FEEEEEE 00000002 00000002 6162FFFF 00000000 00000000 EE", 3, 1,
+        "00000001 00000001 2F000000 00000001 00000002 61620000 00000000 00000000");
+    for (i = 0; i < sizeof outside / sizeof *outside; i++)
+        piece_refused(yugerzat_write_exports, s.at, s.count, outside[i][0], outside[i][1], YUGERZAT_OUTSIDE);
+    for (n = 0; n < s.count; n++) {
+        fresh();
+        CHECK(yugerzat_write_exports(s.at, n, 0, 3, out, BUFFER, 0, info, 1) == YUGERZAT_OUTSIDE && refused_writing(0));
+    }
+    piece_refused(yugerzat_write_exports, NULL, 0, 0, 0, YUGERZAT_OUTSIDE);
+
+    /* a path at its bound and above: after the count, and after the list's end */
+    list = around_path(BEFORE_PATH, 1024, END END, &count);
+    fresh();
+    CHECK(yugerzat_write_exports(list, count, 0, 2, out, BUFFER, 0, info, 1) == YUGERZAT_DONE && told(count));
+    CHECK(memcmp(out, list, count) == 0 && out_untouched_from(count));
+    list = around_path(BEFORE_PATH, 1025, END END, &count);
+    piece_refused(yugerzat_write_exports, list, count, 0, 2, YUGERZAT_LONG_PATH);
+    piece_refused(yugerzat_write_exports, list, count, 24, 1, YUGERZAT_LONG_PATH);
+    piece_refused(yugerzat_write_exports, list, count, 0, 1, YUGERZAT_OUTSIDE);
+    piece_refused(yugerzat_write_exports, list, count, 0, 3, YUGERZAT_OUTSIDE);
+    fresh();
+    CHECK(yugerzat_write_exports(list, count - 1, 0, 2, out, BUFFER, 0, info, 1) == YUGERZAT_OUTSIDE);
+    CHECK(refused_writing(0));
+
+    /* a list as long as may be */
+    memset(long_message, 0, sizeof long_message);
+    for (n = 0; n + 16 <= YUGERZAT_LIMIT_BYTES; n += 12)
+        long_message[n] = 1;
+    memset(long_out, 0xEE, sizeof long_out);
+    fresh();
+    CHECK(yugerzat_write_exports(long_message, YUGERZAT_LIMIT_BYTES, 0, n / 12, long_out, YUGERZAT_LIMIT_BYTES - 1, 0,
+              info, 1) == YUGERZAT_NO_ROOM);
+    CHECK(told(YUGERZAT_LIMIT_BYTES) && long_out_untouched());
+    CHECK(yugerzat_write_exports(
+              long_message, YUGERZAT_LIMIT_BYTES, 0, n / 12, long_out, sizeof long_out, 1, info, 1) == YUGERZAT_DONE);
+    after = info[0];
+    CHECK(after == YUGERZAT_LIMIT_BYTES + 1 && long_out[0] == 0xEE && long_out[after] == 0xEE);
+    for (n = 0; n < YUGERZAT_LIMIT_BYTES; n++)
+        if (long_out[n + 1] != (n % 12 == 3 && n + 13 <= YUGERZAT_LIMIT_BYTES))
+            break;
+    CHECK(n == YUGERZAT_LIMIT_BYTES);
+}
+
+/* ---- yugerzat_same_exports */
+
+static enum yugerzat_answer same_lists(const char *one, size_t one_at, size_t one_count, const char *other,
+    size_t other_at, size_t other_count, size_t list)
+{
+    struct bytes a = hex(one), b = hex(other);
+    fresh();
+    return yugerzat_same_exports(a.at, a.count, one_at, one_count, b.at, b.count, other_at, other_count, info, list);
+}
+
+/* Both ways round. */
+static bool compared(
+    const char *one, size_t one_at, size_t one_count, const char *other, size_t other_at, size_t other_count, bool same)
+{
+    return same_lists(one, one_at, one_count, other, other_at, other_count, 1) == YUGERZAT_DONE && told(same) &&
+           same_lists(other, other_at, other_count, one, one_at, one_count, 1) == YUGERZAT_DONE && told(same);
+}
+
+/* One of two that is refused, whichever it is; the other one is a list. */
+static bool one_refused(const uint8_t *source, size_t length, size_t at, size_t count, enum yugerzat_answer due)
+{
+    struct bytes b = hex(LIST);
+    bool first, second, both;
+    fresh();
+    first = yugerzat_same_exports(source, length, at, count, b.at, b.count, 0, 3, info, 1) == due && told(0);
+    fresh();
+    second = yugerzat_same_exports(b.at, b.count, 0, 3, source, length, at, count, info, 1) == due && told(0);
+    fresh();
+    both = yugerzat_same_exports(source, length, at, count, source, length, at, count, info, 1) == due && told(0);
+    return first && second && both;
+}
+
+static void test_same_exports(void)
+{
+    static const char *const others[] = {END, ENTRY_1 ENTRY_2 END, ENTRY_2 ENTRY_1 ENTRY_3 END,
+        ENTRY_1 ENTRY_2 ENTRY_2 END,
+        /* another path, and one that is longer */
+        "00000001 00000005 2F657871 6F000000 00000001 00000002 61620000 00000001 00000005 68656C6C 6F000000 "
+        "00000000" ENTRY_2 ENTRY_3 END,
+        "00000001 00000006 2F657870 6F000000 00000001 00000002 61620000 00000001 00000005 68656C6C 6F000000 "
+        "00000000" ENTRY_2 ENTRY_3 END,
+        /* another name, the same ones in another order, and one of them less */
+        "00000001 00000005 2F657870 6F000000 00000001 00000002 61630000 00000001 00000005 68656C6C 6F000000 "
+        "00000000" ENTRY_2 ENTRY_3 END,
+        "00000001 00000005 2F657870 6F000000 00000001 00000005 68656C6C 6F000000 00000001 00000002 61620000 "
+        "00000000" ENTRY_2 ENTRY_3 END,
+        "00000001 00000005 2F657870 6F000000 00000001 00000002 61620000 00000000" ENTRY_2 ENTRY_3 END};
+    /* the three entries, and all in them that can be loose */
+    const char *loose_list =
+        "000000FF 00000005 2F657870 6FFFFFFF 80000000 00000002 6162FFFF FFFFFFFF 00000005 68656C6C 6FFFFFFF 00000000"
+        "00000100 00000001 2FFFFFFF 00000002 00000000 00000000" ENTRY_3 END;
+    struct bytes s = hex(LIST);
+    const uint8_t *list;
+    size_t i, count, n;
+    CHECK(compared(LIST, 0, 3, LIST, 0, 3, true));
+    CHECK(compared(LIST, 0, 3, loose_list, 0, 3, true));
+    CHECK(compared(loose_list, 0, 3, loose_list, 0, 3, true));
+    CHECK(compared(LIST, 48, 2, ENTRY_2 ENTRY_3 END, 0, 2, true));
+    CHECK(compared(LIST, 0, 3, "EEEEEE" LIST, 3, 3, true));
+    CHECK(compared(END, 0, 0, LIST, 84, 0, true));
+    for (i = 0; i < sizeof others / sizeof *others; i++) {
+        of = others[i];
+        CHECK(read_at(yugerzat_read_exports, others[i], 0, 4) == YUGERZAT_DONE);
+        n = (size_t)info[YUGERZAT_FIGURE_EXPORTS_COUNT];
+        CHECK(compared(LIST, 0, 3, others[i], 0, n, false));
+        CHECK(compared(loose_list, 0, 3, others[i], 0, n, false));
+        CHECK(compared(others[i], 0, n, others[i], 0, n, true));
+        of = "";
+    }
+    for (n = 0; n < s.count; n++)
+        CHECK(one_refused(s.at, n, 0, 3, YUGERZAT_OUTSIDE));
+    CHECK(one_refused(s.at, s.count, 0, 2, YUGERZAT_OUTSIDE));
+    CHECK(one_refused(s.at, s.count, 0, 4, YUGERZAT_OUTSIDE));
+    CHECK(one_refused(s.at, s.count, 89, 0, YUGERZAT_OUTSIDE));
+    CHECK(one_refused(s.at, s.count, SIZE_MAX, SIZE_MAX, YUGERZAT_OUTSIDE));
+    CHECK(one_refused(NULL, 0, 0, 0, YUGERZAT_OUTSIDE));
+    list = around_path(BEFORE_PATH, 1025, END END, &count);
+    CHECK(one_refused(list, count, 0, 2, YUGERZAT_LONG_PATH));
+    CHECK(one_refused(list, count, 0, 1, YUGERZAT_OUTSIDE));
+    /* of two refusals the lower number, whichever list has it */
+    memset(long_message, 0, sizeof long_message);
+    for (i = 0; i < 2; i++) {
+        fresh();
+        CHECK(yugerzat_same_exports(list, count, 0, 2 - i, list, count, 0, 1 + i, info, 1) == YUGERZAT_OUTSIDE &&
+              told(0));
+        fresh();
+        CHECK(yugerzat_same_exports(list, count, 0, 2 - i, long_message, YUGERZAT_LIMIT_BYTES + 1, 0, 0, info, 1) ==
+                  YUGERZAT_TOO_LONG &&
+              told(0));
+        fresh();
+        CHECK(yugerzat_same_exports(long_message, YUGERZAT_LIMIT_BYTES + 1, 0, 0, list, count, 0, 2 - i, info, 1) ==
+                  YUGERZAT_TOO_LONG &&
+              told(0));
+    }
+    CHECK(one_refused(long_message, YUGERZAT_LIMIT_BYTES + 1, 0, 0, YUGERZAT_TOO_LONG));
+    CHECK(one_refused(long_message, YUGERZAT_LIMIT_BYTES + 1, SIZE_MAX, 7, YUGERZAT_TOO_LONG));
+    fresh();
+    CHECK(yugerzat_same_exports(long_message, YUGERZAT_LIMIT_BYTES, 0, 0, s.at, s.count, 84, 0, info, 1) ==
+              YUGERZAT_DONE &&
+          told(1));
+    CHECK(same_lists(LIST, 0, 3, LIST, 0, 3, 0) == YUGERZAT_SHORT_LIST && all_untouched());
+    CHECK(yugerzat_same_exports(NULL, 0, 0, 0, NULL, 0, 0, 0, NULL, 0) == YUGERZAT_SHORT_LIST);
+    CHECK(same_lists(LIST, 0, 3, LIST, 0, 3, FIGURES) == YUGERZAT_DONE && told(1));
+}
+
 int main(void)
 {
     test_kinds();
@@ -1652,5 +2256,12 @@ int main(void)
     test_call();
     test_replies();
     test_part();
+    test_ask();
+    test_exports();
+    test_next_export();
+    test_next_group();
+    test_dirpath();
+    test_write_exports();
+    test_same_exports();
     return total();
 }

@@ -3,13 +3,13 @@
  *
  * It reads and writes the messages of XDR (RFC 4506), ONC RPC (RFC 5531) and NFS (RFC 1813), assembles records from a
  * stream, and chooses the program that a call is for. It reads what the Rust crate nfsserve 0.11.0 reads, says whether
- * that came in published form, and writes published form only.
+ * that came in published form, and writes published form only. It also answers for mounts and ports (yugerzat_mount.h).
  *
  *     cc program.c $(pkg-config --cflags --libs yugerzat)      after ./install PREFIX
  *     cc -Iinclude program.c build/libyugerzat.a               in the repository, after ./library
  *
  * The library needs nothing else. It allocates nothing, keeps nothing between calls, calls no function of the system,
- * and may be used by any number of threads at once. c/example.c and c/filter.c show how it is used.
+ * and may be used by any number of threads at once. c/example.c, c/filter.c and c/mount_server.c show how it is used.
  *
  * THE FUNCTIONS that programs call:
  *
@@ -20,6 +20,8 @@
  *     yugerzat_rewrite_kind     reads a message of any kind, and writes it in published form
  *     yugerzat_feed_run         assembles records from a stream
  *     yugerzat_choose_program   says what to do with a message that came in
+ *     yugerzat_ask_program      the same for a server that answers for mounts and ports too; it stands in
+ *                               yugerzat_mount.h, with what belongs to mounts and ports
  *     yugerzat_get_current_rpc_msg, yugerzat_put_current_rpc_msg, yugerzat_choose_current_program
  *                               the same for rpc_msg in the current reading: see TWO READINGS
  *     yugerzat_procedure_kinds  says of which kinds the arguments and results of a procedure are
@@ -60,7 +62,7 @@
  * takes those with it. The kinds whose names begin with current_ are the current reading too, for the functions that
  * take any kind. A call is the same in both readings.
  *
- * ANSWERS. Every call of every function returns an answer. 0, and those from 100 on, hand something over. 1 to 9 are
+ * ANSWERS. Every call of every function returns an answer. 0, and those from 100 on, hand something over. 1 to 10 are
  * REFUSALS, a numbered "no": nothing is handed over, and every lent buffer stays as it was. (One exception: after
  * YUGERZAT_FRAGMENT_TOO_LONG the record buffer holds what was placed before.) From 253 on the call itself is at fault,
  * and nothing is written.
@@ -118,18 +120,19 @@ enum yugerzat_answer YUGERZAT_32_BITS {
     /* It was done. */
     YUGERZAT_DONE = 0,
 
-    /* Refusals. The first two have a place. */
+    /* Refusals. The first two have a place, and so has the last, where it is one of a reading. */
     YUGERZAT_ENDS = 1,               /* the message ends inside an item: its first byte; how many bytes are wanting */
     YUGERZAT_UNDECLARED = 2,         /* a number is not one of its enumeration, or no time_how: the place of its word */
     YUGERZAT_TOO_LONG = 3,           /* a message, a source, a capacity or an encoding is over YUGERZAT_LIMIT_BYTES */
-    YUGERZAT_OUTSIDE = 4,            /* a piece lies outside its source (yugerzat_list.h alone) */
+    YUGERZAT_OUTSIDE = 4,            /* a piece lies outside its source (yugerzat_list.h alone), or a list is none */
     YUGERZAT_NO_ROOM = 5,            /* too little room from the asked place on: how many bytes are needed */
     YUGERZAT_STATE_DOES_NOT_FIT = 6, /* the assembler's state does not fit, itself or the record buffer */
     YUGERZAT_FRAGMENT_TOO_LONG = 7,  /* a fragment would pass the end of the record buffer; the state is then stopped */
     YUGERZAT_REPLY_CAME = 8,         /* a reply reached the choice of program */
     YUGERZAT_PAST_END = 9,           /* a start place is past the end */
+    YUGERZAT_LONG_PATH = 10,         /* a path is above 1,024 bytes: the place of its length word */
 
-    /* Answers of yugerzat_choose_program. */
+    /* Answers of yugerzat_choose_program and yugerzat_ask_program. */
     YUGERZAT_HAND_OVER = 100,
     YUGERZAT_REPLY = 101,
     YUGERZAT_SILENCE = 102,
@@ -137,6 +140,12 @@ enum yugerzat_answer YUGERZAT_32_BITS {
     /* Answers of yugerzat_feed_run. */
     YUGERZAT_MORE = 103,
     YUGERZAT_COMPLETE = 104,
+
+    /* Answers of yugerzat_ask_program: which procedure is called. */
+    YUGERZAT_MNT = 105,
+    YUGERZAT_UMNT = 106,
+    YUGERZAT_EXPORT = 107,
+    YUGERZAT_GETPORT = 108,
 
     /* The call itself is at fault. */
     YUGERZAT_WIDE_NUMBER = 253,  /* a number to be written does not fit its field, or is not one of its enumeration */
@@ -163,11 +172,16 @@ static inline const char *yugerzat_strerror(enum yugerzat_answer answer)
     case YUGERZAT_FRAGMENT_TOO_LONG: return "a fragment is longer than the record buffer has room";
     case YUGERZAT_REPLY_CAME: return "a reply where a call is due";
     case YUGERZAT_PAST_END: return "a start place is past the end";
+    case YUGERZAT_LONG_PATH: return "a path is above 1,024 bytes";
     case YUGERZAT_HAND_OVER: return "a call for a program that is served";
     case YUGERZAT_REPLY: return "a reply is to be sent";
     case YUGERZAT_SILENCE: return "a call that came before gets no reply";
     case YUGERZAT_MORE: return "the record is not complete";
     case YUGERZAT_COMPLETE: return "the record is complete";
+    case YUGERZAT_MNT: return "a call of MNT";
+    case YUGERZAT_UMNT: return "a call of UMNT";
+    case YUGERZAT_EXPORT: return "a call of EXPORT";
+    case YUGERZAT_GETPORT: return "a call of GETPORT";
     case YUGERZAT_WIDE_NUMBER: return "a number to be written is too large or not declared";
     case YUGERZAT_SHORT_LIST: return "a list of figures is too short";
     case YUGERZAT_UNKNOWN_KIND: return "there is no kind of that number";
@@ -423,7 +437,8 @@ struct yugerzat_words {
 /* Why something was refused. It is filled at every call: where nothing is refused, by the answer alone. */
 struct yugerzat_refusal {
     enum yugerzat_answer answer; /* what the function returned */
-    size_t place;                /* YUGERZAT_ENDS, YUGERZAT_UNDECLARED: where; YUGERZAT_NO_PLACE for all others */
+    size_t place;                /* of a reading, YUGERZAT_ENDS, YUGERZAT_UNDECLARED, YUGERZAT_LONG_PATH: where;
+                                    YUGERZAT_NO_PLACE for all others */
     uint64_t wanting;            /* YUGERZAT_ENDS: how many bytes are wanting; else 0 */
     size_t needed;               /* YUGERZAT_NO_ROOM: how many bytes the output takes, from its start on; else 0 */
 };
@@ -459,8 +474,9 @@ static inline struct yugerzat_refusal yugerzat_private_refusal(enum yugerzat_ans
 {
     struct yugerzat_refusal refusal;
     bool ends = answer == YUGERZAT_ENDS;
+    bool placed = ends || answer == YUGERZAT_UNDECLARED || answer == YUGERZAT_LONG_PATH;
     refusal.answer = answer;
-    refusal.place = ends || answer == YUGERZAT_UNDECLARED ? (size_t)info[YUGERZAT_FIGURE_PLACE] : YUGERZAT_NO_PLACE;
+    refusal.place = placed ? (size_t)info[YUGERZAT_FIGURE_PLACE] : YUGERZAT_NO_PLACE;
     refusal.wanting = ends ? info[YUGERZAT_FIGURE_WANTING] : 0;
     refusal.needed = 0;
     return refusal;
@@ -538,7 +554,8 @@ static inline void yugerzat_set_word(uint8_t *bytes, size_t index, uint32_t word
 
 /*
  * Reads a message of a kind from place `at` of src, and writes nothing: says whether it is plain, and how long its
- * rewriting is. Refusals: YUGERZAT_ENDS, YUGERZAT_UNDECLARED, YUGERZAT_TOO_LONG (src), YUGERZAT_PAST_END (at).
+ * rewriting is. Refusals: YUGERZAT_ENDS, YUGERZAT_UNDECLARED, YUGERZAT_TOO_LONG (src), YUGERZAT_PAST_END (at), and of
+ * the kinds that hold paths YUGERZAT_LONG_PATH.
  */
 YUGERZAT_MUST_USE static inline enum yugerzat_answer yugerzat_judge_kind(
     enum yugerzat_kind kind, const uint8_t *src, size_t src_len, size_t at, struct yugerzat_rewriting *rewriting)
@@ -1159,6 +1176,20 @@ struct yugerzat_chosen {
 
 #define YUGERZAT_REPLY_BYTES ((size_t)24) /* of every reply that is chosen */
 
+/* The caller, whose figures stand at the same places of info as in the list of yugerzat_choose. */
+static inline bool yugerzat_private_caller(
+    const uint8_t *message, const uint64_t *info, struct yugerzat_auth_unix *auth_unix)
+{
+    if (info[YUGERZAT_FIGURE_CHOOSE_UNIX] == 0)
+        return false;
+    auth_unix->stamp = (uint32_t)info[YUGERZAT_FIGURE_CHOOSE_STAMP];
+    auth_unix->machinename = yugerzat_private_piece(message, info + YUGERZAT_FIGURE_CHOOSE_NAME_AT);
+    auth_unix->uid = (uint32_t)info[YUGERZAT_FIGURE_CHOOSE_UID];
+    auth_unix->gid = (uint32_t)info[YUGERZAT_FIGURE_CHOOSE_GID];
+    auth_unix->gids = yugerzat_private_words(message, info + YUGERZAT_FIGURE_CHOOSE_GIDS_AT);
+    return true;
+}
+
 static inline enum yugerzat_answer yugerzat_private_choose_program(bool current, const uint8_t *message,
     size_t message_len, bool seen, uint8_t *out, size_t out_len, struct yugerzat_chosen *chosen)
 {
@@ -1171,15 +1202,7 @@ static inline enum yugerzat_answer yugerzat_private_choose_program(bool current,
         chosen->vers = (uint32_t)info[YUGERZAT_FIGURE_CHOOSE_VERS];
         chosen->proc = (uint32_t)info[YUGERZAT_FIGURE_CHOOSE_PROC];
         chosen->arguments = (size_t)info[YUGERZAT_FIGURE_CHOOSE_ARGUMENTS];
-        chosen->has_auth_unix = info[YUGERZAT_FIGURE_CHOOSE_UNIX] != 0;
-    }
-    if (chosen->has_auth_unix) {
-        struct yugerzat_auth_unix *auth_unix = &chosen->auth_unix;
-        auth_unix->stamp = (uint32_t)info[YUGERZAT_FIGURE_CHOOSE_STAMP];
-        auth_unix->machinename = yugerzat_private_piece(message, info + YUGERZAT_FIGURE_CHOOSE_NAME_AT);
-        auth_unix->uid = (uint32_t)info[YUGERZAT_FIGURE_CHOOSE_UID];
-        auth_unix->gid = (uint32_t)info[YUGERZAT_FIGURE_CHOOSE_GID];
-        auth_unix->gids = yugerzat_private_words(message, info + YUGERZAT_FIGURE_CHOOSE_GIDS_AT);
+        chosen->has_auth_unix = yugerzat_private_caller(message, info, &chosen->auth_unix);
     }
     if (answer == YUGERZAT_REPLY)
         chosen->reply_length = (size_t)info[YUGERZAT_FIGURE_CHOOSE_REPLY_LENGTH];
@@ -1220,5 +1243,9 @@ YUGERZAT_MUST_USE static inline enum yugerzat_answer yugerzat_choose_current_pro
 /* ------------------------------------------------------------------ arguments and results of procedures */
 
 #include "yugerzat_nfs.h"
+
+/* ------------------------------------------------------------------ mounts and ports */
+
+#include "yugerzat_mount.h"
 
 #endif

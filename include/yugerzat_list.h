@@ -22,7 +22,8 @@ extern "C" {
 
 /*
  * READERS put these figures first. Where a reading is refused, all their other figures are 0. So is the place, unless
- * the answer is YUGERZAT_ENDS or YUGERZAT_UNDECLARED, and the count of bytes wanting, unless it is YUGERZAT_ENDS.
+ * the answer is YUGERZAT_ENDS, YUGERZAT_UNDECLARED or YUGERZAT_LONG_PATH, and the count of bytes wanting, unless it is
+ * YUGERZAT_ENDS.
  */
 enum {
     YUGERZAT_FIGURE_NEXT = 0,    /* YUGERZAT_DONE: the place after what was read */
@@ -40,8 +41,8 @@ enum {
  *   - YUGERZAT_SHORT_LIST: fields or info is too short. Info stays as it is;
  *   - YUGERZAT_WIDE_NUMBER: a figure does not fit its field, since it is over 2^32 - 1, or not declared for an
  *     enumeration. Info stays as it is. A figure that would not be written is not looked at;
- *   - YUGERZAT_PAST_END (start), YUGERZAT_TOO_LONG (a source), YUGERZAT_OUTSIDE (a piece), YUGERZAT_TOO_LONG (what
- *     would be written): the figure is 0;
+ *   - YUGERZAT_PAST_END (start), YUGERZAT_TOO_LONG (a source), YUGERZAT_OUTSIDE (a piece), YUGERZAT_LONG_PATH (a path),
+ *     YUGERZAT_TOO_LONG (what would be written): the figure is 0;
  *   - YUGERZAT_NO_ROOM, YUGERZAT_DONE: the figure is as below.
  */
 enum {
@@ -62,7 +63,8 @@ enum {
 
 /*
  * Reads a message of a kind from place `at` of src, and writes it in published form from the start of out.
- * Refusals of the reading: YUGERZAT_ENDS, YUGERZAT_UNDECLARED, YUGERZAT_TOO_LONG (src), YUGERZAT_PAST_END (at).
+ * Refusals of the reading: YUGERZAT_ENDS, YUGERZAT_UNDECLARED, YUGERZAT_TOO_LONG (src), YUGERZAT_PAST_END (at), and of
+ * the kinds that hold paths YUGERZAT_LONG_PATH.
  * YUGERZAT_NO_ROOM (out): 0, 0 and what is needed. YUGERZAT_UNKNOWN_KIND: three zeros.
  */
 YUGERZAT_MUST_USE enum yugerzat_answer yugerzat_rewrite(enum yugerzat_kind kind, const uint8_t *src, size_t src_len,
@@ -370,6 +372,125 @@ YUGERZAT_MUST_USE enum yugerzat_answer yugerzat_choose(const uint8_t *message, s
  */
 YUGERZAT_MUST_USE enum yugerzat_answer yugerzat_current_choose(const uint8_t *message, size_t message_len,
     uint32_t seen, uint8_t *out, size_t out_len, uint64_t *info, size_t info_len);
+
+/* ------------------------------------------------------------------ mounts and ports */
+
+enum {
+    /* YUGERZAT_HAND_OVER; the next figure is 0 */
+    YUGERZAT_FIGURE_ASK_PROG = 0,
+    YUGERZAT_FIGURE_ASK_VERS = 1,
+    YUGERZAT_FIGURE_ASK_PROC = 2,
+    YUGERZAT_FIGURE_ASK_ARGUMENTS = 3, /* the place where the arguments begin */
+
+    /* YUGERZAT_MNT, YUGERZAT_UMNT; the next two are 0 */
+    YUGERZAT_FIGURE_ASK_PATH_AT = 0,
+    YUGERZAT_FIGURE_ASK_PATH_COUNT = 1,
+
+    /* YUGERZAT_GETPORT; for YUGERZAT_EXPORT these four are 0 */
+    YUGERZAT_FIGURE_ASK_MAPPING_PROG = 0,
+    YUGERZAT_FIGURE_ASK_MAPPING_VERS = 1,
+    YUGERZAT_FIGURE_ASK_MAPPING_PROT = 2,
+    YUGERZAT_FIGURE_ASK_MAPPING_PORT = 3,
+
+    /* YUGERZAT_MNT, YUGERZAT_UMNT, YUGERZAT_EXPORT, YUGERZAT_GETPORT: the place after the arguments */
+    YUGERZAT_FIGURE_ASK_NEXT = 4,
+
+    /* these four and YUGERZAT_HAND_OVER: the caller, as yugerzat_choose has it */
+    YUGERZAT_FIGURE_ASK_UNIX = 5, /* 1: the credential is AUTH_UNIX, and those below are its; 0: they are 0 */
+    YUGERZAT_FIGURE_ASK_STAMP = 6,
+    YUGERZAT_FIGURE_ASK_NAME_AT = 7,
+    YUGERZAT_FIGURE_ASK_NAME_COUNT = 8,
+    YUGERZAT_FIGURE_ASK_UID = 9,
+    YUGERZAT_FIGURE_ASK_GID = 10,
+    YUGERZAT_FIGURE_ASK_GIDS_AT = 11,
+    YUGERZAT_FIGURE_ASK_GIDS_COUNT = 12, /* in words */
+
+    /* YUGERZAT_REPLY */
+    YUGERZAT_FIGURE_ASK_REPLY_LENGTH = 0,
+
+    YUGERZAT_FIGURES_ASK = 13
+};
+
+/*
+ * Chooses what to do with a message, as yugerzat_choose does, for a server that answers for mounts (program 100005) and
+ * ports (100000) too; `seen` is 0 where its call did not come before.
+ *
+ * YUGERZAT_HAND_OVER: it is a call for NFS (100003). YUGERZAT_SILENCE: the call was seen before.
+ * YUGERZAT_MNT, YUGERZAT_UMNT, YUGERZAT_EXPORT (mount version 3), YUGERZAT_GETPORT (port mapper version 2): it is a
+ * call of that procedure, and its arguments were read. out is untouched.
+ * YUGERZAT_REPLY: a reply to send back stands at the start of out. It has 32 bytes where mount or the port mapper is
+ * called in another version (it names the one that is served), and else 24: the procedure is 0, which succeeds, or none
+ * of these; or it is a reply of yugerzat_choose.
+ * Refusals: YUGERZAT_TOO_LONG, YUGERZAT_ENDS, YUGERZAT_UNDECLARED, YUGERZAT_REPLY_CAME, YUGERZAT_LONG_PATH, and
+ * YUGERZAT_NO_ROOM where a reply is due and out is shorter than that. The first two figures are YUGERZAT_FIGURE_PLACE
+ * and YUGERZAT_FIGURE_WANTING. All figures that have no meaning for the answer are 0.
+ */
+YUGERZAT_MUST_USE enum yugerzat_answer yugerzat_ask(const uint8_t *message, size_t message_len, uint32_t seen,
+    uint8_t *out, size_t out_len, uint64_t *info, size_t info_len);
+
+/*
+ * LISTS OF EXPORTS, the results of EXPORT, are linked lists: every entry stands behind a flag that is true, and a flag
+ * that is false ends the list. A list is two figures, the place of its first flag and the count of its entries. So are
+ * the groups of an entry, a linked list of names.
+ */
+enum {
+    YUGERZAT_FIGURE_EXPORTS_AT = 2, /* as asked */
+    YUGERZAT_FIGURE_EXPORTS_COUNT = 3,
+    YUGERZAT_FIGURES_EXPORTS = 4,
+
+    YUGERZAT_FIGURE_NEXT_EXPORT_THERE = 2, /* 1: an entry, and those below are its; 0: the list's end, and they are 0 */
+    YUGERZAT_FIGURE_NEXT_EXPORT_DIR_AT = 3,
+    YUGERZAT_FIGURE_NEXT_EXPORT_DIR_COUNT = 4,
+    YUGERZAT_FIGURE_NEXT_EXPORT_GROUPS_AT = 5, /* the place of their first flag */
+    YUGERZAT_FIGURE_NEXT_EXPORT_GROUPS_COUNT = 6,
+    YUGERZAT_FIGURES_NEXT_EXPORT = 7,
+
+    YUGERZAT_FIGURE_NEXT_GROUP_THERE = 2, /* 1: a name, and those below are its; 0: the list's end, and they are 0 */
+    YUGERZAT_FIGURE_NEXT_GROUP_NAME_AT = 3,
+    YUGERZAT_FIGURE_NEXT_GROUP_NAME_COUNT = 4,
+    YUGERZAT_FIGURES_NEXT_GROUP = 5,
+
+    YUGERZAT_FIGURE_SAME_EXPORTS = 0, /* 1: both lists mean the same; 0: they do not */
+    YUGERZAT_FIGURES_SAME_EXPORTS = 1
+};
+
+/*
+ * Reads a whole list. Refusals: YUGERZAT_ENDS, YUGERZAT_TOO_LONG, YUGERZAT_PAST_END, and YUGERZAT_LONG_PATH once the
+ * whole is read: the place of the first length word of a path that is above 1,024 bytes.
+ */
+YUGERZAT_MUST_USE enum yugerzat_answer yugerzat_read_exports(
+    const uint8_t *src, size_t src_len, size_t at, uint64_t *info, size_t info_len);
+
+/*
+ * Reads what stands at a place of a list: its end, or an entry. A list that was read is walked from its own place on,
+ * by YUGERZAT_FIGURE_NEXT of each entry. Refusals: those of yugerzat_read_exports.
+ */
+YUGERZAT_MUST_USE enum yugerzat_answer yugerzat_next_export(
+    const uint8_t *src, size_t src_len, size_t at, uint64_t *info, size_t info_len);
+
+/* The same for the groups of an entry: their end, or a name, of any length. */
+YUGERZAT_MUST_USE enum yugerzat_answer yugerzat_next_group(
+    const uint8_t *src, size_t src_len, size_t at, uint64_t *info, size_t info_len);
+
+/* Writes a path, the piece `at`, `count` of source. It is a writer, see above, without `fields`. */
+YUGERZAT_MUST_USE enum yugerzat_answer yugerzat_write_dirpath(const uint8_t *source, size_t source_len, size_t at,
+    size_t count, uint8_t *out, size_t out_len, size_t start, uint64_t *info, size_t info_len);
+
+/*
+ * Writes the list that stands at place `at` of source, `count` entries. YUGERZAT_OUTSIDE: what stands there is not read
+ * as a list of so many. It is a writer, see above, without `fields`.
+ */
+YUGERZAT_MUST_USE enum yugerzat_answer yugerzat_write_exports(const uint8_t *source, size_t source_len, size_t at,
+    size_t count, uint8_t *out, size_t out_len, size_t start, uint64_t *info, size_t info_len);
+
+/*
+ * Whether two lists mean the same: the same paths with the same names, in the same order. Odd flags and dirty padding
+ * do not matter. Refusals, with the figure 0: YUGERZAT_TOO_LONG, YUGERZAT_OUTSIDE, YUGERZAT_LONG_PATH, as in writing;
+ * the first of these that one of the lists has.
+ */
+YUGERZAT_MUST_USE enum yugerzat_answer yugerzat_same_exports(const uint8_t *one, size_t one_len, size_t one_at,
+    size_t one_count, const uint8_t *other, size_t other_len, size_t other_at, size_t other_count, uint64_t *info,
+    size_t info_len);
 
 #ifdef __cplusplus
 }

@@ -273,12 +273,13 @@ struct yugerzat_private_room {
     size_t size;   /* how many were counted */
     bool wide;     /* a number is not declared */
     bool too_long; /* a piece is too long */
+    bool long_path;
     enum yugerzat_answer answer;
 };
 
 static inline struct yugerzat_private_room yugerzat_private_no_room(void)
 {
-    struct yugerzat_private_room room = {NULL, 0, 0, false, false, YUGERZAT_NO_ROOM};
+    struct yugerzat_private_room room = {NULL, 0, 0, false, false, false, YUGERZAT_NO_ROOM};
     return room;
 }
 
@@ -289,6 +290,8 @@ static inline bool yugerzat_private_fits(struct yugerzat_private_room *room, uin
         room->answer = YUGERZAT_WIDE_NUMBER;
     else if (start > out_len)
         room->answer = YUGERZAT_PAST_END;
+    else if (room->long_path && !room->too_long)
+        room->answer = YUGERZAT_LONG_PATH;
     else if (room->too_long || room->size > YUGERZAT_LIMIT_BYTES)
         room->answer = YUGERZAT_TOO_LONG;
     else if (room->size <= out_len - start)
@@ -320,7 +323,7 @@ static inline uint8_t *yugerzat_private_lay(struct yugerzat_private_room *room, 
 {
     uint8_t *next = room->next;
     if (!next)
-        room->size += count;
+        room->size = count < (size_t)-1 - room->size ? room->size + count : (size_t)-1;
     if (!next || count > room->left)
         return NULL;
     room->next += count;

@@ -1,6 +1,7 @@
 //! Writing to the end of a `Vec`: each function asks how many bytes are needed, makes room for them, and writes.
 use std::vec::Vec;
 
+use crate::mount::{Dirpath, Exports, Mapping, Mountres3, Mountstat3};
 use crate::{
     current, judge, rewrite, write_fragment, Arguments, AuthUnix, Call, Diropargs3, Fattr3, Getattr3args, Getattr3res, Kind,
     Lookup3args, Lookup3res, Message, Read3args, Read3res, Refusal, Reply, Results, Rewritten, Sattr3, Setattr3args,
@@ -19,7 +20,7 @@ fn fill<T>(out: &mut Vec<u8>, size: usize, write: impl Fn(&mut [u8]) -> Result<T
 }
 
 /// Appends what `write` writes from the start of a slice.
-fn append(out: &mut Vec<u8>, write: impl Fn(&mut [u8]) -> Result<usize, Refusal>) -> Result<(), Refusal> {
+pub(crate) fn append(out: &mut Vec<u8>, write: impl Fn(&mut [u8]) -> Result<usize, Refusal>) -> Result<(), Refusal> {
     // Whatever is written has bytes, so that writing without room is refused, and the refusal says how many are needed.
     match write(&mut []) {
         Err(Refusal::NoRoom { needed }) => fill(out, needed, write).map(drop),
@@ -59,6 +60,11 @@ appending! {
     Write3res: "None in practice: there is always room.";
     Arguments<'_>: "`TooLong`: a part or the whole.";
     Results<'_>: "`TooLong`: a part or the whole.";
+    Dirpath<'_>: "`TooLong` and `LongPath`.";
+    Mountstat3: "None in practice: there is always room.";
+    Mountres3<'_>: "`TooLong`: the handle, the flavors or the whole.";
+    Exports<'_>: "None in practice: there is always room.";
+    Mapping: "None in practice: there is always room.";
 }
 
 impl Call<'_> {
@@ -113,7 +119,7 @@ appending_replies!(Reply<'_>, current::Reply<'_>);
 /// ```
 ///
 /// # Errors
-/// `Ends`, `Undeclared`, `TooLong` and `PastEnd` of the reading.
+/// Those of [`judge`].
 pub fn append_rewriting(kind: Kind, bytes: &[u8], at: usize, out: &mut Vec<u8>) -> Result<Rewritten, Refusal> {
     let judged = judge(kind, bytes, at)?;
     fill(out, judged.size, |room| rewrite(kind, bytes, at, room))

@@ -65,22 +65,25 @@ pub(crate) fn choose_by(
 
 fn hand_over<'a>(message: &'a [u8], info: &[u64; figures::CHOOSE]) -> Option<Choice<'a>> {
     let word = |place: usize| info[place] as u32;
-    let caller = if info[figure::CHOOSE_UNIX] == 0 {
-        None
-    } else {
-        Some(AuthUnix {
-            stamp: word(figure::CHOOSE_STAMP),
-            machinename: part(message, info[figure::CHOOSE_NAME_AT], info[figure::CHOOSE_NAME_COUNT])?,
-            uid: word(figure::CHOOSE_UID),
-            gid: word(figure::CHOOSE_GID),
-            gids: Words::of(message, info[figure::CHOOSE_GIDS_AT], info[figure::CHOOSE_GIDS_COUNT])?,
-        })
-    };
     Some(Choice::HandOver {
         prog: word(figure::CHOOSE_PROG),
         vers: word(figure::CHOOSE_VERS),
         proc: word(figure::CHOOSE_PROC),
         arguments: info[figure::CHOOSE_ARGUMENTS] as usize,
-        caller,
+        caller: match info[figure::CHOOSE_UNIX] {
+            0 => None,
+            _ => Some(caller(message, info)?),
+        },
+    })
+}
+
+/// Who calls, by an `AUTH_UNIX` credential.
+pub(crate) fn caller<'a>(message: &'a [u8], info: &[u64; figures::CHOOSE]) -> Option<AuthUnix<'a>> {
+    Some(AuthUnix {
+        stamp: info[figure::CHOOSE_STAMP] as u32,
+        machinename: part(message, info[figure::CHOOSE_NAME_AT], info[figure::CHOOSE_NAME_COUNT])?,
+        uid: info[figure::CHOOSE_UID] as u32,
+        gid: info[figure::CHOOSE_GID] as u32,
+        gids: Words::of(message, info[figure::CHOOSE_GIDS_AT], info[figure::CHOOSE_GIDS_COUNT])?,
     })
 }

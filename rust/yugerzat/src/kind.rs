@@ -196,7 +196,7 @@ pub struct Judged {
 /// ```
 ///
 /// # Errors
-/// `Ends`, `Undeclared`, `TooLong` and `PastEnd`.
+/// `Ends`, `Undeclared`, `TooLong` and `PastEnd`, and `LongPath` of the kinds that hold paths.
 pub fn judge(kind: Kind, bytes: &[u8], at: usize) -> Result<Judged, Refusal> {
     let mut info = [0; figures::JUDGE];
     match sys::judge(kind.number(), bytes, at, &mut info) {
@@ -236,7 +236,7 @@ pub struct Rewritten {
 /// ```
 ///
 /// # Errors
-/// `Ends`, `Undeclared`, `TooLong` and `PastEnd` of the reading, and `NoRoom` where `out` is too short.
+/// Those of [`judge`], and `NoRoom` where `out` is too short.
 pub fn rewrite(kind: Kind, bytes: &[u8], at: usize, out: &mut [u8]) -> Result<Rewritten, Refusal> {
     let mut info = [0; figures::REWRITE];
     match sys::rewrite(kind.number(), bytes, at, out, &mut info) {

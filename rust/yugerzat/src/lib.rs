@@ -1,6 +1,7 @@
 //! A wire layer for NFS version 3, proved: it reads and writes the messages of XDR (RFC 4506), ONC RPC (RFC 5531) and NFS
-//! (RFC 1813), assembles records from a stream, and chooses the program that a call is for. These are safe functions over a
-//! static library whose every function is proved against its specification.
+//! (RFC 1813), assembles records from a stream, and chooses the program that a call is for. It also answers for
+//! [mounts and ports](mount). These are safe functions over a static library whose every function is proved against its
+//! specification.
 //!
 //! # What it is for
 //!
@@ -47,6 +48,7 @@
 //! | a [procedure](Procedure)'s arguments or results | [`Arguments`], [`Results`], or the one type: [`Setattr3args`] |
 //! | attributes, a change, a name in a directory | [`Fattr3`], [`Sattr3`], [`Diropargs3`] |
 //! | a call to be served | [`choose`]: hand it over, answer it, or keep silent |
+//! | the same, for a box that is to be found and mounted | [`mount::ask`]: also MNT, UMNT, EXPORT and GETPORT |
 //! | a message to be sent | `write` into a slice or `append` to a `Vec`, then [`write_fragment`] |
 //!
 //! Readers take bytes and a place, which is an offset into them. They give a [`Reading`]: the value, the `next` place, and
@@ -121,7 +123,7 @@
 //! **Plain is not "what a strict server takes".** No upper bounds are held against a message, as nfsserve has none: a
 //! credential's body over 400 bytes, a machine name over 255, more than 16 groups and a file handle over 64 bytes are all
 //! plain, and servers that hold to the RFCs refuse them. If you pass calls on to one, test these four lengths; they are
-//! lengths of slices.
+//! lengths of slices. (Only the paths of [`mount`] have a bound, 1,024 bytes.)
 //!
 //! Plain covers the bytes that were used, and no others. The header of a call does not cover its arguments, nor what stands
 //! inside its credential: dirt inside an `AUTH_UNIX` body is seen by [`AuthUnix::read`] alone.
@@ -177,6 +179,7 @@ mod choice;
 pub mod current;
 mod kind;
 mod message;
+pub mod mount;
 mod names;
 mod procedure;
 mod procedures;
@@ -234,7 +237,7 @@ fn reading<T>(answer: u32, info: &[u64], value: impl FnOnce() -> Option<T>) -> R
 fn written(answer: u32, info: [u64; figures::WRITTEN]) -> Result<usize, Refusal> {
     match answer {
         answer::DONE => Ok(info[figure::WRITTEN_AFTER] as usize),
-        answer => Err(Refusal::of(answer, 0, 0, info[figure::WRITTEN_NEEDED])),
+        answer => Err(Refusal::of_writing(answer, info[figure::WRITTEN_NEEDED])),
     }
 }
 

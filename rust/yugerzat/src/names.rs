@@ -24,11 +24,16 @@ pub mod answer {
         FRAGMENT_TOO_LONG = 7,
         REPLY_CAME = 8,
         PAST_END = 9,
+        LONG_PATH = 10,
         HAND_OVER = 100,
         REPLY = 101,
         SILENCE = 102,
         MORE = 103,
         COMPLETE = 104,
+        MNT = 105,
+        UMNT = 106,
+        EXPORT = 107,
+        GETPORT = 108,
     }
 }
 
@@ -157,6 +162,32 @@ pub mod figure {
         CHOOSE_GIDS_AT = 10,
         CHOOSE_GIDS_COUNT = 11,
         CHOOSE_REPLY_LENGTH = 0,
+
+        ASK_PROG = 0,
+        ASK_VERS = 1,
+        ASK_PROC = 2,
+        ASK_ARGUMENTS = 3,
+        ASK_PATH_AT = 0,
+        ASK_PATH_COUNT = 1,
+        ASK_MAPPING_PROG = 0,
+        ASK_MAPPING_VERS = 1,
+        ASK_MAPPING_PROT = 2,
+        ASK_MAPPING_PORT = 3,
+        ASK_NEXT = 4,
+        ASK_UNIX = 5,
+        ASK_REPLY_LENGTH = 0,
+
+        EXPORTS_AT = 2,
+        EXPORTS_COUNT = 3,
+        NEXT_EXPORT_THERE = 2,
+        NEXT_EXPORT_DIR_AT = 3,
+        NEXT_EXPORT_DIR_COUNT = 4,
+        NEXT_EXPORT_GROUPS_AT = 5,
+        NEXT_EXPORT_GROUPS_COUNT = 6,
+        NEXT_GROUP_THERE = 2,
+        NEXT_GROUP_NAME_AT = 3,
+        NEXT_GROUP_NAME_COUNT = 4,
+        SAME_EXPORTS = 0,
     }
 }
 
@@ -176,6 +207,11 @@ pub mod figures {
         STATE = 7,
         FEED = 2,
         CHOOSE = 12,
+        ASK = 13,
+        EXPORTS = 4,
+        NEXT_EXPORT = 7,
+        NEXT_GROUP = 5,
+        SAME_EXPORTS = 1,
     }
 }
 
@@ -187,12 +223,13 @@ mod tests {
     use std::{format, println};
 
     use super::{answer, figure, figures, tag};
+    use crate::mount::{Mapping, Mountfail3, Mountstat3, LONGEST_REPLY, MNTPATHLEN};
     use crate::{current, AuthFlavor, AuthStat, Fattr3, Ftype3, Kind, Nfsfail3, Procedure, StableHow, LIMIT};
 
     /// The headers without their comments.
     fn headers() -> String {
         let mut text = String::new();
-        for name in ["yugerzat.h", "yugerzat_list.h", "yugerzat_nfs.h"] {
+        for name in ["yugerzat.h", "yugerzat_list.h", "yugerzat_nfs.h", "yugerzat_mount.h"] {
             let path = format!("{}/../../include/{name}", env!("CARGO_MANIFEST_DIR"));
             let file = std::fs::read_to_string(&path).unwrap_or_else(|e| panic!("{path} cannot be read: {e}"));
             let mut parts = file.split("/*");
@@ -239,6 +276,14 @@ mod tests {
             due(&format!("YUGERZAT_{failure}"), failure.number().into());
         }
         assert_eq!(found.keys().filter(|name| name.starts_with("YUGERZAT_NFS3ERR_")).count(), failures.len());
+        let failures: Vec<Mountfail3> = (0..20_000).filter_map(|number| Mountfail3::try_from(number).ok()).collect();
+        for failure in &failures {
+            due(&format!("YUGERZAT_{failure}"), failure.number().into());
+        }
+        assert_eq!(found.keys().filter(|name| name.starts_with("YUGERZAT_MNT3ERR_")).count(), failures.len());
+        due(&format!("YUGERZAT_{}", Mountstat3::Ok), Mountstat3::Ok.number().into());
+        due("YUGERZAT_IPPROTO_TCP", Mapping::TCP.into());
+        due("YUGERZAT_IPPROTO_UDP", Mapping::UDP.into());
         for stable in [StableHow::Unstable, StableHow::DataSync, StableHow::FileSync] {
             due(&format!("YUGERZAT_{stable}"), stable.number().into());
         }
@@ -279,8 +324,15 @@ mod tests {
         due("YUGERZAT_NF3LNK", Ftype3::Lnk as u64);
         due("YUGERZAT_NF3SOCK", Ftype3::Sock as u64);
         due("YUGERZAT_NF3FIFO", Ftype3::Fifo as u64);
-        for (name, number) in [("LIMIT", LIMIT), ("FATTR3", Fattr3::SIZE), ("REPLY", 24)] {
-            assert!(headers.contains(&format!("#define YUGERZAT_{name}_BYTES ((size_t){number})")), "{name}");
+        for (name, number) in [
+            ("LIMIT_BYTES", LIMIT),
+            ("FATTR3_BYTES", Fattr3::SIZE),
+            ("REPLY_BYTES", 24),
+            ("LONGEST_REPLY_BYTES", LONGEST_REPLY),
+            ("MAPPING_BYTES", Mapping::SIZE),
+            ("MNTPATHLEN", MNTPATHLEN),
+        ] {
+            assert!(headers.contains(&format!("#define YUGERZAT_{name} ((size_t){number})")), "{name}");
         }
         assert!(headers.contains(&format!("#define YUGERZAT_KINDS {} ", Kind::all().len())));
         println!("{seen} names have the numbers of the headers");
@@ -316,7 +368,7 @@ mod tests {
             assert!(here.map(|(_, rust)| rust).eq(there.map(type_of)), "{name}");
             seen += 1;
         }
-        assert_eq!(seen, 19);
+        assert_eq!(seen, 26);
         println!("{seen} functions have the parameters of the headers");
     }
 }

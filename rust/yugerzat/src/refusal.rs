@@ -2,7 +2,7 @@ use core::fmt;
 
 use crate::names::answer;
 
-/// Why nothing was handed over: one of nine numbered refusals, each with what it tells.
+/// Why nothing was handed over: one of ten numbered refusals, each with what it tells.
 ///
 /// ```
 /// use yugerzat::{judge, Kind, Refusal};
@@ -67,7 +67,8 @@ pub enum Refusal {
     },
     /// 3: a message, a source, an asked capacity or what would be written is over [`LIMIT`](crate::LIMIT) bytes.
     TooLong,
-    /// 4: a piece lies outside its source. The library refuses so, but nothing in this crate does: its pieces are slices.
+    /// 4: a piece lies outside its source, or a list is none. The library refuses so, but nothing in this crate does: its
+    /// pieces are slices, and its lists were read.
     Outside,
     /// 5: there is too little room from the asked place on.
     NoRoom {
@@ -82,7 +83,12 @@ pub enum Refusal {
     ReplyCame,
     /// 9: a start place is past the end.
     PastEnd,
-    /// None of the nine: the library answered what this crate does not know. It is linked with an archive of another
+    /// 10: a path is above [`MNTPATHLEN`](crate::mount::MNTPATHLEN) bytes, which is 1,024.
+    LongPath {
+        /// In reading, the place of its length word. In writing there is none.
+        place: Option<usize>,
+    },
+    /// None of the ten: the library answered what this crate does not know. It is linked with an archive of another
     /// version.
     Unknown {
         /// What the library answered.
@@ -91,6 +97,14 @@ pub enum Refusal {
 }
 
 impl Refusal {
+    /// The refusal of an answer of a writing, with the figure that it may have.
+    pub(crate) fn of_writing(answer: u32, needed: u64) -> Refusal {
+        match answer {
+            answer::LONG_PATH => Refusal::LongPath { place: None },
+            answer => Refusal::of(answer, 0, 0, needed),
+        }
+    }
+
     /// The refusal of an answer, with the figures that it may have.
     pub(crate) fn of(answer: u32, place: u64, wanting: u64, needed: u64) -> Refusal {
         match answer {
@@ -103,12 +117,13 @@ impl Refusal {
             answer::FRAGMENT_TOO_LONG => Refusal::FragmentTooLong,
             answer::REPLY_CAME => Refusal::ReplyCame,
             answer::PAST_END => Refusal::PastEnd,
+            answer::LONG_PATH => Refusal::LongPath { place: Some(place as usize) },
             // 253 to 255 blame the call, and the types of this crate let no such call through.
             answer => Refusal::Unknown { answer },
         }
     }
 
-    /// The number, 1 to 9, that C programs and the documents have for it; what the library answered where it is
+    /// The number, 1 to 10, that C programs and the documents have for it; what the library answered where it is
     /// [`Unknown`](Refusal::Unknown).
     #[must_use]
     pub const fn number(self) -> u32 {
@@ -122,6 +137,7 @@ impl Refusal {
             Refusal::FragmentTooLong => answer::FRAGMENT_TOO_LONG,
             Refusal::ReplyCame => answer::REPLY_CAME,
             Refusal::PastEnd => answer::PAST_END,
+            Refusal::LongPath { .. } => answer::LONG_PATH,
             Refusal::Unknown { answer } => answer,
         }
     }
@@ -131,6 +147,7 @@ impl Refusal {
     pub const fn place(self) -> Option<usize> {
         match self {
             Refusal::Ends { place, .. } | Refusal::Undeclared { place } => Some(place),
+            Refusal::LongPath { place } => place,
             _ => None,
         }
     }
@@ -157,6 +174,7 @@ impl Refusal {
             Refusal::FragmentTooLong => "a fragment would pass the end of the record buffer",
             Refusal::ReplyCame => "a REPLY reached the choice of program",
             Refusal::PastEnd => "a start place is past the end",
+            Refusal::LongPath { .. } => "a path is above 1,024 bytes",
             Refusal::Unknown { .. } => "this crate does not know that answer, so the archive is of another version",
         }
     }
@@ -189,11 +207,15 @@ impl From<Refusal> for std::io::Error {
         use std::io::ErrorKind;
         let kind = match refusal {
             Refusal::Ends { .. } => ErrorKind::UnexpectedEof,
-            Refusal::Undeclared { .. } | Refusal::TooLong | Refusal::FragmentTooLong | Refusal::ReplyCame => {
-                ErrorKind::InvalidData
-            },
+            Refusal::Undeclared { .. }
+            | Refusal::TooLong
+            | Refusal::FragmentTooLong
+            | Refusal::ReplyCame
+            | Refusal::LongPath { place: Some(_) } => ErrorKind::InvalidData,
             Refusal::NoRoom { .. } => ErrorKind::WriteZero,
-            Refusal::Outside | Refusal::StateDoesNotFit | Refusal::PastEnd => ErrorKind::InvalidInput,
+            Refusal::Outside | Refusal::StateDoesNotFit | Refusal::PastEnd | Refusal::LongPath { place: None } => {
+                ErrorKind::InvalidInput
+            },
             Refusal::Unknown { .. } => ErrorKind::Other,
         };
         std::io::Error::new(kind, refusal)

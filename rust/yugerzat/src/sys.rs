@@ -156,6 +156,52 @@ mod raw {
             info: *mut u64,
             info_len: usize,
         ) -> u32;
+        pub fn yugerzat_ask(
+            message: *const u8,
+            message_len: usize,
+            seen: u32,
+            out: *mut u8,
+            out_len: usize,
+            info: *mut u64,
+            info_len: usize,
+        ) -> u32;
+        pub fn yugerzat_read_exports(src: *const u8, src_len: usize, at: usize, info: *mut u64, info_len: usize) -> u32;
+        pub fn yugerzat_next_export(src: *const u8, src_len: usize, at: usize, info: *mut u64, info_len: usize) -> u32;
+        pub fn yugerzat_next_group(src: *const u8, src_len: usize, at: usize, info: *mut u64, info_len: usize) -> u32;
+        pub fn yugerzat_write_dirpath(
+            source: *const u8,
+            source_len: usize,
+            at: usize,
+            count: usize,
+            out: *mut u8,
+            out_len: usize,
+            start: usize,
+            info: *mut u64,
+            info_len: usize,
+        ) -> u32;
+        pub fn yugerzat_write_exports(
+            source: *const u8,
+            source_len: usize,
+            at: usize,
+            count: usize,
+            out: *mut u8,
+            out_len: usize,
+            start: usize,
+            info: *mut u64,
+            info_len: usize,
+        ) -> u32;
+        pub fn yugerzat_same_exports(
+            one: *const u8,
+            one_len: usize,
+            one_at: usize,
+            one_count: usize,
+            other: *const u8,
+            other_len: usize,
+            other_at: usize,
+            other_count: usize,
+            info: *mut u64,
+            info_len: usize,
+        ) -> u32;
     }
 }
 
@@ -177,6 +223,9 @@ readers! {
     read_fattr3 over yugerzat_read_fattr3;
     read_sattr3 over yugerzat_read_sattr3;
     read_diropargs3 over yugerzat_read_diropargs3;
+    read_exports over yugerzat_read_exports;
+    next_export over yugerzat_next_export;
+    next_group over yugerzat_next_group;
 }
 
 /// Writers: of values without pieces, with pieces of one source, and with pieces of two.
@@ -202,6 +251,42 @@ writers! {
     write_auth_unix(name, gids) over yugerzat_write_auth_unix;
 }
 
+/// Writers of what begins at the start of its source: `count` bytes or entries.
+macro_rules! writers_of_all {
+    ($($name:ident over $raw:ident;)*) => { $(
+        pub fn $name(source: &[u8], count: usize, out: &mut [u8], start: usize, info: &mut [u64]) -> u32 {
+            unsafe {
+                raw::$raw(
+                    source.as_ptr(), source.len(), 0, count,
+                    out.as_mut_ptr(), out.len(), start, info.as_mut_ptr(), info.len(),
+                )
+            }
+        }
+    )* };
+}
+writers_of_all! {
+    write_dirpath over yugerzat_write_dirpath;
+    write_exports over yugerzat_write_exports;
+}
+
+/// Compares lists that begin at the start of their sources: `count` entries each.
+pub fn same_exports(one: &[u8], one_count: usize, other: &[u8], other_count: usize, info: &mut [u64]) -> u32 {
+    unsafe {
+        raw::yugerzat_same_exports(
+            one.as_ptr(),
+            one.len(),
+            0,
+            one_count,
+            other.as_ptr(),
+            other.len(),
+            0,
+            other_count,
+            info.as_mut_ptr(),
+            info.len(),
+        )
+    }
+}
+
 pub fn rewrite(kind: u32, src: &[u8], at: usize, out: &mut [u8], info: &mut [u64]) -> u32 {
     unsafe {
         raw::yugerzat_rewrite(kind, src.as_ptr(), src.len(), at, out.as_mut_ptr(), out.len(), info.as_mut_ptr(), info.len())
@@ -217,7 +302,7 @@ pub fn read_auth_unix(body: &[u8], info: &mut [u64]) -> u32 {
     unsafe { raw::yugerzat_read_auth_unix(body.as_ptr(), body.len(), 0, body.len(), info.as_mut_ptr(), info.len()) }
 }
 
-/// Choices of program, in each reading of replies.
+/// Choices of program: in each reading of replies, and for mounts and ports too.
 macro_rules! choices {
     ($($name:ident over $raw:ident;)*) => { $(
         pub fn $name(message: &[u8], seen: bool, out: &mut [u8], info: &mut [u64]) -> u32 {
@@ -233,6 +318,7 @@ macro_rules! choices {
 choices! {
     choose over yugerzat_choose;
     current_choose over yugerzat_current_choose;
+    ask over yugerzat_ask;
 }
 
 pub fn feed(state: &mut [u64], run: &[u8], buf: &mut [u8], info: &mut [u64]) -> u32 {

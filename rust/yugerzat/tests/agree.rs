@@ -47,6 +47,7 @@ macro_rules! values {
     )* };
 }
 values!(Fattr3, Sattr3, Diropargs3<'_>, AuthUnix<'_>, Message<'_>, current::Message<'_>);
+values!(mount::Dirpath<'_>, mount::Mountres3<'_>, mount::Exports<'_>, mount::Mapping);
 
 /// Compares a value's reading and writing with judging and rewriting, in one round.
 fn agree<T: Value>(kind: Kind, message: &[u8], at: usize, read: Result<Reading<T>, Refusal>) -> bool {
@@ -106,6 +107,15 @@ fn sattr3_agrees() {
 #[test]
 fn diropargs3_agrees() {
     assert!(rounds(|message, at| agree(Kind::Diropargs3, message, at, Diropargs3::read(message, at))) > 1000);
+}
+
+#[test]
+fn mounts_and_ports_agree() {
+    use mount::{Dirpath, Exports, Mapping, Mountres3};
+    assert!(rounds(|message, at| agree(Kind::Dirpath, message, at, Dirpath::read(message, at))) > 1000);
+    assert!(rounds(|message, at| agree(Kind::Mountres3, message, at, Mountres3::read(message, at))) > 1000);
+    assert!(rounds(|message, at| agree(Kind::Exports, message, at, Exports::read(message, at))) > 1000);
+    assert!(rounds(|message, at| agree(Kind::Mapping, message, at, Mapping::read(message, at))) > 1000);
 }
 
 #[test]

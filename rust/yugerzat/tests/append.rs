@@ -167,6 +167,8 @@ fn refusals_are_errors() {
         (Refusal::FragmentTooLong, ErrorKind::InvalidData),
         (Refusal::ReplyCame, ErrorKind::InvalidData),
         (Refusal::PastEnd, ErrorKind::InvalidInput),
+        (Refusal::LongPath { place: Some(4) }, ErrorKind::InvalidData),
+        (Refusal::LongPath { place: None }, ErrorKind::InvalidInput),
     ];
     for (refusal, kind) in cases {
         let error = io::Error::from(refusal);

@@ -5,7 +5,7 @@ use std::process::{self, Command};
 use std::time::Duration;
 use std::{env, fs, thread};
 
-const ARCHIVE: &[u8] = b"!<arch>\nyugerzat_choose yugerzat_current_choose yugerzat_rewrite";
+const ARCHIVE: &[u8] = b"!<arch>\nyugerzat_choose yugerzat_same_exports yugerzat_rewrite";
 const HERE: &str = "aarch64-unknown-linux-gnu";
 
 /// A folder with a repository in it: the crate, the script `library`, sources, and an archive as if it were built.
@@ -165,10 +165,10 @@ fn the_build_script_finds_the_library_or_says_why_not() {
     // What is no archive, and one of an older version.
     let folder = place.run(&script, HERE, Some(".")).unwrap_err();
     assert!(folder.contains("cannot be read: "), "{folder}");
-    place.put("called/text", b"yugerzat_current_choose");
+    place.put("called/text", b"yugerzat_same_exports");
     let text = place.run(&script, HERE, Some("text"));
     assert_eq!(text, Err(format!("{} is no static library", shown("called/text"))));
-    for names in ["yugerzat_read yugerzat_judge", "yugerzat_choose yugerzat_rewrite"] {
+    for names in ["yugerzat_read yugerzat_judge", "yugerzat_choose yugerzat_rewrite", "yugerzat_current_choose"] {
         place.put("called/old.a", format!("!<arch>\n{names}").as_bytes());
         let old = place.run(&script, HERE, Some("old.a"));
         assert_eq!(old, Err(format!("{} is not the library of version 0.2.0", shown("called/old.a"))));

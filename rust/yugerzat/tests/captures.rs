@@ -8,6 +8,7 @@
 use std::collections::{BTreeMap, HashMap};
 use std::fs;
 
+use yugerzat::mount::{ask, Asked, Dirpath, Exports, Mapping, Mountres3, LONGEST_REPLY};
 use yugerzat::{
     choose, current, judge, AcceptStat, Arguments, AuthFlavor, AuthUnix, Body, Kind, Message, Reading, Records, Reply,
     Results,
@@ -139,6 +140,78 @@ fn captured_arguments_and_results_are_written_as_they_were_read() {
         println!("{procedure}: {calls} calls and {replies} results came back");
     }
     assert!(!seen.is_empty(), "the captures have no call of a known procedure");
+}
+
+#[test]
+fn captured_mounts_and_ports_are_written_as_they_were_read() {
+    let files = match files("c2s") {
+        Some(files) => files,
+        None => return,
+    };
+    // How many calls of each procedure there were, and how many of their results.
+    let mut seen = BTreeMap::new();
+    for file in &files {
+        let mut called = HashMap::new();
+        for record in records(&fs::read(file).unwrap()).0 {
+            let mut made = [0; LONGEST_REPLY];
+            let asked = ask(&record, false, &mut made).unwrap();
+            let mut written = Vec::new();
+            let (name, xid, arguments) = match asked {
+                Asked::Mnt { xid, path, next, .. } => {
+                    Dirpath { path }.append(&mut written).unwrap();
+                    ("MNT", xid, next)
+                },
+                Asked::Export { xid, next, .. } => ("EXPORT", xid, next),
+                Asked::Getport { xid, mapping, next, .. } => {
+                    assert!([Mapping::TCP, Mapping::UDP].contains(&mapping.prot), "{}: {mapping:?}", file.display());
+                    mapping.append(&mut written).unwrap();
+                    ("GETPORT", xid, next)
+                },
+                Asked::Replied { length } => {
+                    assert!(Message::read(&made[..length], 0).unwrap().plain, "{}", file.display());
+                    continue;
+                },
+                Asked::HandOver { prog: 100_003, .. } => continue,
+                other => panic!("{}: {other:?}", file.display()),
+            };
+            assert_eq!(
+                (&record[arguments - written.len()..], arguments),
+                (&written[..], record.len()),
+                "{}",
+                file.display()
+            );
+            seen.entry(name).or_insert((0, 0)).0 += 1;
+            called.insert(xid, name);
+        }
+        let replies = file.to_string_lossy().replace("-c2s.bin", "-s2c.bin");
+        for record in records(&fs::read(&replies).unwrap()).0 {
+            let header = Message::read(&record, 0).unwrap();
+            let mut written = Vec::new();
+            let name = match called.get(&header.value.xid) {
+                Some(name) => *name,
+                None => continue,
+            };
+            match name {
+                "MNT" => {
+                    let result = Mountres3::read(&record, header.next).unwrap();
+                    assert!(result.plain && matches!(result.value, Mountres3::Ok { .. }), "{replies}: {result:?}");
+                    result.value.append(&mut written).unwrap();
+                },
+                "EXPORT" => {
+                    let list = Exports::read(&record, header.next).unwrap();
+                    assert!(list.plain && !list.value.is_empty(), "{replies}: {list:?}");
+                    written = list.value.to_vec().unwrap();
+                },
+                _ => written.extend_from_slice(&record[header.next..header.next + 4]),
+            }
+            assert_eq!(written, record[header.next..], "{replies}");
+            seen.entry(name).or_insert((0, 0)).1 += 1;
+        }
+    }
+    for (name, (calls, replies)) in &seen {
+        println!("{name}: {calls} calls and {replies} results came back");
+    }
+    assert!(!seen.is_empty(), "the captures have no call of mounts or ports");
 }
 
 #[test]

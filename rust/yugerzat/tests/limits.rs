@@ -44,6 +44,8 @@ fn kinds_have_their_numbers_and_names() {
     assert_eq!((Kind::Symlinkdata3.number(), Kind::Symlinkdata3.name()), (46, "symlinkdata3"));
     assert_eq!((Kind::Write3res.number(), Kind::Write3res.name()), (58, "write3res"));
     assert_eq!((Kind::CurrentRpcMsg.number(), Kind::CurrentRpcMsg.name()), (66, "current_rpc_msg"));
+    assert_eq!((Kind::Dirpath.number(), Kind::Dirpath.name()), (67, "dirpath"));
+    assert_eq!((Kind::Mapping.number(), Kind::Mapping.name()), (71, "mapping"));
 }
 
 #[test]
@@ -59,9 +61,9 @@ fn kinds_are_found_by_number_and_name() {
     for name in ["", "sattr", "sattr33", "Sattr3", "SATTR3", " sattr3", "44"] {
         assert!(name.parse::<Kind>().is_err(), "{name:?}");
     }
-    let unknown = Kind::try_from(67).unwrap_err();
+    let unknown = Kind::try_from(72).unwrap_err();
     assert_eq!(unknown.to_string(), "there is no kind of message of that name or number");
-    assert_eq!(Kind::all().next_back(), Some(Kind::CurrentRpcMsg));
+    assert_eq!(Kind::all().next_back(), Some(Kind::Mapping));
 }
 
 #[test]
@@ -159,6 +161,14 @@ fn what_is_wanting_finishes_the_item() {
     for kind in [Kind::RpcMsg, Kind::CurrentRpcMsg] {
         finishes("current::Message", &sample(kind), 0, |bytes| current::Message::read(bytes, 0).map(|read| read.next));
     }
+    let message = sample(Kind::Dirpath);
+    finishes("Dirpath", &message, 0, |bytes| mount::Dirpath::read(bytes, 0).map(|read| read.next));
+    let message = sample(Kind::Mountres3);
+    finishes("Mountres3", &message, 0, |bytes| mount::Mountres3::read(bytes, 0).map(|read| read.next));
+    let message = sample(Kind::Exports);
+    finishes("Exports", &message, 0, |bytes| mount::Exports::read(bytes, 0).map(|read| read.next));
+    let message = sample(Kind::Mapping);
+    finishes("Mapping", &message, 0, |bytes| mount::Mapping::read(bytes, 0).map(|read| read.next));
     for procedure in Procedure::all() {
         let (arguments, results) = (sample(procedure.arguments()), sample(procedure.results()));
         finishes(procedure.name(), &arguments, 0, |bytes| Arguments::read(procedure, bytes, 0).map(|read| read.next));
@@ -201,6 +211,11 @@ fn a_message_has_a_largest_size() {
     refused(AuthUnix::read(&message), Refusal::TooLong);
     refused(choose(&message, false), Refusal::TooLong);
     refused(current::choose(&message, false), Refusal::TooLong);
+    refused(mount::ask(&message, false, &mut out), Refusal::TooLong);
+    refused(mount::Dirpath::read(&message, 0), Refusal::TooLong);
+    refused(mount::Mountres3::read(&message, 0), Refusal::TooLong);
+    refused(mount::Exports::read(&message, 0), Refusal::TooLong);
+    refused(mount::Mapping::read(&message, 0), Refusal::TooLong);
     refused(write_fragment(&message, &mut out, 0), Refusal::TooLong);
     refused(Assembler::new(LIMIT + 1), Refusal::TooLong);
     refused(Assembler::new(usize::MAX), Refusal::TooLong);
@@ -639,16 +654,22 @@ fn refusals_say_what_they_mean() {
         Refusal::FragmentTooLong,
         Refusal::ReplyCame,
         Refusal::PastEnd,
+        Refusal::LongPath { place: Some(40) },
     ];
-    assert!(all.iter().map(|refusal| refusal.number()).eq(1..=9));
-    assert!(all.iter().map(|refusal| refusal.place()).eq([Some(4), Some(8)].into_iter().chain([None; 7])));
-    assert!(all.iter().map(|refusal| refusal.wanting()).eq([Some(3)].into_iter().chain([None; 8])));
+    assert!(all.iter().map(|refusal| refusal.number()).eq(1..=10));
+    let places = [Some(4), Some(8)].into_iter().chain([None; 7]).chain([Some(40)]);
+    assert!(all.iter().map(|refusal| refusal.place()).eq(places));
+    assert!(all.iter().map(|refusal| refusal.wanting()).eq([Some(3)].into_iter().chain([None; 9])));
     let said: Vec<String> = all.iter().map(Refusal::to_string).collect();
     assert!(said.iter().zip(all).all(|(said, refusal)| said.contains(refusal.meaning())));
     assert_eq!(said[0], "refusal 1 at place 4: the message ends inside an item, 3 bytes are wanting");
     assert_eq!(said[1], "refusal 2 at place 8: a number that must be declared is not");
     assert_eq!(said[4], "refusal 5: too little room from the asked place on, 24 bytes are needed");
     assert_eq!(said[8], "refusal 9: a start place is past the end");
+    assert_eq!(said[9], "refusal 10 at place 40: a path is above 1,024 bytes");
+    let written = Refusal::LongPath { place: None };
+    assert_eq!((written.number(), written.place()), (10, None));
+    assert_eq!(written.to_string(), "refusal 10: a path is above 1,024 bytes");
     let one = Refusal::Ends { place: 4, wanting: 1 };
     assert_eq!(one.to_string(), "refusal 1 at place 4: the message ends inside an item, 1 byte is wanting");
     assert_eq!(Refusal::Unknown { answer: 254 }.number(), 254);

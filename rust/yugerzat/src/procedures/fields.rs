@@ -1,8 +1,8 @@
-//! Fields of arguments and results, in the order of RFC 1813. The library has no function that hands these over as figures.
+//! Fields of arguments and results, in the order of the RFCs. The library has no function that hands these over as figures.
 //! So it judges a message first, and only then are the fields taken out of it here; and what is laid here is judged before
 //! it is handed over. The verdicts are proved. Which field stands where is in this folder alone, and is tested.
 use crate::names::answer;
-use crate::{judge, Fattr3, Judged, Kind, Nfsfail3, Nfstime3, Reading, Refusal, LIMIT};
+use crate::{judge, Fattr3, Judged, Kind, Nfsfail3, Nfstime3, Reading, Refusal, Words, LIMIT};
 
 /// A field is not where it has to be after the library's verdict. With an archive of this version that cannot happen.
 const UNKNOWN: Refusal = Refusal::Unknown { answer: answer::DONE };
@@ -16,34 +16,52 @@ pub trait Whole<'a>: Sized {
     fn lay(&self, to: &mut Laying<'_>) -> Result<(), Refusal>;
 }
 
-/// Reads from place `at` of `bytes`. The answer is the judge's; the fields are taken from the bytes that it used.
 pub fn read<'a, T: Whole<'a>>(bytes: &'a [u8], at: usize) -> Result<Reading<T>, Refusal> {
-    let Judged { next, plain, .. } = judge(T::KIND, bytes, at)?;
+    taken(T::KIND, bytes, at, T::take)
+}
+
+pub fn write<'a, T: Whole<'a>>(value: &T, out: &mut [u8], start: usize) -> Result<usize, Refusal> {
+    laid(T::KIND, out, start, |to| value.lay(to))
+}
+
+/// Reads from place `at` of `bytes`. The answer is the judge's; the fields are taken from the bytes that it used.
+pub fn taken<'a, T>(
+    kind: Kind,
+    bytes: &'a [u8],
+    at: usize,
+    take: impl FnOnce(&mut Taking<'a>) -> Result<T, Refusal>,
+) -> Result<Reading<T>, Refusal> {
+    let Judged { next, plain, .. } = judge(kind, bytes, at)?;
     let mut from = Taking { bytes, at };
-    match T::take(&mut from) {
+    match take(&mut from) {
         Ok(value) if from.at == next => Ok(Reading { value, next, plain }),
         _ => Err(UNKNOWN),
     }
 }
 
 /// Writes from place `start` of `out`, and gives the place after it.
-pub fn write<'a, T: Whole<'a>>(value: &T, out: &mut [u8], start: usize) -> Result<usize, Refusal> {
+pub fn laid(
+    kind: Kind,
+    out: &mut [u8],
+    start: usize,
+    lay: impl Fn(&mut Laying<'_>) -> Result<(), Refusal>,
+) -> Result<usize, Refusal> {
     let room = out.get_mut(start..).ok_or(Refusal::PastEnd)?;
     let mut count = Laying { out: None, at: 0 };
-    value.lay(&mut count)?;
+    lay(&mut count)?;
     let size = count.at;
     if size > LIMIT {
         return Err(Refusal::TooLong);
     }
     let room = room.get_mut(..size).ok_or(Refusal::NoRoom { needed: size })?;
     // An archive that does not know the kind says so here, while nothing is touched yet.
-    match judge(T::KIND, &[], 0) {
+    match judge(kind, &[], 0) {
         Err(Refusal::Ends { .. }) => {},
         Err(refusal) => return Err(refusal),
         Ok(_) => return Err(UNKNOWN),
     }
-    value.lay(&mut Laying { out: Some(&mut *room), at: 0 }).map_err(|_| UNKNOWN)?;
-    match judge(T::KIND, room, 0) {
+    lay(&mut Laying { out: Some(&mut *room), at: 0 }).map_err(|_| UNKNOWN)?;
+    match judge(kind, room, 0) {
         Ok(Judged { next, plain: true, .. }) if next == size => Ok(start + size),
         _ => Err(UNKNOWN),
     }
@@ -90,6 +108,12 @@ impl<'a> Taking<'a> {
         let content = self.bytes(count)?;
         self.bytes(padding(count))?;
         Ok(content)
+    }
+
+    /// A list of words.
+    pub fn words(&mut self) -> Result<Words<'a>, Refusal> {
+        let count = self.word()? as usize;
+        self.bytes(count.checked_mul(4).ok_or(UNKNOWN)?).and_then(|bytes| Words::new(bytes).ok_or(UNKNOWN))
     }
 
     /// A number of an enumeration.
@@ -162,6 +186,12 @@ impl Laying<'_> {
         self.word(content.len() as u32)?;
         self.bytes(content)?;
         self.bytes(&[0; 3][..padding(content.len())])
+    }
+
+    /// Only what has a lawful length is laid, and its count fits a word.
+    pub fn words(&mut self, words: Words<'_>) -> Result<(), Refusal> {
+        self.word(words.len() as u32)?;
+        self.bytes(words.as_bytes())
     }
 
     /// What a writer of the library writes; without room it says how many bytes that takes.

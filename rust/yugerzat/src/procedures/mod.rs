@@ -1,10 +1,10 @@
 //! The arguments and results of procedures (RFC 1813, section 3.3).
-mod fields;
+pub(crate) mod fields;
 mod getattr;
 mod lookup;
 mod read;
 mod setattr;
-mod status;
+pub(crate) mod status;
 mod wcc;
 mod write;
 

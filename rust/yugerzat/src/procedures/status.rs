@@ -49,6 +49,8 @@ macro_rules! enumeration {
     };
 }
 
+pub(crate) use enumeration;
+
 enumeration! {
     /// Why a procedure failed: `nfsstat3` without `NFS3_OK` (RFC 1813, section 2.6), so that no failure can be a success.
     ///
