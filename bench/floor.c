@@ -889,3 +889,174 @@ uint32_t floor_copy_write3args(
     lay_opaque(lay_word(lay_word(p, v.count), v.stable), src, v.data);
     TOOK(r->at, !r->loose, size);
 }
+
+/* ---- exports: flags that say whether an entry or a name follows; one walk to test all of it, one to write it */
+
+#define LONGEST_PATH 1024
+
+static inline uint32_t take_next_group(struct reading *r, uint32_t *there, struct piece *name)
+{
+    TAKE(take_flag(r, there));
+    return *there ? take_opaque(r, name) : 0;
+}
+
+static inline uint32_t take_groups(struct reading *r, struct piece *groups)
+{
+    groups->at = r->at;
+    for (groups->count = 0;; groups->count++) {
+        struct piece name;
+        uint32_t there;
+        TAKE(take_next_group(r, &there, &name));
+        if (!there)
+            return 0;
+    }
+}
+
+struct entry {
+    uint32_t there;
+    struct piece dir, groups;
+};
+
+/* Whatever the length of its path. */
+static inline uint32_t take_next_export(struct reading *r, struct entry *v)
+{
+    TAKE(take_flag(r, &v->there));
+    if (!v->there)
+        return 0;
+    TAKE(take_opaque(r, &v->dir));
+    return take_groups(r, &v->groups);
+}
+
+/* The first path that is too long counts only once all is read. */
+static inline uint32_t take_exports(struct reading *r, size_t *count)
+{
+    struct entry v;
+    size_t too_long = 0;
+    for (*count = 0;; ++*count) {
+        size_t here = r->at;
+        TAKE(take_next_export(r, &v));
+        if (!v.there)
+            break;
+        if (v.dir.count > LONGEST_PATH && !too_long)
+            too_long = here + 4;
+    }
+    if (!too_long)
+        return 0;
+    r->at = too_long;
+    return 10;
+}
+
+/* An opaque that was read, and how long it is. */
+static inline size_t lay_again(uint8_t *p, const uint8_t *from)
+{
+    struct piece piece = {4, word_of(from)};
+    lay_opaque(p, from, piece);
+    return padded_size(piece);
+}
+
+/* A list that was read. Whatever its flags and padding are, each item stands as far behind the start as before. */
+static inline void lay_exports(uint8_t *p, const uint8_t *from)
+{
+    size_t n = 0;
+    while (word_of(from + n)) {
+        lay_word(p + n, 1);
+        n += 4;
+        n += lay_again(p + n, from + n);
+        while (word_of(from + n)) {
+            lay_word(p + n, 1);
+            n += 4;
+            n += lay_again(p + n, from + n);
+        }
+        lay_word(p + n, 0);
+        n += 4;
+    }
+    lay_word(p + n, 0);
+}
+
+uint32_t floor_read_exports(const uint8_t *src, size_t len, size_t at, uint64_t *info, size_t infos)
+{
+    size_t count;
+    OPEN(4);
+    READ(4, take_exports(r, &count));
+    info[0] = r->at;
+    info[1] = !r->loose;
+    info[2] = at;
+    info[3] = count;
+    return 0;
+}
+
+uint32_t floor_next_export(const uint8_t *src, size_t len, size_t at, uint64_t *info, size_t infos)
+{
+    struct entry v = {0};
+    OPEN(7);
+    READ(7, take_next_export(r, &v));
+    if (v.dir.count > LONGEST_PATH)
+        return unread(0, 0, at + 4, info, 7, 10);
+    info[0] = r->at;
+    info[1] = !r->loose;
+    info[2] = v.there;
+    info[3] = v.dir.at;
+    info[4] = v.dir.count;
+    info[5] = v.groups.at;
+    info[6] = v.groups.count;
+    return 0;
+}
+
+uint32_t floor_next_group(const uint8_t *src, size_t len, size_t at, uint64_t *info, size_t infos)
+{
+    uint32_t there;
+    struct piece name = {0};
+    OPEN(5);
+    READ(5, take_next_group(r, &there, &name));
+    info[0] = r->at;
+    info[1] = !r->loose;
+    info[2] = there;
+    info[3] = name.at;
+    info[4] = name.count;
+    return 0;
+}
+
+uint32_t floor_write_exports(const uint8_t *src, size_t len, size_t place, size_t count, uint8_t *out, size_t room,
+    size_t start, uint64_t *info, size_t infos)
+{
+    struct reading reading = {src, len, place, 0, 0};
+    size_t found;
+    if (infos < 1)
+        return SHORT_LIST;
+    if (start > room)
+        return refused(info, 1, 9);
+    if (len > LIMIT)
+        return refused(info, 1, 3);
+    uint32_t number = place > len ? 1 : take_exports(&reading, &found);
+    if (number == 1 || found != count)
+        return refused(info, 1, 4);
+    if (number)
+        return refused(info, 1, number);
+    size_t size = reading.at - place;
+    if (room - start < size)
+        return no_room(info, 1, size);
+    lay_exports(out + start, src + place);
+    info[0] = start + size;
+    return 0;
+}
+
+uint32_t floor_judge_exports(const uint8_t *src, size_t len, size_t at, uint64_t *info, size_t infos)
+{
+    size_t count;
+    OPEN(3);
+    READ(3, take_exports(r, &count));
+    TOOK(r->at, !r->loose, r->at - at);
+}
+
+uint32_t floor_copy_exports(
+    const uint8_t *src, size_t len, size_t at, uint8_t *out, size_t room, uint64_t *info, size_t infos)
+{
+    size_t count;
+    OPEN(3);
+    READ(3, take_exports(r, &count));
+    size_t size = r->at - at;
+    if (room < size)
+        return no_room(info, 3, size);
+    lay_exports(out, src + at);
+    TOOK(r->at, !r->loose, size);
+}

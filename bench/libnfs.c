@@ -6,6 +6,7 @@
 #include <nfsc/libnfs.h>
 #include <nfsc/libnfs-raw.h>
 #include <nfsc/libnfs-raw-nfs.h>
+#include <nfsc/libnfs-raw-mount.h>
 
 #include "values.h"
 
@@ -16,6 +17,8 @@ static sattr3 change;
 static diropargs3 where;
 static READ3res read_result;
 static WRITE3args write_arguments;
+static exports list;
+static ZDR list_reading;
 static char *bytes_at;
 static uint32_t bytes_count;
 
@@ -71,6 +74,7 @@ BOTH(opaque, zdr_whole, &bytes_at, bytes_at = NULL)
 BOTH(read3res, zdr_READ3res, &read_result, read_result.READ3res_u.resok.data.data_val = NULL)
 BOTH(write3args, zdr_WRITE3args, &write_arguments,
     (write_arguments.file.data.data_val = NULL, write_arguments.data.data_val = NULL))
+BOTH(exports, zdr_exports, &list, list = NULL)
 
 /* What libnfs_write_diropargs3 writes: a decoded name does not outlive its decoding. */
 void libnfs_where(char *handle, uint32_t count, char *name)
@@ -78,6 +82,26 @@ void libnfs_where(char *handle, uint32_t count, char *name)
     where.dir.data.data_val = handle;
     where.dir.data.data_len = count;
     where.name = name;
+}
+
+/* What libnfs_write_exports writes, until another list is decoded. */
+uint32_t libnfs_hold_exports(const uint8_t *src, size_t len)
+{
+    zdr_destroy(&list_reading);
+    list = NULL;
+    zdrmem_create(&list_reading, (char *)src, (uint32_t)len, ZDR_DECODE);
+    return zdr_exports(&list_reading, &list) ? zdr_getpos(&list_reading) : 0;
+}
+
+/* How many entries and names there are. */
+uint32_t libnfs_walk_exports(const uint8_t *src, size_t len)
+{
+    ZDR z;
+    list = NULL;
+    zdrmem_create(&z, (char *)src, (uint32_t)len, ZDR_DECODE);
+    uint32_t count = zdr_exports(&z, &list) ? walked(list) : 0;
+    zdr_destroy(&z);
+    return count;
 }
 
 /* Encodes a value of values.h. */

@@ -1,5 +1,6 @@
-/* Arguments and results of GETATTR, SETATTR, LOOKUP, READ and WRITE, for the peers to encode. The structs that rpcgen makes
- * and those of libnfs have the RFC's names, so one text fills both; it is included behind their declarations. */
+/* Arguments and results of GETATTR, SETATTR, LOOKUP, READ and WRITE, and results of EXPORT, for the peers to encode. The
+ * structs that rpcgen makes and those of libnfs have the RFC's names, so one text fills both; it is included behind their
+ * declarations. */
 #include <string.h>
 
 /* Which value: the sum of some of these, and of FAILURE times the place of a failure in the RFC's list. */
@@ -19,7 +20,8 @@ enum { FAILED = 1, FULL = 2, ODD = 4, FAILURE = 8 };
     with(read3args, READ3args)       \
     with(read3res, READ3res)         \
     with(write3args, WRITE3args)     \
-    with(write3res, WRITE3res)
+    with(write3res, WRITE3res)       \
+    with(exports, exports)
 /* clang-format on */
 
 /* 64, as many as a handle may have. None is zero, so that padding shows behind them. */
@@ -230,4 +232,33 @@ static WRITE3res a_write3res(uint32_t which)
         memcpy(ok->verf, some_bytes, sizeof ok->verf);
     }
     return v;
+}
+
+/* None, one entry, or with FULL three; the first has no name behind its path, the next one, and the last two. */
+static exports a_exports(uint32_t which)
+{
+    static exportnode entries[3];
+    static groupnode names[3];
+    uint32_t count = which & FAILED ? 0 : which & FULL ? 3 : 1, n;
+    char *path = some_bytes + 64 - which / FAILURE;
+    for (n = 0; n < 3; n++) {
+        entries[n].ex_dir = n == 0 ? path : some_bytes + 64 - n;
+        entries[n].ex_groups = n == 0 ? NULL : &names[n - 1];
+        entries[n].ex_next = n + 1 < count ? &entries[n + 1] : NULL;
+        names[n].gr_name = which & ODD ? some_bytes + 61 - n : some_bytes + 64;
+        names[n].gr_next = n == 1 ? &names[2] : NULL;
+    }
+    return count > 0 ? entries : NULL;
+}
+
+/* How many entries and names an export list has. */
+static uint32_t walked(exports list)
+{
+    uint32_t count = 0;
+    for (; list; list = list->ex_next) {
+        count++;
+        for (groups names = list->ex_groups; names; names = names->gr_next)
+            count++;
+    }
+    return count;
 }

@@ -26,15 +26,19 @@ fn variants(message: &[u8]) -> Vec<Vec<u8>> {
 }
 
 /// What a call left behind: its answer, its figures, the bytes written.
-type Left = (u32, [u64; 20], [u8; ROOM]);
+type Left<const N: usize> = (u32, [u64; 20], [u8; N]);
 
-fn left(call: impl FnOnce(*mut u64, *mut u8) -> u32) -> Left {
-    let (mut info, mut out) = ([0xEEEE; 20], [0xEE; ROOM]);
+fn left_in<const N: usize>(call: impl FnOnce(*mut u64, *mut u8) -> u32) -> Left<N> {
+    let (mut info, mut out) = ([0xEEEE; 20], [0xEE; N]);
     let answer = call(info.as_mut_ptr(), out.as_mut_ptr());
     (answer, info, out)
 }
 
-fn same(what: &str, of: &[u8], ours: Left, floor: Left) {
+fn left(call: impl FnOnce(*mut u64, *mut u8) -> u32) -> Left<ROOM> {
+    left_in(call)
+}
+
+fn same<const N: usize>(what: &str, of: &[u8], ours: Left<N>, floor: Left<N>) {
     assert_eq!(ours, floor, "{what} of {of:02x?}: ours, and the floor's");
 }
 
@@ -153,6 +157,12 @@ pub fn same_duty() -> u64 {
         rewritten!(count, 56, floor_copy_read3res and floor_judge_read3res, messages::read3res(data.as_bytes()));
         rewritten!(count, 57, floor_copy_write3args and floor_judge_write3args, messages::write3args(data.as_bytes()));
     }
+    for src in export_lists() {
+        rewritten!(count, 70, floor_copy_exports and floor_judge_exports, src);
+        read!(count, yugerzat_read_exports, floor_read_exports, 4, src);
+        read!(count, yugerzat_next_export, floor_next_export, 7, src);
+        read!(count, yugerzat_next_group, floor_next_group, 5, src);
+    }
     // The statuses that RFC 1813 declares are among these.
     for status in (0..128).chain(9_990..10_020) {
         let src = messages::read3res_failed(status);
@@ -167,6 +177,8 @@ pub fn same_duty() -> u64 {
     read!(count, yugerzat_read_sattr3, floor_read_sattr3, 16, messages::sattr3_empty());
     read!(count, yugerzat_read_diropargs3, floor_read_diropargs3, 6, messages::diropargs3());
     count += credentials();
+    count += written_lists();
+    count += long_paths();
     written!(
         count,
         writer!(yugerzat_write_fattr3),
@@ -209,6 +221,84 @@ fn credentials() -> u64 {
                 count += 1;
             }
         }
+    }
+    count
+}
+
+/// Export lists whose entries have none, one and two groups, with padding and without.
+fn export_lists() -> Vec<Vec<u8>> {
+    let entries = [("/srv/music", vec![]), ("/a", vec!["bbb"]), ("", vec!["", "hall"]), ("/etc", vec![])];
+    let list = |n| {
+        let text = |s: &&str| String::from(*s);
+        messages::exports(entries[..n].iter().map(|(path, names)| (text(path), names.iter().map(text).collect())))
+    };
+    (0..=entries.len()).map(list).collect()
+}
+
+fn written_lists() -> u64 {
+    let mut count = 0;
+    for src in export_lists().iter().flat_map(|list| variants(list)) {
+        let (p, n) = (src.as_ptr(), src.len());
+        let places = [(4, 0), (n, 0), (n + 1, 0), (usize::MAX, 1), (0, usize::MAX)];
+        for (place, entries) in (0..=5).map(|entries| (0, entries)).chain(places) {
+            for (start, room, figures) in
+                [(0, ROOM, 1), (3, ROOM, 2), (0, n, 1), (1, n, 1), (0, 4, 1), (5, 4, 1), (0, 0, 1), (0, ROOM, 0)]
+            {
+                // SAFETY: as above.
+                let ours = left(|info, out| unsafe {
+                    yugerzat_write_exports(p, n, place, entries, out, room, start, info, figures)
+                });
+                // SAFETY: as above.
+                let floor =
+                    left(|info, out| unsafe { floor_write_exports(p, n, place, entries, out, room, start, info, figures) });
+                same("floor_write_exports", &src, ours, floor);
+                count += 1;
+            }
+        }
+    }
+    count
+}
+
+/// Lists of three entries with paths at the bound and over it, whole and cut; and sources at the bound and over it.
+fn long_paths() -> u64 {
+    const LENGTHS: [usize; 4] = [3, 1024, 1025, 2000];
+    let mut count = 0;
+    for lengths in LENGTHS.iter().flat_map(|&a| LENGTHS.map(|b| LENGTHS.map(|c| [a, b, c]))).flatten() {
+        let whole = messages::exports(lengths.map(|n| ("x".repeat(n), vec![String::from("hall")])));
+        for cut in [0, 1, 4, 9, 2000] {
+            count += long_path(&whole[..whole.len().saturating_sub(cut)]);
+        }
+    }
+    count + long_path(&vec![0; 1_048_576]) + long_path(&vec![0; 1_048_577])
+}
+
+fn long_path(src: &[u8]) -> u64 {
+    const EXPORTS: u32 = 70;
+    const ROOM: usize = 8192;
+    let (p, n) = (src.as_ptr(), src.len());
+    let mut count = 0;
+    macro_rules! compare {
+        (|$info:ident, $out:ident| $ours:expr, $floor:expr) => {
+            // SAFETY: as above.
+            let ours = left_in::<ROOM>(|$info, $out| unsafe { $ours });
+            // SAFETY: as above.
+            let floor = left_in::<ROOM>(|$info, $out| unsafe { $floor });
+            same(stringify!($floor), src, ours, floor);
+            count += 1;
+        };
+    }
+    compare!(|info, _out| yugerzat_judge(EXPORTS, p, n, 0, info, 3), floor_judge_exports(p, n, 0, info, 3));
+    compare!(|info, _out| yugerzat_read_exports(p, n, 0, info, 4), floor_read_exports(p, n, 0, info, 4));
+    compare!(|info, _out| yugerzat_next_export(p, n, 0, info, 7), floor_next_export(p, n, 0, info, 7));
+    compare!(
+        |info, out| yugerzat_rewrite(EXPORTS, p, n, 0, out, ROOM, info, 3),
+        floor_copy_exports(p, n, 0, out, ROOM, info, 3)
+    );
+    for entries in [0, 2, 3] {
+        compare!(
+            |info, out| yugerzat_write_exports(p, n, 0, entries, out, ROOM, 0, info, 1),
+            floor_write_exports(p, n, 0, entries, out, ROOM, 0, info, 1)
+        );
     }
     count
 }

@@ -12,11 +12,13 @@ use std::env;
 use std::ffi::CString;
 use std::process::ExitCode;
 
-use outside::{count_begin, count_end};
+use outside::{count_begin, count_end, tirpc_stack};
 use rows::rows;
 
 const PASSES: u32 = 6;
 const SAMPLES: u32 = 60;
+/// One of a list takes as long as many of the others.
+const LIST_SAMPLES: u32 = 15;
 
 fn main() -> ExitCode {
     let words: Vec<String> = env::args().skip(1).collect();
@@ -44,11 +46,15 @@ fn time() -> Result<(), String> {
     eprintln!("bench: {compared} answers of the floor are those of the library");
     let made = peers::plain_to_us()?;
     eprintln!("bench: {made} messages of libtirpc and libnfs are plain to the library, and rewritten to the same bytes");
+    let exports = messages::short_exports(80_000);
+    // SAFETY: the address comes with the length of what lies there.
+    let stack = unsafe { tirpc_stack(exports.as_ptr(), exports.len()) };
+    eprintln!("bench: libtirpc decodes 80,000 exports in {stack} bytes of stack");
     let mut rows = rows();
     for pass in 1..=PASSES {
         eprintln!("bench: timing, pass {pass} of {PASSES} ..");
         for row in &mut rows {
-            row.time(SAMPLES);
+            row.time(if row.bytes.is_some() { LIST_SAMPLES } else { SAMPLES });
         }
     }
     table::times(&rows);
@@ -57,9 +63,15 @@ fn time() -> Result<(), String> {
 
 /// Under callgrind: each contestant once warm, then so many times between two marks.
 fn count() {
-    for mut row in rows() {
+    for mut row in rows().into_iter().filter(|row| !row.shorter) {
         (row.ready)();
-        let times = if row.copying { 4 } else { 100 };
+        let times = if row.bytes.is_some() {
+            1
+        } else if row.copying {
+            4
+        } else {
+            100
+        };
         for contestant in &mut row.contestants {
             let mark = |name: &str| CString::new(name).expect("a name has no zero");
             let (name, idle) = (format!("{}|{}|{times}", row.name, contestant.who as u32), mark("-"));

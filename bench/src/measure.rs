@@ -31,6 +31,10 @@ pub struct Row {
     pub name: &'static str,
     /// The floor is a memcpy of the same bytes.
     pub copying: bool,
+    /// For a list, how many bytes it has: it is also told what a byte takes.
+    pub bytes: Option<usize>,
+    /// For a list that is told only by the byte: the row that comes next is of a longer one.
+    pub shorter: bool,
     /// Readies what the peers keep between calls.
     pub ready: Box<dyn FnMut()>,
     pub contestants: Vec<Contestant>,
@@ -55,7 +59,7 @@ fn sample(contestant: &mut Contestant) -> f64 {
 
 impl Row {
     pub fn new(name: &'static str, contestants: Vec<Contestant>) -> Row {
-        Row { name, copying: false, ready: Box::new(|| ()), contestants }
+        Row { name, copying: false, bytes: None, shorter: false, ready: Box::new(|| ()), contestants }
     }
 
     pub fn ready_by(self, ready: impl FnMut() + 'static) -> Row {

@@ -75,3 +75,31 @@ pub fn reply(body: &[u32]) -> Vec<u8> {
     all.extend(words(body));
     all
 }
+
+/// An export list: of each entry its path, and the names of its groups.
+pub fn exports(entries: impl IntoIterator<Item = (String, Vec<String>)>) -> Vec<u8> {
+    let mut all = Vec::new();
+    for (path, names) in entries {
+        all.extend(words(&[1]));
+        all.extend(opaque(path.as_bytes()));
+        for name in names {
+            all.extend(words(&[1]));
+            all.extend(opaque(name.as_bytes()));
+        }
+        all.extend(words(&[0]));
+    }
+    all.extend(words(&[0]));
+    all
+}
+
+/// An export list without groups, in which every fourth entry has a path. 80,000 entries with a path each would be longer
+/// than a message may be.
+pub fn short_exports(count: usize) -> Vec<u8> {
+    let path = |n| if n % 4 == 0 { format!("/{:02}", n / 4 % 100) } else { String::new() };
+    exports((0..count).map(|n| (path(n), Vec::new())))
+}
+
+/// An export list with a path and a group in each entry.
+pub fn grouped_exports(count: usize) -> Vec<u8> {
+    exports((0..count).map(|n| (format!("/v/{n:05}"), vec![format!("g{:03}", n % 1000)])))
+}

@@ -30,6 +30,14 @@ macro_rules! copiers {
         ) -> u32;)*
     } };
 }
+macro_rules! list_writers {
+    ($($name:ident)*) => { extern "C" {
+        $(pub fn $name(
+            src: *const u8, len: usize, place: usize, count: usize, out: *mut u8, room: usize, start: usize, info: *mut u64,
+            infos: usize,
+        ) -> u32;)*
+    } };
+}
 macro_rules! peers {
     ($($read:ident $write:ident $copy:ident)*) => { extern "C" {
         $(
@@ -82,17 +90,25 @@ extern "C" {
     pub fn floor_read_auth_unix(src: *const u8, len: usize, at: usize, count: usize, info: *mut u64, infos: usize) -> u32;
 }
 readers! { yugerzat_read_rpc_msg yugerzat_read_fattr3 yugerzat_read_sattr3 yugerzat_read_diropargs3
+yugerzat_read_exports yugerzat_next_export yugerzat_next_group
 floor_read_rpc_msg floor_read_fattr3 floor_read_sattr3 floor_read_diropargs3
-floor_judge_rpc_msg floor_judge_read3res floor_judge_write3args }
+floor_read_exports floor_next_export floor_next_group
+floor_judge_rpc_msg floor_judge_read3res floor_judge_write3args floor_judge_exports }
 writers! { yugerzat_write_fattr3 yugerzat_write_sattr3 floor_write_fattr3 floor_write_sattr3 }
 writers_from_two! { yugerzat_write_diropargs3 yugerzat_write_call floor_write_diropargs3 floor_write_call }
 copiers! { floor_copy_rpc_msg floor_copy_auth_unix floor_copy_fattr3 floor_copy_sattr3 floor_copy_diropargs3
-floor_copy_opaque floor_copy_read3res floor_copy_write3args }
+floor_copy_opaque floor_copy_read3res floor_copy_write3args floor_copy_exports }
+list_writers! { yugerzat_write_exports floor_write_exports }
 
 extern "C" {
     pub fn tirpc_begin(room: *mut u8);
     pub fn tirpc_read_call_and_auth_unix(src: *const u8, len: usize) -> u32;
+    pub fn tirpc_hold_exports(src: *const u8, len: usize) -> u32;
+    pub fn tirpc_walk_exports(src: *const u8, len: usize) -> u32;
+    pub fn tirpc_stack(src: *const u8, len: usize) -> usize;
     pub fn libnfs_begin();
+    pub fn libnfs_hold_exports(src: *const u8, len: usize) -> u32;
+    pub fn libnfs_walk_exports(src: *const u8, len: usize) -> u32;
     pub fn libnfs_where(handle: *const u8, count: u32, name: *const u8);
     pub fn count_begin();
     pub fn count_end(name: *const std::ffi::c_char);
@@ -106,6 +122,7 @@ peers! {
     tirpc_read_opaque tirpc_write_opaque tirpc_copy_opaque
     tirpc_read_read3res tirpc_write_read3res tirpc_copy_read3res
     tirpc_read_write3args tirpc_write_write3args tirpc_copy_write3args
+    tirpc_read_exports tirpc_write_exports tirpc_copy_exports
     libnfs_read_rpc_msg libnfs_write_rpc_msg libnfs_copy_rpc_msg
     libnfs_read_fattr3 libnfs_write_fattr3 libnfs_copy_fattr3
     libnfs_read_sattr3 libnfs_write_sattr3 libnfs_copy_sattr3
@@ -113,14 +130,15 @@ peers! {
     libnfs_read_opaque libnfs_write_opaque libnfs_copy_opaque
     libnfs_read_read3res libnfs_write_read3res libnfs_copy_read3res
     libnfs_read_write3args libnfs_write_write3args libnfs_copy_write3args
+    libnfs_read_exports libnfs_write_exports libnfs_copy_exports
 }
 makers! {
     tirpc_make_stable_how tirpc_make_sattrguard3
     tirpc_make_getattr3args tirpc_make_getattr3res tirpc_make_setattr3args tirpc_make_setattr3res
     tirpc_make_lookup3args tirpc_make_lookup3res tirpc_make_read3args tirpc_make_read3res
-    tirpc_make_write3args tirpc_make_write3res
+    tirpc_make_write3args tirpc_make_write3res tirpc_make_exports
     libnfs_make_stable_how libnfs_make_sattrguard3
     libnfs_make_getattr3args libnfs_make_getattr3res libnfs_make_setattr3args libnfs_make_setattr3res
     libnfs_make_lookup3args libnfs_make_lookup3res libnfs_make_read3args libnfs_make_read3res
-    libnfs_make_write3args libnfs_make_write3res
+    libnfs_make_write3args libnfs_make_write3res libnfs_make_exports
 }

@@ -76,6 +76,7 @@ pub fn plain_to_us() -> Result<u64, String> {
         yugerzat_rewrite(56, read3res) by tirpc_make_read3res libnfs_make_read3res;
         yugerzat_rewrite(57, write3args) by tirpc_make_write3args libnfs_make_write3args;
         yugerzat_rewrite(58, write3res) by tirpc_make_write3res libnfs_make_write3res;
+        yugerzat_rewrite(70, exports) by tirpc_make_exports libnfs_make_exports;
     };
     let mut count = 0;
     for (kind, name, makers) in kinds {

@@ -184,6 +184,40 @@ macro_rules! judgings_and_rewritings {
     )* };
 }
 
+/// Functions that walk an export list: it is read, and then each entry, and each name of its groups. They must find what it
+/// holds.
+macro_rules! walks {
+    ($who:expr, $m:ident, $src:ident, $held:ident, $read:ident $next_export:ident $next_group:ident) => {{
+        let (src, len) = ($src.as_ptr(), $src.len());
+        let (list, entry, name) = ($m.info, $m.info.wrapping_add(4), $m.info.wrapping_add(11));
+        let walk = move || {
+            let mut found = Held { entries: 0, names: 0, text: 0 };
+            // SAFETY: every address comes with the length of what lies there, and the three lists of figures lie apart.
+            let refused = unsafe {
+                let mut refused = $read(src, len, 0, list, 4);
+                let mut at = *list.add(2) as usize;
+                for _ in 0..*list.add(3) {
+                    refused |= $next_export(src, len, at, entry, 7);
+                    at = *entry as usize;
+                    found.entries += 1;
+                    found.text += *entry.add(4) as usize;
+                    let mut place = *entry.add(5) as usize;
+                    for _ in 0..*entry.add(6) {
+                        refused |= $next_group(src, len, place, name, 5);
+                        place = *name as usize;
+                        found.names += 1;
+                        found.text += *name.add(4) as usize;
+                    }
+                }
+                refused
+            };
+            assert_eq!((refused, found), (0, $held), stringify!($next_export));
+        };
+        walk();
+        contestant($who, walk)
+    }};
+}
+
 const FIGURES: usize = 32;
 
 /// The figures of a reader, from one of them on.
@@ -256,6 +290,17 @@ pub fn rows() -> Vec<Row> {
             tirpc_read_read3res tirpc_copy_read3res libnfs_read_read3res libnfs_copy_read3res;
         "write3args 64 KiB judged" "write3args 64 KiB rewritten" write 57 floor_copy_write3args floor_judge_write3args
             tirpc_read_write3args tirpc_copy_write3args libnfs_read_write3args libnfs_copy_write3args;
+    }
+    let short = |label, n| exports(m, label, messages::short_exports(n), Held { entries: n, names: 0, text: n / 4 * 3 });
+    let grouped = |label, n| exports(m, label, messages::grouped_exports(n), Held { entries: n, names: n, text: n * 12 });
+    for (lesser, longer) in [
+        (short("10,000 exports", 10_000), short("80,000 exports", 80_000)),
+        (grouped("4,000 with groups", 4_000), grouped("32,000 with groups", 32_000)),
+    ] {
+        for (lesser, longer) in lesser.into_iter().zip(longer) {
+            rows.push(Row { shorter: true, ..lesser });
+            rows.push(longer);
+        }
     }
     rows.extend(copies(m, block));
     rows
@@ -341,6 +386,51 @@ fn diropargs3_written(m: Memory, place: &'static [u8]) -> Row {
         ],
     )
     .ready_by(ready)
+}
+
+/// What an export list holds: entries, names of groups, and bytes in its paths and names.
+#[derive(Clone, Copy, PartialEq, Eq, Debug)]
+struct Held {
+    entries: usize,
+    names: usize,
+    text: usize,
+}
+
+/// Rows of an export list. Beside "judged" the peers read and free; beside "walked" they follow their pointers besides.
+fn exports(m: Memory, label: &str, exports: Vec<u8>, held: Held) -> [Row; 4] {
+    let exports = kept(exports);
+    let (src, len, entries, all) = (exports.as_ptr(), exports.len(), held.entries, held.entries + held.names);
+    let row = |work, contestants| Row { bytes: Some(len), ..Row::new(format!("{label} {work}").leak(), contestants) };
+    let ready = move || {
+        // SAFETY: every address comes with the length of what lies there.
+        unsafe { assert!(tirpc_hold_exports(src, len) == len as u32 && libnfs_hold_exports(src, len) == len as u32) }
+    };
+    let judged = vec![
+        judges!(Who::Ours, m, exports, yugerzat_judge(70, src, len, 0, m.info, 3)),
+        judges!(Who::Floor, m, exports, floor_judge_exports(src, len, 0, m.info, 3)),
+        calls!(Who::Libtirpc, len, tirpc_read_exports(src, len)),
+        calls!(Who::Libnfs, len, libnfs_read_exports(src, len)),
+    ];
+    let walked = vec![
+        walks!(Who::Ours, m, exports, held, yugerzat_read_exports yugerzat_next_export yugerzat_next_group),
+        walks!(Who::Floor, m, exports, held, floor_read_exports floor_next_export floor_next_group),
+        calls!(Who::Libtirpc, all, tirpc_walk_exports(src, len)),
+        calls!(Who::Libnfs, all, libnfs_walk_exports(src, len)),
+    ];
+    ready();
+    let written = vec![
+        rewrites!(Who::Ours, 0, m, exports, yugerzat_write_exports(src, len, 0, entries, m.out, ROOM, 0, m.info, 1)),
+        rewrites!(Who::Floor, 0, m, exports, floor_write_exports(src, len, 0, entries, m.out, ROOM, 0, m.info, 1)),
+        rewrites!(Who::Libtirpc, len, m, exports, tirpc_write_exports(m.out, ROOM)),
+        rewrites!(Who::Libnfs, len, m, exports, libnfs_write_exports(m.out, ROOM)),
+    ];
+    let rewritten = vec![
+        rewrites!(Who::Ours, 0, m, exports, yugerzat_rewrite(70, exports.as_ptr(), len, 0, m.out, ROOM, m.info, 3)),
+        rewrites!(Who::Floor, 0, m, exports, floor_copy_exports(src, len, 0, m.out, ROOM, m.info, 3)),
+        rewrites!(Who::Libtirpc, len, m, exports, tirpc_copy_exports(src, len, m.out, ROOM)),
+        rewrites!(Who::Libnfs, len, m, exports, libnfs_copy_exports(src, len, m.out, ROOM)),
+    ];
+    [row("judged", judged), row("walked", walked), row("written", written).ready_by(ready), row("rewritten", rewritten)]
 }
 
 #[inline(never)]
