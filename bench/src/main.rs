@@ -12,8 +12,9 @@ use std::env;
 use std::ffi::CString;
 use std::process::ExitCode;
 
+use measure::Row;
 use outside::{count_begin, count_end, tirpc_stack};
-use rows::rows;
+use rows::{begin, copy_rows, list_rows, message_rows, rows};
 
 const PASSES: u32 = 6;
 const SAMPLES: u32 = 60;
@@ -61,30 +62,31 @@ fn time() -> Result<(), String> {
     Ok(())
 }
 
-/// Under callgrind: each contestant once warm, then so many times between two marks.
+/// Under callgrind: each contestant once warm, then so many times between two marks. Lists come last: what peers free of them
+/// leaves malloc much to put in order, which would be counted with the other rows.
 fn count() {
-    for mut row in rows().into_iter().filter(|row| !row.shorter) {
-        (row.ready)();
-        let times = if row.bytes.is_some() {
-            1
-        } else if row.copying {
-            4
-        } else {
-            100
-        };
-        for contestant in &mut row.contestants {
-            let mark = |name: &str| CString::new(name).expect("a name has no zero");
-            let (name, idle) = (format!("{}|{}|{times}", row.name, contestant.who as u32), mark("-"));
-            let name = mark(&name);
-            (contestant.run)(1);
-            // SAFETY: the marks take a string and touch nothing else.
-            unsafe { count_begin() };
-            (contestant.run)(times);
-            // SAFETY: as above.
-            unsafe {
-                count_end(name.as_ptr());
-                count_end(idle.as_ptr());
-            }
+    let m = begin();
+    for (rows, times) in [(message_rows as fn(_) -> _, 100), (copy_rows, 4), (list_rows, 1)] {
+        for row in rows(m).into_iter().filter(|row| !row.shorter) {
+            count_row(row, times);
+        }
+    }
+}
+
+fn count_row(mut row: Row, times: u32) {
+    (row.ready)();
+    for contestant in &mut row.contestants {
+        let mark = |name: &str| CString::new(name).expect("a name has no zero");
+        let (name, idle) = (format!("{}|{}|{times}", row.name, contestant.who as u32), mark("-"));
+        let name = mark(&name);
+        (contestant.run)(1);
+        // SAFETY: the marks take a string and touch nothing else.
+        unsafe { count_begin() };
+        (contestant.run)(times);
+        // SAFETY: as above.
+        unsafe {
+            count_end(name.as_ptr());
+            count_end(idle.as_ptr());
         }
     }
 }

@@ -15,7 +15,7 @@ const RECORD: usize = 1_048_576;
 
 /// The memory that the work is done in. It lives as long as the program.
 #[derive(Clone, Copy)]
-struct Memory {
+pub struct Memory {
     out: *mut u8,
     info: *mut u64,
     state: *mut u64,
@@ -229,13 +229,21 @@ fn figures(read: impl FnOnce(*mut u64) -> u32, from: usize) -> &'static [u64] {
 
 // ---- rows
 
-pub fn rows() -> Vec<Row> {
-    let m = Memory { out: memory(0xEE, ROOM), info: memory(0, FIGURES), state: memory(0, 7) };
+pub fn begin() -> Memory {
     // SAFETY: called before any other function of the two; the room is larger than any message.
     unsafe {
         tirpc_begin(memory(0, ROOM));
         libnfs_begin();
     }
+    Memory { out: memory(0xEE, ROOM), info: memory(0, FIGURES), state: memory(0, 7) }
+}
+
+pub fn rows() -> Vec<Row> {
+    let m = begin();
+    [message_rows(m), list_rows(m), copy_rows(m)].into_iter().flatten().collect()
+}
+
+pub fn message_rows(m: Memory) -> Vec<Row> {
     let call = kept(messages::call());
     let auth = kept(messages::auth_unix());
     let attributes = kept(messages::fattr3());
@@ -291,18 +299,6 @@ pub fn rows() -> Vec<Row> {
         "write3args 64 KiB judged" "write3args 64 KiB rewritten" write 57 floor_copy_write3args floor_judge_write3args
             tirpc_read_write3args tirpc_copy_write3args libnfs_read_write3args libnfs_copy_write3args;
     }
-    let short = |label, n| exports(m, label, messages::short_exports(n), Held { entries: n, names: 0, text: n / 4 * 3 });
-    let grouped = |label, n| exports(m, label, messages::grouped_exports(n), Held { entries: n, names: n, text: n * 12 });
-    for (lesser, longer) in [
-        (short("10,000 exports", 10_000), short("80,000 exports", 80_000)),
-        (grouped("4,000 with groups", 4_000), grouped("32,000 with groups", 32_000)),
-    ] {
-        for (lesser, longer) in lesser.into_iter().zip(longer) {
-            rows.push(Row { shorter: true, ..lesser });
-            rows.push(longer);
-        }
-    }
-    rows.extend(copies(m, block));
     rows
 }
 
@@ -388,6 +384,23 @@ fn diropargs3_written(m: Memory, place: &'static [u8]) -> Row {
     .ready_by(ready)
 }
 
+/// Of each list that is timed, a shorter one comes first.
+pub fn list_rows(m: Memory) -> Vec<Row> {
+    let mut rows = Vec::new();
+    let short = |label, n| exports(m, label, messages::short_exports(n), Held { entries: n, names: 0, text: n / 4 * 3 });
+    let grouped = |label, n| exports(m, label, messages::grouped_exports(n), Held { entries: n, names: n, text: n * 12 });
+    for (lesser, longer) in [
+        (short("10,000 exports", 10_000), short("80,000 exports", 80_000)),
+        (grouped("4,000 with groups", 4_000), grouped("32,000 with groups", 32_000)),
+    ] {
+        for (lesser, longer) in lesser.into_iter().zip(longer) {
+            rows.push(Row { shorter: true, ..lesser });
+            rows.push(longer);
+        }
+    }
+    rows
+}
+
 /// What an export list holds: entries, names of groups, and bytes in its paths and names.
 #[derive(Clone, Copy, PartialEq, Eq, Debug)]
 struct Held {
@@ -441,7 +454,8 @@ fn memcpy(src: &[u8], out: *mut u8) {
 }
 
 /// Rows whose floor is memcpy, from and to the same places.
-fn copies(m: Memory, block: &'static [u8]) -> Vec<Row> {
+pub fn copy_rows(m: Memory) -> Vec<Row> {
+    let block = kept(some(BLOCK));
     let copied = |src: &'static [u8], to: usize| {
         // SAFETY: the place lies in the room.
         let out = unsafe { m.out.add(to) };
