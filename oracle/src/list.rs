@@ -532,7 +532,7 @@ fn cut_everywhere(list: &mut Vec<String>) {
         let mut own = Random::of(!SEED, kind as u64);
         let random = if kind < FIRST_KINDS { &mut *random } else { &mut own };
         let mut messages = match shape {
-            Shape::Status { ok, fail } => {
+            Shape::Status { ok, fail, .. } => {
                 let mut result = |status: u32, arm| [&status.to_be_bytes(), &longest(random, arm)[..]].concat();
                 vec![result(0, ok), result(1, fail)]
             },

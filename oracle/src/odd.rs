@@ -294,6 +294,7 @@ fn line(question: &Question) -> Option<String> {
     match question {
         Question::Read { kind, .. } if *kind as usize >= KINDS.len() => None,
         Question::Value { .. } | Question::AuthUnix { .. } | Question::Cuts { .. } => None,
+        Question::Walk { .. } | Question::Same { .. } => None,
         // `write` reads what it writes.
         Question::Write { writer, sources, room, start, .. } => {
             let [source, _] = sources.both();

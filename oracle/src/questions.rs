@@ -1,7 +1,7 @@
 //! Answers lines as the program `answers` must: from the crate, and where it cannot tell, from the model.
 use std::vec::IntoIter;
 
-use crate::answers::{Fed, State, Unwritten, BOUND};
+use crate::answers::{Fed, Piece, State, Unwritten, BOUND};
 use crate::lent::EMPTY;
 use crate::lines;
 use crate::model::Model;
@@ -76,6 +76,25 @@ fn try_answer(truth: &mut Truth, line: &[u8]) -> Result<String, String> {
             let reading = if word == b"choose" { Reading::Crate } else { Reading::Current };
             let choice = truth.choose(reading, &bytes, seen, &mut out);
             Ok(lines::choice(&choice, &out))
+        },
+        b"ask" => {
+            let (seen, room, bytes) = (words.mark()?, words.number()?, words.bytes()?);
+            words.end()?;
+            let mut out = buffer(room)?;
+            let asked = truth.ask(&bytes, seen, &mut out);
+            Ok(lines::asked(&asked, &out))
+        },
+        word @ (b"path" | b"list") => {
+            let (bytes, place, count) = (words.bytes()?, words.number()?, words.number()?);
+            let (room, start) = (words.number()?, words.number()?);
+            words.end()?;
+            let mut out = buffer(room)?;
+            let piece = Piece { place, count };
+            let wrote = match word {
+                b"path" => truth.write_path(&bytes, piece, &mut out, start),
+                _ => truth.write_list(&bytes, piece, &mut out, start),
+            };
+            Ok(lines::wrote(wrote, &out))
         },
         word @ (b"part" | b"words") => {
             let (bytes, place, count) = (words.bytes()?, words.number()?, words.number()?);
