@@ -320,3 +320,68 @@ fn mapping(arguments: &[u8]) -> [u32; 4] {
 fn replied(reply: &[u8], out: &mut [u8]) -> Asked {
     put(reply, out, 0).map_or_else(|unwritten| Asked::Refused(Refusal::plain(unwritten.number)), Asked::Reply)
 }
+
+#[cfg(test)]
+mod tests {
+    use nfsserve::{Handled, Handler, Reply};
+
+    use super::{Truth, NO_EXPORT};
+    use crate::cases::bare_call;
+    use crate::lent::EMPTY;
+    use crate::model::Model;
+    use crate::shapes::kind;
+    use crate::values::Walk;
+
+    /// What the crate's own handler of the mount protocol answers: a success, and these results.
+    fn results(truth: &Truth, procedure: u32, arguments: &[u8], export: &str) -> Vec<u8> {
+        let Handled::Wrote(reply, _) = truth.wire.handled(Handler::Mount, [42, 3, procedure], arguments, export) else {
+            panic!("the crate answers procedure {procedure}")
+        };
+        let success = nfsserve::reply(Reply::Success, 42);
+        assert!(reply.starts_with(&success), "the crate answers with success");
+        reply[success.len()..].to_vec()
+    }
+
+    #[test]
+    fn results_of_the_crate() {
+        let mut truth = Truth::new();
+        for name in ["", "/", "/vault", "/vault/reels"] {
+            let list = results(&truth, 5, &[], name);
+            let took = truth.read(kind("exports").expect("the kind is known"), &list, 0).expect("it is taken");
+            assert_eq!((took.next, took.plain), (list.len(), true), "{name}");
+            assert_eq!(truth.walk(Walk::Exports, &list, 0), Ok(vec![list.len() as u64, 1, 0, 1]), "{name}");
+            // A path behind a flag and its length; no names; and then the list's end.
+            let end = list.len() as u64 - 4;
+            let entry = Ok(vec![end, 1, 1, 8, name.len() as u64, end - 4, 0]);
+            assert_eq!(truth.walk(Walk::Export, &list, 0), entry, "{name}");
+            assert_eq!(list[8..8 + name.len()], *name.as_bytes());
+            assert_eq!(truth.walk(Walk::Group, &list, end as usize - 4), Ok(vec![end, 1, 0, 0, 0]), "{name}");
+            let the_end = Ok(vec![end + 4, 1, 0, 0, 0, 0, 0]);
+            assert_eq!(truth.walk(Walk::Export, &list, end as usize), the_end, "{name}");
+        }
+        let failed = results(&truth, 1, &[0, 0, 0, 1, b'/', 0, 0, 0], NO_EXPORT);
+        let took = truth.read(kind("mountres3").expect("the kind is known"), &failed, 0).expect("it is taken");
+        assert_eq!((failed, took.next, took.plain), (vec![0, 0, 0, 2], 4, true), "no such directory");
+    }
+
+    #[test]
+    fn every_procedure() {
+        let mut truth = Truth::new();
+        let arguments = [0, 0, 0, 2, b'/', b'a', 0, 0, 0, 0, 0, 6, 0, 0, 8, 1];
+        for (program, version) in [100_000, 100_003, 100_005].into_iter().flat_map(|p| (0..6).map(move |v| (p, v))) {
+            for procedure in (0..24).chain([1 << 31, u32::MAX]) {
+                let call = bare_call(program, version, procedure, &arguments);
+                for room in [0, 23, 24, 31, 32, 33] {
+                    let (mut due, mut got) = (vec![EMPTY; room], vec![EMPTY; room]);
+                    let asked = truth.ask(&call, false, &mut due);
+                    assert_eq!(
+                        Model::FAULTLESS.ask(&call, false, &mut got),
+                        asked,
+                        "{program} {version} {procedure} {room}"
+                    );
+                    assert_eq!(got, due, "{program} {version} {procedure} {room}");
+                }
+            }
+        }
+    }
+}
