@@ -218,7 +218,12 @@ fn cut_everywhere(random: &mut Random, turn: usize) -> Question {
 /// A message cut to that length, or with so many bytes behind it that it has that length.
 fn cut(random: &mut Random, length: usize) -> Case {
     let (mut bytes, mut words) = (Vec::new(), Vec::new());
-    let question = match random.below(8) {
+    let question = match random.below(9) {
+        8 => {
+            mounting::append_mount_call(random, &mut bytes, &mut words);
+            bytes.resize(length, 0);
+            Question::Ask { seen: random.once_in(12), room: 32, message: bytes }
+        },
         0 | 1 => {
             let reading = reading(random);
             append_call(random, reading, &mut bytes, &mut words);

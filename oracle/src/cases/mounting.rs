@@ -313,7 +313,7 @@ pub fn ask(random: &mut Random) -> Question {
             damage(random, 0, &mut message, &mut words);
         }
     } else {
-        mount_call(random, &mut message, &mut words);
+        append_mount_call(random, &mut message, &mut words);
     }
     if random.once_in(2_000) {
         message.resize(random.between(BOUND - 2, BOUND + 2), 0);
@@ -322,7 +322,8 @@ pub fn ask(random: &mut Random) -> Question {
     Question::Ask { seen: random.once_in(12), room, message }
 }
 
-fn mount_call(random: &mut Random, message: &mut Vec<u8>, words: &mut Vec<Word>) {
+/// Such a call; a quarter of them are damaged.
+pub fn append_mount_call(random: &mut Random, message: &mut Vec<u8>, words: &mut Vec<Word>) {
     let (program, served) = random.pick(&[(100_005, 3), (100_005, 3), (100_000, 2), (100_003, 3)]);
     let version = match random.below(8) {
         0 => random.pick(&[0, 1, 2, 3, 4, u32::MAX]),
