@@ -136,7 +136,7 @@ how_long() {
         case $crate in
         door | answers) seconds=$((seconds + 170)) ;;
         limits) seconds=$((seconds + 110)) ;;
-        xdr | rpc | nfsattr | nfs | nfsfile | nfsdata) seconds=$((seconds + 80)) ;;
+        xdr | rpc | nfsattr | nfs | nfsfile | nfsdata | mount) seconds=$((seconds + 80)) ;;
         *) seconds=$((seconds + 20)) ;;
         esac
     done

@@ -247,8 +247,13 @@ enum yugerzat_kind YUGERZAT_32_BITS {
     YUGERZAT_KIND_CURRENT_REPLY_BODY = 64,
     YUGERZAT_KIND_CURRENT_RPC_BODY = 65,
     YUGERZAT_KIND_CURRENT_RPC_MSG = 66,
+    YUGERZAT_KIND_DIRPATH = 67,
+    YUGERZAT_KIND_MOUNTSTAT3 = 68,
+    YUGERZAT_KIND_MOUNTRES3 = 69,
+    YUGERZAT_KIND_EXPORTS = 70,
+    YUGERZAT_KIND_MAPPING = 71,
 };
-#define YUGERZAT_KINDS 67 /* how many there are: their numbers are below this */
+#define YUGERZAT_KINDS 72 /* how many there are: their numbers are below this */
 /* end of kinds */
 
 typedef char yugerzat_kind_has_32_bits[sizeof(enum yugerzat_kind) == 4 ? 1 : -1];
@@ -326,6 +331,11 @@ static inline const char *yugerzat_kind_name(enum yugerzat_kind kind)
         "current_reply_body",
         "current_rpc_body",
         "current_rpc_msg",
+        "dirpath",
+        "mountstat3",
+        "mountres3",
+        "exports",
+        "mapping",
         /* end of kind names */
         /* clang-format on */
     };

@@ -43,6 +43,7 @@ class Facts:
     told: Name
     within: Name
     bound: int  # of `within`
+    bounded: Name | None  # the law that the kind is another one under a bound that is refused
     unfoldable: tuple  # what can be unfolded in the module of the meaning: names
 
 
@@ -57,6 +58,7 @@ class Index:
         self.meanings = defaultdict(list)
         self.told = defaultdict(list)
         self.within = defaultdict(list)
+        self.bounded = defaultdict(list)
         self.unfoldable = defaultdict(list)
         self.used = defaultdict(list)
         self.codecs = {}
@@ -90,13 +92,15 @@ class Index:
             elif type.startswith("Within "):
                 _, bound, measured = type.split(" ", 2)
                 self.within[measured].append((found, bound))
+            elif type.startswith("Bounded "):
+                self.bounded[type.split()[-1]].append(found)
         self.unfoldable[module] = [Name(self.crate, module, name, type) for name, type in UNFOLDABLE.findall(text)]
         self.used[module] = [f"Rattle.{crate}.{used}" for crate, used in USED.findall(text)]
         self.codecs.update(CODEC.findall(text))
 
     def unfolded(self, module):
-        """What can be unfolded in a module of meanings. One that has nothing itself names kinds of the modules that it uses, at a reading."""
-        return tuple(self.unfoldable[module] or [name for used in self.used[module] for name in self.unfoldable[used]])
+        """What can be unfolded in a module of meanings, and in those of the same crate that it uses: what a kind of it is made of."""
+        return tuple(name for found in (module, *dict.fromkeys(self.used[module])) for name in self.unfoldable[found])
 
 
 class Crates:
@@ -179,5 +183,6 @@ class Crates:
             told=self.need(crate, "told", view, f"law `Told {view}`"),
             within=within,
             bound=int(bound),
+            bounded=self.find(crate, "bounded", kind.meaning),
             unfoldable=self.index(meaning.crate).unfolded(meaning.module),
         )

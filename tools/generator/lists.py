@@ -20,11 +20,15 @@ COPIERS = (
     ("messages", "Each kind of RFC 5531, copied.", ("rpc",)),
     ("files", "Each kind of RFC 1813, copied.", ("nfsattr", "nfs")),
     ("procedures", "The arguments and results of procedures of RFC 1813, copied.", ("nfsfile", "nfsdata")),
+    ("mounts", "Each kind of the mount protocol and of the port mapper, copied.", ("mount",)),
 )
 
 # The kinds that take no word 00000002, so that their second message is of zeros: bool, and the closed enumerations without a 2. Those of
 # the topics are found by themselves.
 BY_ZERO = {"bool", "msg_type", "reply_stat", "reject_stat"}
+
+# The lists, in which a word 00000001 again and again has no end: their messages are an end, and one entry of zeros.
+BY_LIST = {"exports"}
 
 # What else a reading unfolds, besides what the modules of the meanings declare.
 UNFOLDED = ("opened", "partOf", "wordsPartOf")
@@ -191,6 +195,8 @@ def reading_law(fact):
         return "plain-read", f"(plain-read {meaning} {view})"
     if meaning == "eightBytes":
         return "eight-read", "eight-read"
+    if fact.bounded:
+        return "bounded-read", f"(bounded-read {fact.bounded.name} {view})"
     return "was-read", f"(was-read {meaning} {view})"
 
 
@@ -204,6 +210,7 @@ def copier_proof(file, fact):
     imports.append(f"{fact.meaning.module}.{{{kind.meaning}}}")
     imports += [EXACTLY] if kind.exact else []
     imports.append(f"{fact.view.module}.{{{view}}}")
+    imports += [f"{fact.bounded.module}.{{{fact.bounded.name}}}"] if fact.bounded else []
     imports += [f"{fact.answer_module}.the-variants.{{Took}}"] if signed else []
     imports.append(f"Rattle.door.specs.Laws.Copy.{{not-read, {law}}}")
     needs = " ".join(["(search needs)"] * 5)
@@ -383,10 +390,17 @@ def without_two(root):
     return {one.name for one in declared if one.shape == "enum" and 2 not in dict(one.parts).values()}
 
 
+def sampled(name, by_zero):
+    """The law that has two messages of a kind."""
+    if name in BY_LIST:
+        return "by-list"
+    return "by-zero" if name in by_zero else "by-two"
+
+
 def worked_kinds(facts, order, by_zero):
     path = "crates/worked/specs/EveryKind.antt"
     unfoldable = {name.name: name for fact in facts for name in fact.unfoldable}
-    entries = [f"({'by-zero' if fact.kind.name in by_zero else 'by-two'} _ refl refl refl, " for fact in facts]
+    entries = [f"({sampled(fact.kind.name, by_zero)} _ refl refl refl, " for fact in facts]
     return [
         (path, "meanings", lines(*(f"use {use}" for use in uses(unfoldable.values(), order)))),
         (

@@ -27,6 +27,10 @@ pub(crate) fn refusal(out: &mut [u8], at: Out, r: Refusal) -> Out {
             let m = print::number(out, n, 2);
             print::number(out, m, place)
         }
+        Refusal::LongPath(place) => {
+            let m = print::number(out, n, 10);
+            print::number(out, m, place)
+        }
         _ => print::number(out, n, r.number() as usize),
     }
 }

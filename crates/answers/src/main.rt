@@ -4,6 +4,7 @@
 mod buffer;
 mod items;
 mod kinds;
+mod mounts;
 mod print;
 mod programs;
 mod records;
@@ -17,7 +18,7 @@ use stdio::Out;
 use stdio::flush;
 use stdio::say;
 
-// What a line asks for, by its first word; 10 where it is none of these.
+// What a line asks for, by its first word; 13 where it is none of these.
 fn verb_of(word: &[u8]) -> u32 {
     if check::same(word, b"read") {
         return 0;
@@ -49,7 +50,16 @@ fn verb_of(word: &[u8]) -> u32 {
     if check::same(word, b"stream") {
         return 9;
     }
-    10
+    if check::same(word, b"ask") {
+        return 10;
+    }
+    if check::same(word, b"path") {
+        return 11;
+    }
+    if check::same(word, b"list") {
+        return 12;
+    }
+    13
 }
 
 // The answer to a question about a message.
@@ -84,9 +94,26 @@ fn of_stream(
         4 => records::fragment(line, s, message, room, out, at),
         5 => records::feed(line, s, message, room, out, at),
         6 => records::state(line, s, message, room, out, at),
-        7 => programs::choose(false, line, s, message, room, out, at),
-        8 => programs::choose(true, line, s, message, room, out, at),
+        7 => programs::choose(programs::CHOOSE, line, s, message, room, out, at),
+        8 => programs::choose(programs::CURRENT_CHOOSE, line, s, message, room, out, at),
         _ => streams::stream(line, s, message, room, out, at),
+    }
+}
+
+// The answer to a question about mounts and ports.
+fn of_mount(
+    verb: u32,
+    line: &[u8],
+    s: usize,
+    message: &mut [u8],
+    room: &mut [u8],
+    out: &mut [u8],
+    at: Out,
+) -> Out {
+    match verb {
+        10 => programs::choose(programs::ASK, line, s, message, room, out, at),
+        11 => mounts::write(false, line, s, message, room, out, at),
+        _ => mounts::write(true, line, s, message, room, out, at),
     }
 }
 
@@ -99,6 +126,9 @@ fn answer(line: &[u8], message: &mut [u8], room: &mut [u8], out: &mut [u8], at: 
     }
     if verb < 10 {
         return of_stream(verb, line, end + 1, message, room, out, at);
+    }
+    if verb < 13 {
+        return of_mount(verb, line, end + 1, message, room, out, at);
     }
     why::question(line, out, at)
 }

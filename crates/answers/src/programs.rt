@@ -1,6 +1,7 @@
-// The lines about the choice of program: `choose`, and `current_choose` in the current reading.
+// The lines about calls: `choose`, `current_choose` in the current reading, and `ask`, which goes on with calls to mount and port mapper.
 use crate::buffer::fill;
 use crate::items::refusal;
+use crate::mounts::asked_words;
 use crate::print;
 use crate::why;
 use crate::words::MarkAt;
@@ -16,7 +17,7 @@ use stdio::Out;
 use stdio::say;
 use xdr::Piece;
 
-fn piece(out: &mut [u8], at: Out, x: Piece) -> Out {
+pub(crate) fn piece(out: &mut [u8], at: Out, x: Piece) -> Out {
     let n = print::number(out, at, x.at);
     print::number(out, n, x.count)
 }
@@ -31,7 +32,7 @@ fn unix(out: &mut [u8], at: Out, a: auth_unix) -> Out {
     piece(out, n, gids)
 }
 
-fn caller_words(out: &mut [u8], at: Out, caller: Caller) -> Out {
+pub(crate) fn caller_words(out: &mut [u8], at: Out, caller: Caller) -> Out {
     match caller {
         Caller::Unnamed => say(out, at, b" none"),
         Caller::Unix(a) => {
@@ -41,7 +42,14 @@ fn caller_words(out: &mut [u8], at: Out, caller: Caller) -> Out {
     }
 }
 
-fn call_words(out: &mut [u8], at: Out, prog: u32, vers: u32, proc: u32, arguments: usize) -> Out {
+pub(crate) fn call_words(
+    out: &mut [u8],
+    at: Out,
+    prog: u32,
+    vers: u32,
+    proc: u32,
+    arguments: usize,
+) -> Out {
     let n = say(out, at, b"handover");
     let n = print::number(out, n, prog as usize);
     let n = print::number(out, n, vers as usize);
@@ -70,15 +78,30 @@ fn choice_words(out: &mut [u8], at: Out, c: Choice) -> Out {
     }
 }
 
-fn chosen(current: bool, seen: bool, message: &[u8], buf: &mut [u8]) -> Choice {
-    if current {
-        return rpcwire::current_choose(message, seen, buf);
+// Which function a line asks for.
+pub(crate) const CHOOSE: u32 = 0;
+
+pub(crate) const CURRENT_CHOOSE: u32 = 1;
+
+pub(crate) const ASK: u32 = 2;
+
+fn call_into(
+    which: u32,
+    seen: bool,
+    message: &[u8],
+    buf: &mut [u8],
+    out: &mut [u8],
+    at: Out,
+) -> Out {
+    match which {
+        CHOOSE => choice_words(out, at, rpcwire::choose(message, seen, buf)),
+        CURRENT_CHOOSE => choice_words(out, at, rpcwire::current_choose(message, seen, buf)),
+        _ => asked_words(out, at, mount::ask(message, seen, buf)),
     }
-    rpcwire::choose(message, seen, buf)
 }
 
 fn choose_into(
-    current: bool,
+    which: u32,
     seen: bool,
     message: &[u8],
     buf: &mut [u8],
@@ -86,15 +109,15 @@ fn choose_into(
     at: Out,
 ) -> Out {
     fill(buf);
-    let c = chosen(current, seen, message, buf);
-    let n = choice_words(out, at, c);
+    let n = call_into(which, seen, message, buf, out, at);
     print::hex(out, n, buf)
 }
 
 // choose SEEN ROOM HEX
 // current_choose SEEN ROOM HEX
+// ask SEEN ROOM HEX
 pub(crate) fn choose(
-    current: bool,
+    which: u32,
     line: &[u8],
     start: usize,
     message: &mut [u8],
@@ -129,5 +152,5 @@ pub(crate) fn choose(
         return why::room(out, at);
     }
     let n = b.count;
-    choose_into(current, seen, &message[0..n], &mut room[0..length], out, at)
+    choose_into(which, seen, &message[0..n], &mut room[0..length], out, at)
 }

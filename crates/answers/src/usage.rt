@@ -55,6 +55,19 @@ fn questions_of_calls(out: &mut [u8], at: Out) -> Out {
   current_choose SEEN ROOM HEX the same in the current reading of RFC 5531
       current_choose 0 24 0000002A00000002
       reply 24 0000002a0000000100000001000000000000000200000002
+  ask SEEN ROOM HEX            as choose has it; of calls to mount and port mapper reply 24, reply 32, mnt PLACE COUNT
+                               NEXT, umnt PLACE COUNT NEXT, export NEXT, getport PROGRAM VERSION PROTOCOL PORT NEXT, or
+                               a refusal; then BUFFER
+      ask 0 0 0000002A0000000000000002000186A5000000030000000500000000000000000000000000000000
+      export 40 -
+  path HEX PLACE COUNT ROOM START
+                               wrote NEXT BUFFER, or refused N BUFFER: that piece of HEX, written as a dirpath
+      path 2F61 0 2 8 0
+      wrote 8 000000022f610000
+  list HEX PLACE COUNT ROOM START
+                               the same for the export list of COUNT entries whose first flag stands at PLACE of HEX
+      list 00000002000000012F0000FF0000000000000000 0 1 20 0
+      wrote 20 00000001000000012f0000000000000000000000
   part HEX PLACE COUNT         inside BYTES, or outside -
       part 0011223344 1 3
       inside 112233
@@ -79,7 +92,8 @@ fn kinds(out: &mut [u8], at: Out) -> Out {
   set_size3 set_atime set_mtime sattr3 diropargs3 symlinkdata3 stable_how sattrguard3 getattr3args
   getattr3res setattr3args setattr3res lookup3args lookup3res read3args read3res write3args
   write3res current_accept_stat current_auth_stat current_accept_body current_accepted_reply
-  current_rejected_reply current_reply_body current_rpc_body current_rpc_msg
+  current_rejected_reply current_reply_body current_rpc_body current_rpc_msg dirpath mountstat3
+  mountres3 exports mapping
 ",
         // end of names
     )
@@ -95,7 +109,7 @@ pub(crate) fn print(out: &mut [u8]) {
         a,
         b"
 A refusal is refused 1 PLACE COUNT, where COUNT bytes are wanting to finish the item at PLACE, refused 2 PLACE,
-and refused N for the others. Buffers hold EE before anything is written. An empty run is fed once. A line that
+refused 10 PLACE, and refused N for the others, and for all in writing. Buffers hold EE before anything is written. An empty run is fed once. A line that
 is not of this form gets ? and why, and so does one that has more than 2200000 characters, or whose ROOM or
 LENGTH is over 1048576.
 ",

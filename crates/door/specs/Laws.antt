@@ -8,3 +8,4 @@ pub mod Again
 pub mod Replies
 pub mod Judged
 pub mod Streams
+pub mod Mounting

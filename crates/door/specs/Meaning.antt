@@ -5,3 +5,4 @@ pub mod Figures
 pub mod Values
 pub mod Given
 pub mod Replies
+pub mod Mounting

@@ -1,5 +1,5 @@
 // What C and Rust programs call. A slice passes as a pointer and a length. Every call gets an answer: a number, 0 or from 100 on where
-// something is handed over, 1 to 9 for a refusal (docs/SCOPE.md, Refusals), and these two.
+// something is handed over, 1 to 10 for a refusal (docs/SCOPE.md, Refusals), and these two.
 ghost use Prim.Native.Nat.{_≤_};
 ghost use lib.ListN.{length};
 ghost use Rattle.xdr.specs.Meaning.Views.{viewWrote};

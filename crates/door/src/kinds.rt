@@ -1,7 +1,7 @@
 // made by tools/generate from kinds.txt
 // A message of a kind that is named by its number.
 ghost use Rattle.door.specs.Meaning.Copy.{viewCopied};
-ghost use Rattle.door.specs.Meaning.Kinds.{itemKinds, closedKinds, messageKinds, attributeKinds, changeKinds, procedureKinds, currentKinds, kinds, CopiesOf, CopiesIn};
+ghost use Rattle.door.specs.Meaning.Kinds.{itemKinds, closedKinds, messageKinds, attributeKinds, changeKinds, procedureKinds, currentKinds, mountKinds, kinds, CopiesOf, CopiesIn};
 use crate::copy::Copied;
 use crate::files::copy_diropargs3;
 use crate::files::copy_fattr3;
@@ -57,6 +57,11 @@ use crate::messages::copy_reply_body;
 use crate::messages::copy_reply_stat;
 use crate::messages::copy_rpc_body;
 use crate::messages::copy_rpc_msg;
+use crate::mounts::copy_dirpath;
+use crate::mounts::copy_exports;
+use crate::mounts::copy_mapping;
+use crate::mounts::copy_mountres3;
+use crate::mounts::copy_mountstat3;
 use crate::procedures::copy_getattr3args;
 use crate::procedures::copy_getattr3res;
 use crate::procedures::copy_lookup3args;
@@ -200,6 +205,20 @@ fn copy_current(kind: u32, src: &[u8], at: usize, out: &mut [u8], start: usize) 
     }
 }
 
+// The mount protocol (RFC 1813, appendix I) and the port mapper (RFC 1057).
+fn copy_mount(kind: u32, src: &[u8], at: usize, out: &mut [u8], start: usize) -> Copied
+    ensures { λ r. ⌜ CopiesIn mountKinds kind (now (src .entry)) at start (now (out .entry)) (viewCopied r) (now (out .exit)) ⌝ }
+{
+    match kind {
+        0 => copy_dirpath(src, at, out, start),
+        1 => copy_mountstat3(src, at, out, start),
+        2 => copy_mountres3(src, at, out, start),
+        3 => copy_exports(src, at, out, start),
+        4 => copy_mapping(src, at, out, start),
+        _ => Copied::Unknown,
+    }
+}
+
 // Reads a message of the kind from a place of one buffer and writes it, in published form, from a place of another.
 pub fn copy_kind(kind: u32, src: &[u8], at: usize, out: &mut [u8], start: usize) -> Copied
     ensures { λ r. ⌜ CopiesOf kinds kind (now (src .entry)) at start (now (out .entry)) (viewCopied r) (now (out .exit)) ⌝ }
@@ -222,5 +241,8 @@ pub fn copy_kind(kind: u32, src: &[u8], at: usize, out: &mut [u8], start: usize)
     if kind < 59 {
         return copy_procedure(kind - 47, src, at, out, start);
     }
-    copy_current(kind - 59, src, at, out, start)
+    if kind < 67 {
+        return copy_current(kind - 59, src, at, out, start);
+    }
+    copy_mount(kind - 67, src, at, out, start)
 }

@@ -8,8 +8,10 @@ mod files;
 mod items;
 mod kinds;
 mod messages;
+mod mounts;
 mod procedures;
 // end of copiers
+pub mod mounting;
 pub mod replies;
 pub mod values_read;
 pub mod values_write;

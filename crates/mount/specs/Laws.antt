@@ -2,6 +2,11 @@
 pub mod Path
 pub mod Group
 pub mod Export
+pub mod Steps
+pub mod Ask
+pub mod One
+pub mod Pairs
+pub mod Same
 -- made by tools/generate: laws
 pub mod Mnt
 pub mod Portmap

@@ -2,6 +2,9 @@
 pub mod Path
 pub mod Group
 pub mod Export
+pub mod Ask
+pub mod Views
+pub mod Same
 -- made by tools/generate: meanings
 pub mod Mnt
 pub mod Portmap

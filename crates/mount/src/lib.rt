@@ -1,16 +1,23 @@
 // What the mount protocol adds to NFS version 3 (RFC 1813, appendix I), and the mapping of the port mapper (RFC 1057, appendix A).
 //
 // `read_X(src, at)` reads an X of a message from a place on; `write_X(.., out, at)` writes one into a buffer from a place on. One that has
-// pieces is written from the source that they are of. A type has the RFC's name.
+// pieces is written from the source that they are of. A type has the RFC's name. An export list is read whole (`read_exports`), walked
+// (`next_export`, `next_group`), written (`write_exports`) and compared (`same_exports`). `ask(message, seen, out)` answers a call to either
+// program, or reads it and hands it on.
 // Every input gets an answer. What the answers mean stands in specs/Meaning.
+pub mod asking;
 pub mod export;
 pub mod group;
 pub mod path;
+pub mod same;
 // made by tools/generate: modules
 pub mod mnt;
 pub mod portmap;
 // end of modules
 
+pub use asking::Asked;
+pub use asking::answer;
+pub use asking::ask;
 pub use export::NextExport;
 pub use export::NextExportRead;
 pub use export::exportnode;
@@ -25,6 +32,8 @@ pub use path::MNTPATHLEN;
 pub use path::dirpath;
 pub use path::read_dirpath;
 pub use path::write_dirpath;
+pub use same::Compared;
+pub use same::same_exports;
 // made by tools/generate: names
 pub use mnt::Mountres3Read;
 pub use mnt::Mountstat3Read;

@@ -26,6 +26,8 @@ use Rattle.nfsfile.specs.Meaning.Getattr.{viewGetattr3args, viewGetattr3res}
 use Rattle.nfsfile.specs.Meaning.Lookup.{viewLookup3args, viewLookup3res}
 use Rattle.nfsdata.specs.Meaning.Write.{viewStableHow, viewWrite3args, viewWrite3res}
 use Rattle.nfsdata.specs.Meaning.Read.{viewRead3args, viewRead3res}
+use Rattle.mount.specs.Meaning.Mnt.{viewMountstat3, viewMountres3}
+use Rattle.mount.specs.Meaning.Portmap.{viewMapping}
 use Rattle.xdr.specs.Laws.One.{bool-told, i32-told, i64-told, u32-told, u64-told, piece-told}
 use Rattle.rpc.specs.Laws.One.{msg-type-told, reply-stat-told, accept-stat-told, reject-stat-told, auth-stat-told, auth-flavor-told, auth-unix-told, opaque-auth-told, rpc-msg-told, rpc-body-told, call-body-told, reply-body-told, accepted-reply-told, accept-body-told, rejected-reply-told, mismatch-info-told}
 use Rattle.rpc.specs.Laws.Current.{current-accept-stat-told, current-auth-stat-told, current-accept-body-told, current-accepted-reply-told, current-rejected-reply-told, current-reply-body-told, current-rpc-body-told, current-rpc-msg-told}
@@ -38,6 +40,8 @@ use Rattle.nfsfile.specs.Laws.Getattr.{getattr3args-told, getattr3res-told}
 use Rattle.nfsfile.specs.Laws.Lookup.{lookup3args-told, lookup3res-told}
 use Rattle.nfsdata.specs.Laws.Write.{stable-how-told, write3args-told, write3res-told}
 use Rattle.nfsdata.specs.Laws.Read.{read3args-told, read3res-told}
+use Rattle.mount.specs.Laws.Mnt.{mountstat3-told, mountres3-told}
+use Rattle.mount.specs.Laws.Portmap.{mapping-told}
 use Rattle.xdr.specs.Laws.Lengths.{flag-within, int-within, long-within, word-within, hyper-within, eight-within, opaque-within, words-within}
 use Rattle.rpc.specs.Laws.Lengths.{msg-type-within, reply-stat-within, crate-accept-stat-within, reject-stat-within, crate-auth-stat-within, auth-flavor-within, auth-unix-within, opaque-auth-within, crate-rpc-msg-within, crate-rpc-body-within, call-body-within, crate-reply-body-within, crate-accepted-reply-within, crate-accept-body-within, crate-rejected-reply-within, mismatch-info-within}
 use Rattle.rpc.specs.Laws.Current.{current-accept-stat-within, current-auth-stat-within, current-accept-body-within, current-accepted-reply-within, current-rejected-reply-within, current-reply-body-within, current-rpc-body-within, current-rpc-msg-within}
@@ -50,6 +54,10 @@ use Rattle.nfsfile.specs.Laws.Getattr.{getattr-args-within, getattr-res-within}
 use Rattle.nfsfile.specs.Laws.Lookup.{lookup-args-within, lookup-res-within}
 use Rattle.nfsdata.specs.Laws.Write.{stable-how-within, write-args-within, write-res-within}
 use Rattle.nfsdata.specs.Laws.Read.{read-args-within, read-res-within}
+use Rattle.mount.specs.Laws.Path.{dirpath-within}
+use Rattle.mount.specs.Laws.Mnt.{mountstat-within, mountres-within}
+use Rattle.mount.specs.Laws.Export.{exports-within}
+use Rattle.mount.specs.Laws.Portmap.{port-mapping-within}
 -- end of uses
 use Rattle.door.specs.Meaning.Kinds.{kinds}
 
@@ -152,6 +160,11 @@ readers =
     next by viewCurrentReplyBody current-reply-body-told
     next by viewCurrentRpcBody current-rpc-body-told
     next by viewCurrentRpcMsg current-rpc-msg-told
+    next by viewPiece piece-told
+    next by viewMountstat3 mountstat3-told
+    next by viewMountres3 mountres3-told
+    next by viewPiece piece-told
+    next by viewMapping mapping-told
     next tt
 
 -- end of readers
@@ -248,6 +261,11 @@ every-within =
     also weaken (omega arith) current-reply-body-within
     also weaken (omega arith) current-rpc-body-within
     also current-rpc-msg-within
+    also weaken (omega arith) dirpath-within
+    also weaken (omega arith) mountstat-within
+    also weaken (omega arith) mountres-within
+    also weaken (omega arith) exports-within
+    also weaken (omega arith) port-mapping-within
     also tt
 
 -- end of every-within

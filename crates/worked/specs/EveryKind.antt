@@ -1,9 +1,9 @@
 -- Of each of the door's kinds there are two different messages, so that the theorems of `Idle` speak of every kind: each takes the word
--- 00000001 again and again, and takes another message from the word 00000002, or from zeros.
+-- 00000001 again and again, and takes another message from the word 00000002, or from zeros; a list takes its end, and an entry of zeros.
 -- Assumes nothing.
 use mathlib.Core.Path.{_≡_, refl, sym, ap, _∙_}
 use mathlib.Core.Bool.{Bool, true, false, _&&_}
-use mathlib.Core.List.{List, [], _∷_}
+use mathlib.Core.List.{List, [], _∷_, _++_}
 use Prim.Native.Nat.{ℕ, zero, suc, _<_}
 use native.Mathlib.Omega.{arith}
 use lib.Dec.{leb, ltb, eqb}
@@ -17,7 +17,9 @@ use Rattle.xdr.specs.Meaning.Public.{Took, output}
 use Rattle.xdr.specs.Laws.Public.{kept}
 -- made by tools/generate: meanings
 use Rattle.xdr.specs.Meaning.Items.{number, word, hyper, word-pair, hyper-pair, flag, int, long, eight, opaque, words}
+use Rattle.xdr.specs.Meaning.Answer.{opened}
 use Rattle.xdr.specs.Meaning.Formats.{eightHeld, pieceHeld, wordsHeld}
+use Rattle.xdr.specs.Meaning.Pieces.{isInside, partOf, partPlace, areInside, wordsPartOf, wordsPlace, wordOf, sizeUpTo, wordsUpTo}
 use Rattle.rpc.specs.Meaning.Closed.{msg-type, reply-stat, reject-stat, auth-flavor}
 use Rattle.rpc.specs.Meaning.Reading.{mismatch-info}
 use Rattle.rpc.specs.Meaning.Reply.{accept-stat-of, auth-stat-of, accept-body-of, accepted-reply-of, rejected-reply-of, reply-body-of}
@@ -26,13 +28,18 @@ use Rattle.rpc.specs.Meaning.Auth.{opaque-auth, auth-unix}
 use Rattle.nfsattr.specs.Meaning.Stat.{nfsstat}
 use Rattle.nfsattr.specs.Meaning.Attr.{ftype, specdata, nfstime, fattr, wcc-attr, pre-op-attr, post-op-attr, wcc-data, fsinfo}
 use Rattle.nfs.specs.Meaning.Set.{time-how, set-time, set-atime, set-mtime, sattr}
-use Rattle.nfs.specs.Meaning.Dir.{nfs-fh, post-op-fh, diropargs, symlinkdata}
 use Rattle.nfs.specs.Meaning.Change.{set-mode, set-uid, set-gid, set-size}
+use Rattle.nfs.specs.Meaning.Dir.{nfs-fh, post-op-fh, diropargs, symlinkdata}
 use Rattle.nfsfile.specs.Meaning.Setattr.{sattrguard, setattr-args, setattr-resok, setattr-resfail, setattr-res}
 use Rattle.nfsfile.specs.Meaning.Getattr.{getattr-args, getattr-resok, getattr-res}
 use Rattle.nfsfile.specs.Meaning.Lookup.{lookup-args, lookup-resok, lookup-resfail, lookup-res}
 use Rattle.nfsdata.specs.Meaning.Write.{stable-how, write-args, write-resok, write-resfail, write-res}
 use Rattle.nfsdata.specs.Meaning.Read.{read-args, read-resok, read-resfail, read-res}
+use Rattle.mount.specs.Meaning.Path.{dirpath}
+use Rattle.mount.specs.Meaning.Mnt.{mountstat, mountres-ok, mountres}
+use Rattle.mount.specs.Meaning.Export.{node, nodes, exports, next-node, next-export}
+use Rattle.mount.specs.Meaning.Group.{groups, next-group}
+use Rattle.mount.specs.Meaning.Portmap.{port-mapping}
 -- end of meanings
 use Rattle.door.specs.Meaning.Kinds.{kinds}
 use Rattle.worked.specs.Idle.{Sample, Reads, Refuses, refuses-all, one-for-all, Puts, idles}
@@ -117,11 +124,16 @@ module _ {M S : Type 0} (F : Format M S) where
       → same (tell F (again 1 1) (look (again 1 1))) (tell F (again 1 0) (look (again 1 0))) ≡ false → Different F
   by-zero = two (again 1 1) (again 1 0) (again-bytes 1 1 (omega arith)) (again-bytes 1 0 (omega arith))
 
+  -- of a list: its end, and a flag of 1 and zeros, which is an entry of nothing and then the end
+  by-list : fine F (again 1 0) (look (again 1 0)) ≡ true → fine F (again 1 1 ++ again 3 0) (look (again 1 1 ++ again 3 0)) ≡ true
+      → same (tell F (again 1 0) (look (again 1 0))) (tell F (again 1 1 ++ again 3 0) (look (again 1 1 ++ again 3 0))) ≡ false → Different F
+  by-list = two (again 1 0) (again 1 1 ++ again 3 0) (again-bytes 1 0 (omega arith)) (are-bytes (again 1 1 ++ again 3 0) refl)
+
 -- made by tools/generate: every-kind
 pub every-kind : Each kinds
-unfolding opened partOf wordsPartOf number word hyper word-pair hyper-pair flag int long eight opaque words eightHeld pieceHeld wordsHeld msg-type reply-stat reject-stat auth-flavor mismatch-info accept-stat-of auth-stat-of accept-body-of accepted-reply-of rejected-reply-of reply-body-of call-body rpc-body-of rpc-msg-of time-how set-time set-atime set-mtime sattr nfsstat ftype specdata nfstime fattr wcc-attr pre-op-attr post-op-attr wcc-data fsinfo opaque-auth auth-unix nfs-fh post-op-fh diropargs symlinkdata set-mode set-uid set-gid set-size stable-how write-args write-resok write-resfail write-res sattrguard setattr-args setattr-resok setattr-resfail setattr-res getattr-args getattr-resok getattr-res lookup-args lookup-resok lookup-resfail lookup-res read-args read-resok read-resfail read-res
+unfolding opened partOf wordsPartOf number word hyper word-pair hyper-pair flag int long eight opaque words opened eightHeld pieceHeld wordsHeld isInside partOf partPlace areInside wordsPartOf wordsPlace wordOf sizeUpTo wordsUpTo msg-type reply-stat reject-stat auth-flavor mismatch-info accept-stat-of auth-stat-of accept-body-of accepted-reply-of rejected-reply-of reply-body-of call-body rpc-body-of rpc-msg-of time-how set-time set-atime set-mtime sattr set-mode set-uid set-gid set-size nfsstat ftype specdata nfstime fattr wcc-attr pre-op-attr post-op-attr wcc-data fsinfo opaque-auth auth-unix nfs-fh post-op-fh diropargs symlinkdata stable-how write-args write-resok write-resfail write-res sattrguard setattr-args setattr-resok setattr-resfail setattr-res getattr-args getattr-resok getattr-res lookup-args lookup-resok lookup-resfail lookup-res read-args read-resok read-resfail read-res dirpath mountstat mountres-ok mountres node nodes exports next-node next-export groups next-group port-mapping
 every-kind =
-    (by-zero _ refl refl refl, (by-two _ refl refl refl, (by-two _ refl refl refl, (by-two _ refl refl refl, (by-two _ refl refl refl, (by-two _ refl refl refl, (by-two _ refl refl refl, (by-two _ refl refl refl, (by-two _ refl refl refl, (by-zero _ refl refl refl, (by-zero _ refl refl refl, (by-two _ refl refl refl, (by-zero _ refl refl refl, (by-two _ refl refl refl, (by-two _ refl refl refl, (by-two _ refl refl refl, (by-two _ refl refl refl, (by-two _ refl refl refl, (by-two _ refl refl refl, (by-two _ refl refl refl, (by-two _ refl refl refl, (by-two _ refl refl refl, (by-two _ refl refl refl, (by-two _ refl refl refl, (by-two _ refl refl refl, (by-two _ refl refl refl, (by-two _ refl refl refl, (by-two _ refl refl refl, (by-two _ refl refl refl, (by-two _ refl refl refl, (by-two _ refl refl refl, (by-two _ refl refl refl, (by-two _ refl refl refl, (by-two _ refl refl refl, (by-two _ refl refl refl, (by-two _ refl refl refl, (by-two _ refl refl refl, (by-two _ refl refl refl, (by-two _ refl refl refl, (by-two _ refl refl refl, (by-two _ refl refl refl, (by-two _ refl refl refl, (by-two _ refl refl refl, (by-two _ refl refl refl, (by-two _ refl refl refl, (by-two _ refl refl refl, (by-two _ refl refl refl, (by-two _ refl refl refl, (by-two _ refl refl refl, (by-two _ refl refl refl, (by-two _ refl refl refl, (by-two _ refl refl refl, (by-two _ refl refl refl, (by-two _ refl refl refl, (by-two _ refl refl refl, (by-two _ refl refl refl, (by-two _ refl refl refl, (by-two _ refl refl refl, (by-two _ refl refl refl, (by-two _ refl refl refl, (by-two _ refl refl refl, (by-two _ refl refl refl, (by-two _ refl refl refl, (by-two _ refl refl refl, (by-two _ refl refl refl, (by-two _ refl refl refl, (by-two _ refl refl refl, tt)))))))))))))))))))))))))))))))))))))))))))))))))))))))))))))))))))
+    (by-zero _ refl refl refl, (by-two _ refl refl refl, (by-two _ refl refl refl, (by-two _ refl refl refl, (by-two _ refl refl refl, (by-two _ refl refl refl, (by-two _ refl refl refl, (by-two _ refl refl refl, (by-two _ refl refl refl, (by-zero _ refl refl refl, (by-zero _ refl refl refl, (by-two _ refl refl refl, (by-zero _ refl refl refl, (by-two _ refl refl refl, (by-two _ refl refl refl, (by-two _ refl refl refl, (by-two _ refl refl refl, (by-two _ refl refl refl, (by-two _ refl refl refl, (by-two _ refl refl refl, (by-two _ refl refl refl, (by-two _ refl refl refl, (by-two _ refl refl refl, (by-two _ refl refl refl, (by-two _ refl refl refl, (by-two _ refl refl refl, (by-two _ refl refl refl, (by-two _ refl refl refl, (by-two _ refl refl refl, (by-two _ refl refl refl, (by-two _ refl refl refl, (by-two _ refl refl refl, (by-two _ refl refl refl, (by-two _ refl refl refl, (by-two _ refl refl refl, (by-two _ refl refl refl, (by-two _ refl refl refl, (by-two _ refl refl refl, (by-two _ refl refl refl, (by-two _ refl refl refl, (by-two _ refl refl refl, (by-two _ refl refl refl, (by-two _ refl refl refl, (by-two _ refl refl refl, (by-two _ refl refl refl, (by-two _ refl refl refl, (by-two _ refl refl refl, (by-two _ refl refl refl, (by-two _ refl refl refl, (by-two _ refl refl refl, (by-two _ refl refl refl, (by-two _ refl refl refl, (by-two _ refl refl refl, (by-two _ refl refl refl, (by-two _ refl refl refl, (by-two _ refl refl refl, (by-two _ refl refl refl, (by-two _ refl refl refl, (by-two _ refl refl refl, (by-two _ refl refl refl, (by-two _ refl refl refl, (by-two _ refl refl refl, (by-two _ refl refl refl, (by-two _ refl refl refl, (by-two _ refl refl refl, (by-two _ refl refl refl, (by-two _ refl refl refl, (by-two _ refl refl refl, (by-two _ refl refl refl, (by-two _ refl refl refl, (by-list _ refl refl refl, (by-two _ refl refl refl, tt))))))))))))))))))))))))))))))))))))))))))))))))))))))))))))))))))))))))
 
 -- end of every-kind
 

@@ -114,6 +114,11 @@ kinds! {
     CurrentReplyBody "current_reply_body",
     CurrentRpcBody "current_rpc_body",
     CurrentRpcMsg "current_rpc_msg",
+    Dirpath "dirpath",
+    Mountstat3 "mountstat3",
+    Mountres3 "mountres3",
+    Exports "exports",
+    Mapping "mapping",
 }
 // end of kinds
 

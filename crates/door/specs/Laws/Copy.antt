@@ -2,6 +2,7 @@
 -- Assumes nothing.
 use mathlib.Core.Path.{_≡_, refl, sym, ap, subst, _∙_}
 use mathlib.Core.Bool.{Bool, true, false}
+use mathlib.Core.Option.{Option}
 use mathlib.Core.List.{List, [], _∷_, _++_}
 use Prim.Native.Nat.{ℕ, zero, suc, _+_, _-_, _≤_, _<_}
 use native.Mathlib.Omega.{arith}
@@ -17,7 +18,9 @@ use Rattle.xdr.specs.Meaning.Views.{viewU64, viewWrote}
 use Rattle.xdr.specs.declared.answer.U64Read.{U64Read}
 use Rattle.xdr.specs.declared.answer.Wrote.{Wrote}
 use Rattle.xdr.specs.Meaning.Public.{Answers, output, writing, Writes}
+use Rattle.xdr.specs.Meaning.Within.{WritesWithin}
 use Rattle.xdr.specs.Laws.Public.{kept}
+use Rattle.xdr.specs.Laws.Within.{Bounded, read-writes}
 use Rattle.door.specs.Meaning.Copy.{Is, Copy, unknown, unread, saidOf, Copies}
 use Rattle.door.specs.Meaning.Kinds.{CopiesOf, CopiesIn}
 use Rattle.xdr.specs.declared.refusal.Refusal.{Refusal}
@@ -39,6 +42,14 @@ module _ {M S R : Type 0} (F : Format M S) (view : R → Answer S) (s : List ℕ
   was-read {x} {n} {b} v d f =
       let k : opened s at (F .held .read s at) ≡ took x n b = sym (c .is) ∙ ap view e ∙ v in
       record { says = rw k (f ∙ ap (saidOf n b) (d .says)); leaves = d .leaves ∙ sym (rw (k, d .says)) }
+
+-- a message under a bound, read and written: what was read keeps to the bound
+module _ {M S R : Type 0} {F : Format M S} {over : M → Option ℕ} {G : Format M S} (B : Bounded F over G) (view : R → Answer S) (s : List ℕ) (at start : ℕ) (o : List ℕ) {r t : R}
+    (c : Answers G s at (view r)) (e : r ≡ t) where
+  pub bounded-read : {x : S} {n : ℕ} {b : Bool} → view t ≡ took x n b → {o′ : List ℕ} {w : Written} → WritesWithin F over s x start o w o′
+      → {a : Copy} → a ≡ saidOf n b w → Copies G s at start o a o′
+  bounded-read {x} {n} {b} v d f =
+      was-read G view s at start o c e v (read-writes B s at (subst (Answers G s at) (ap view e ∙ v) c) d) f
 
 -- a message without pieces is written with no source; with any source that is not too long it is written alike
 abbrev pub Free : {M S : Type 0} → Format M S → S → Type 0

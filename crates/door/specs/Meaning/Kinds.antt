@@ -23,6 +23,10 @@ use Rattle.nfsfile.specs.Meaning.Getattr.{getattr-args, getattr-res}
 use Rattle.nfsfile.specs.Meaning.Lookup.{lookup-args, lookup-res}
 use Rattle.nfsdata.specs.Meaning.Write.{stable-how, write-args, write-res}
 use Rattle.nfsdata.specs.Meaning.Read.{read-args, read-res}
+use Rattle.mount.specs.Meaning.Path.{dirpath}
+use Rattle.mount.specs.Meaning.Mnt.{mountstat, mountres}
+use Rattle.mount.specs.Meaning.Export.{exports}
+use Rattle.mount.specs.Meaning.Portmap.{port-mapping}
 -- end of meanings
 use Rattle.door.specs.Meaning.Copy.{Copy, unknown, Copies}
 
@@ -129,8 +133,18 @@ currentKinds =
     ∷ branch current-rpc-msg
     ∷ []
 
+-- the mount protocol (RFC 1813, appendix I) and the port mapper (RFC 1057)
+abbrev pub mountKinds : List Branch
+mountKinds =
+    branch dirpath
+    ∷ branch (exactly mountstat)
+    ∷ branch mountres
+    ∷ branch exports
+    ∷ branch (exactly port-mapping)
+    ∷ []
+
 abbrev pub kinds : List Branch
-kinds = itemKinds ++ closedKinds ++ messageKinds ++ attributeKinds ++ changeKinds ++ procedureKinds ++ currentKinds
+kinds = itemKinds ++ closedKinds ++ messageKinds ++ attributeKinds ++ changeKinds ++ procedureKinds ++ currentKinds ++ mountKinds
 
 -- end of lists
 

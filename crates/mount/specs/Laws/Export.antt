@@ -30,7 +30,7 @@ use Rattle.xdr.specs.Laws.Laying.{LaysFrom, Partly, partly-start, partly-refuse
 use Rattle.xdr.specs.Laws.Optional.{OptionalHeld}
 use Rattle.xdr.specs.Laws.Placing.{at-place, has-room}
 use Rattle.xdr.specs.Laws.Placing as placing·
-use Rattle.xdr.specs.Laws.Within.{within-as, over-refused, over-done}
+use Rattle.xdr.specs.Laws.Within.{Bounded, within-as, over-refused, over-done}
 use Rattle.xdr.specs.Laws.Write.{Put, Ready}
 use Rattle.xdr.specs.Meaning.Kind.{Found, Sound}
 use Rattle.xdr.specs.Meaning.Public.{output}
@@ -524,3 +524,8 @@ module _ (s : List ℕ) (x : Piece) where
             let q : Put (midOf at (length o - at) o) zs (n - x .at) (output nodes s x) =
             subst (λ j. Put (midOf at (length o - at) o) zs j (output nodes s x)) list-size p in
             within-as nodes longList s x at o list-short (placing·.wrote nodes s x (λ r. list-size) at o said (ap viewWrote f) list-good q)
+
+-- it is a list under a bound
+pub exports-bounded : Bounded nodes longList exports
+unfolding exports
+exports-bounded = record { is = refl }

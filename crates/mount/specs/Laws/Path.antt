@@ -21,7 +21,7 @@ use Rattle.xdr.specs.Meaning.Within.{isWithin, WritesWithin}
 use Rattle.xdr.specs.Laws.Held.{taken-inside}
 use Rattle.xdr.specs.Laws.Pieces.{inside-le}
 use Rattle.xdr.specs.Laws.Lengths.{Within, opaque-within}
-use Rattle.xdr.specs.Laws.Within.{within-as, over-refused, over-done}
+use Rattle.xdr.specs.Laws.Within.{Bounded, within-as, over-refused, over-done}
 use Rattle.xdr.specs.declared.answer.PieceRead.{PieceRead}
 use Rattle.xdr.specs.declared.answer.PieceRead.the-variants as Piece
 use Rattle.xdr.specs.declared.answer.Wrote.{Wrote}
@@ -98,3 +98,8 @@ module _ (s : List ℕ) (x : Piece) (at : ℕ) (o o′ : List ℕ) (w : Wrote) w
 pub dirpath-within : Within 0 (dirpath .codec .kind)
 unfolding dirpath
 dirpath-within = record { of = λ m w e f. opaque-within .of m w e (f .0) }
+
+-- it is a string under a bound
+pub dirpath-bounded : Bounded bytes longPath dirpath
+unfolding dirpath
+dirpath-bounded = record { is = refl }

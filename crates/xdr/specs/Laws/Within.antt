@@ -8,12 +8,13 @@ use Prim.Native.Nat.{ℕ, _+_, _≤_}
 use native.Mathlib.Omega.{arith}
 use lib.Dec.{leb}
 use lib.ListN.{length}
-use Rattle.xdr.specs.Meaning.Answer.{most, Written, done, unwritten}
+use Rattle.xdr.specs.Meaning.Answer.{took, most, Written, done, unwritten}
 use Rattle.xdr.specs.Meaning.Order.{placing, bounding}
 use Rattle.xdr.specs.Meaning.Format.{Format}
 use Rattle.xdr.specs.Meaning.Lists.{bounded}
-use Rattle.xdr.specs.Meaning.Public.{output, writing, leaving, InRange, Writes, Back}
+use Rattle.xdr.specs.Meaning.Public.{output, writing, leaving, InRange, Answers, Writes, Back}
 use Rattle.xdr.specs.Meaning.Within.{isWithin, WritesWithin}
+use Rattle.xdr.specs.Laws.Public.{kept}
 use Rattle.xdr.specs.Laws.Write.{wrote-back}
 use Rattle.xdr.specs.declared.refusal.Refusal.{Refusal}
 use Rattle.xdr.specs.declared.refusal.Refusal.the-variants.{TooLong, Outside, NoRoom, PastEnd, LongPath}
@@ -84,3 +85,18 @@ module _ {M S : Type 0} (F : Format M S) (over : M → Option ℕ) (s : List ℕ
         go true ha false hb c hc = no {r = TooLong} (sym f ∙ e ∙ simp (ha, hb))
         go true ha true hb false hc = no {r = Outside} (sym f ∙ e ∙ simp (ha, hb, hc))
         go true ha true hb true hc = sym (simp (ha, hb, hc, over-bound hc))
+
+-- a kind that is another under a bound
+pub record Bounded {M S : Type 0} (F : Format M S) (over : M → Option ℕ) (G : Format M S) : Type 1 where
+  pub is : G ≡ bounded F over
+
+-- what was read of it is under the bound, and is written as any other message is
+module _ {M S : Type 0} {F : Format M S} {over : M → Option ℕ} {G : Format M S} (B : Bounded F over G) (s : List ℕ) (p : ℕ) {x : S} {n : ℕ} {b : Bool}
+    (c : Answers G s p (took x n b)) where
+  pub read-within : over (F .held .mean s x) ≡ none
+  read-within =
+      let d : Answers (bounded F over) s p (took x n b) = subst (λ H. Answers H s p (took x n b)) (B .is) c in
+      kept (bounded F over) .in-range (record { source = s; place = p; value = x; next = n; plain = b; answers = d }) .1
+
+  pub read-writes : {at : ℕ} {o : List ℕ} {w : Written} {o′ : List ℕ} → WritesWithin F over s x at o w o′ → Writes G s x at o w o′
+  read-writes {at} {o} {w} {o′} d = subst (λ H. Writes H s x at o w o′) (sym (B .is)) (within-writes F over s x at o read-within d)
