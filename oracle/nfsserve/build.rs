@@ -5,6 +5,9 @@ use std::{env, fs};
 
 const MODULES: [&str; 8] = ["context", "mount", "nfs", "portmap", "rpc", "transaction_tracker", "vfs", "xdr"];
 
+/// The handlers whose places the spies have, under other names.
+const HANDLERS: [&str; 2] = ["mount_handlers", "portmap_handlers"];
+
 fn main() {
     println!("cargo:rerun-if-env-changed=NFSSERVE_SRC");
     let here = PathBuf::from(env::var("CARGO_MANIFEST_DIR").expect("cargo names this folder"));
@@ -14,6 +17,9 @@ fn main() {
     let mut lines = String::new();
     for name in MODULES {
         lines += &format!("#[path = {:?}]\npub mod {name};\n", file(&source, name));
+    }
+    for name in HANDLERS {
+        lines += &format!("#[path = {:?}]\nmod own_{name};\n", file(&source, name));
     }
     // rpcwire's functions are private: what asks them has to stand in the same module.
     lines += &format!(

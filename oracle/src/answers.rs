@@ -3,7 +3,7 @@
 /// The bound of refusal 3.
 pub const BOUND: usize = 1_048_576;
 
-/// A refusal: its number, its place where it has one (1 and 2), and how many bytes are wanting (1).
+/// A refusal: its number, its place where it has one (1, 2, and 10 in reading), and how many bytes are wanting (1).
 #[derive(Clone, Copy, Debug, PartialEq, Eq)]
 pub struct Refusal {
     pub number: u32,
@@ -27,7 +27,18 @@ impl Refusal {
     pub const fn undeclared(place: usize) -> Refusal {
         Refusal { number: 2, place, wanting: 0 }
     }
+
+    /// A path is over the bound; its length word stands at a place.
+    pub const fn long_path(place: usize) -> Refusal {
+        Refusal { number: LONG_PATH, place, wanting: 0 }
+    }
 }
+
+/// The refusal of a path over the bound.
+pub const LONG_PATH: u32 = 10;
+
+/// The highest number of a refusal.
+pub const LAST_REFUSAL: u32 = LONG_PATH;
 
 /// A message was read; what it is written as stands in a buffer beside this.
 #[derive(Clone, Copy, Debug, PartialEq, Eq)]
@@ -90,6 +101,52 @@ pub enum Choice {
 /// The length of each reply of the choice of program.
 pub const REPLY: usize = 24;
 
+/// What is answered to a message for all programs. A reply's bytes stand in a buffer beside this.
+#[derive(Clone, Copy, Debug, PartialEq, Eq)]
+pub enum Asked {
+    /// Handed over to NFS.
+    HandOver {
+        program: u32,
+        version: u32,
+        procedure: u32,
+        arguments: usize,
+        auth_unix: Option<AuthUnix>,
+    },
+    /// A reply of so many bytes.
+    Reply(usize),
+    Silence,
+    Refused(Refusal),
+    /// A call that was read and is handed on, and the place behind its arguments.
+    Call {
+        call: Call,
+        next: usize,
+        auth_unix: Option<AuthUnix>,
+    },
+}
+
+/// A call of the mount protocol or of the port mapper, with its arguments.
+#[derive(Clone, Copy, Debug, PartialEq, Eq)]
+pub enum Call {
+    Mnt(Piece),
+    Umnt(Piece),
+    Export,
+    /// Program, version, protocol and port.
+    Getport([u32; 4]),
+}
+
+impl From<Choice> for Asked {
+    fn from(choice: Choice) -> Asked {
+        match choice {
+            Choice::HandOver { program, version, procedure, arguments, auth_unix } => {
+                Asked::HandOver { program, version, procedure, arguments, auth_unix }
+            },
+            Choice::Reply => Asked::Reply(REPLY),
+            Choice::Silence => Asked::Silence,
+            Choice::Refused(refusal) => Asked::Refused(refusal),
+        }
+    }
+}
+
 /// The state of the record assembler.
 #[derive(Clone, Copy, Debug, Default, PartialEq, Eq)]
 pub struct State {
@@ -150,13 +207,18 @@ impl Unwritten {
 /// A writer's answer: the next place, or why there is none.
 pub type Wrote = Result<usize, Unwritten>;
 
-/// Answers that are no refusal. A choice is handed over, replied to or met with silence; a feed wants more or is complete.
+/// Answers that are no refusal. A choice is handed over, replied to or met with silence; a feed wants more or is complete; a
+/// call of another program is handed on.
 pub const DONE: u32 = 0;
 pub const HAND_OVER: u32 = 100;
 pub const REPLIED: u32 = 101;
 pub const SILENCE: u32 = 102;
 pub const MORE: u32 = 103;
 pub const COMPLETE: u32 = 104;
+pub const MNT: u32 = 105;
+pub const UMNT: u32 = 106;
+pub const EXPORT: u32 = 107;
+pub const GETPORT: u32 = 108;
 
 /// Answers to a call that is itself at fault: a number that does not fit its field, a list that is too short, a kind that
 /// is not there.
@@ -171,6 +233,8 @@ pub const FEED_FIGURES: usize = 2;
 pub const STATE_FIGURES: usize = 7;
 pub const WRITE_FIGURES: usize = 1;
 pub const PART_FIGURES: usize = 2;
+pub const ASK_FIGURES: usize = 13;
+pub const SAME_FIGURES: usize = 1;
 
 /// What an exported function tells: its answer, and the figures that it puts at the front of the list lent for them, as
 /// include/yugerzat.h has them.
@@ -240,6 +304,45 @@ impl Told {
             Choice::Refused(refusal) => return Told::refused(refusal, CHOOSE_FIGURES),
         };
         Told { answer, figures }
+    }
+
+    pub fn asked(asked: &Asked) -> Told {
+        let mut figures = [0; ASK_FIGURES];
+        let (answer, auth_unix) = match asked {
+            Asked::HandOver { program, version, procedure, arguments, auth_unix } => {
+                figures[..3].copy_from_slice(&[*program, *version, *procedure].map(u64::from));
+                figures[3] = *arguments as u64;
+                (HAND_OVER, *auth_unix)
+            },
+            Asked::Call { call, next, auth_unix } => {
+                figures[4] = *next as u64;
+                let path = |path: &Piece| [path.place as u64, path.count as u64, 0, 0];
+                let (answer, arguments) = match call {
+                    Call::Mnt(piece) => (MNT, path(piece)),
+                    Call::Umnt(piece) => (UMNT, path(piece)),
+                    Call::Export => (EXPORT, [0; 4]),
+                    Call::Getport(mapping) => (GETPORT, mapping.map(u64::from)),
+                };
+                figures[..4].copy_from_slice(&arguments);
+                (answer, *auth_unix)
+            },
+            Asked::Reply(length) => {
+                figures[0] = *length as u64;
+                (REPLIED, None)
+            },
+            Asked::Silence => (SILENCE, None),
+            Asked::Refused(refusal) => return Told::refused(refusal, ASK_FIGURES),
+        };
+        if let Some(auth) = auth_unix {
+            figures[5] = 1;
+            figures[6..].copy_from_slice(&auth.figures());
+        }
+        Told { answer, figures: figures.to_vec() }
+    }
+
+    /// Whether two export lists are the same, or the number of a refusal.
+    pub fn same(same: Result<bool, u32>) -> Told {
+        same.map_or_else(|answer| Told { answer, figures: vec![0] }, |same| Told::done(vec![u64::from(same)]))
     }
 
     pub fn fed(fed: &Fed) -> Told {

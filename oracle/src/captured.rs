@@ -5,12 +5,13 @@ use std::fs;
 use std::io;
 use std::path::{Path, PathBuf};
 
-use crate::answers::{Choice, BOUND};
+use crate::answers::{Asked, Choice, Piece, BOUND};
 use crate::cases::{run_lengths, Question, Room};
 use crate::list::{alike, SEED};
 use crate::random::Random;
 use crate::shapes::{kind, Reading};
 use crate::truth::Truth;
+use crate::values::Walk;
 
 /// A longer stream is not cut into bytes, because its line would have a length for each of them, and the list is to stay
 /// small.
@@ -59,10 +60,11 @@ const BODIES: &[Body] = &[
     ),
     ([100_003, 3, 19], &[&["nfs_fh3"]], &[&["nfsstat3", "fsinfo3"], &["nfsstat3", "post_op_attr"]]),
     ([100_003, 3, 21], &[&["nfs_fh3", "u64", "u32"]], &[&["nfsstat3", "wcc_data", "eight"], &["nfsstat3", "wcc_data"]]),
-    // mount: NULL, MNT, and a DUMP of nothing
+    // mount: NULL, MNT, a DUMP of nothing, and EXPORT
     ([100_005, 3, 0], &[&[]], &[&[]]),
     ([100_005, 3, 1], &[&["nfsstring"]], &[&["u32", "nfs_fh3", "words"], &["u32"]]),
     ([100_005, 3, 2], &[&[]], &[&["bool"]]),
+    ([100_005, 3, 5], &[&[]], &[&["exports"]]),
 ];
 
 /// The kinds that the arguments and the results of a procedure are as a whole, where there are such. The crate lacks these,
@@ -73,7 +75,13 @@ const WHOLE: &[([u32; 3], [&str; 2])] = &[
     ([100_003, 3, 3], ["lookup3args", "lookup3res"]),
     ([100_003, 3, 6], ["read3args", "read3res"]),
     ([100_003, 3, 7], ["write3args", "write3res"]),
+    ([100_000, 2, 3], ["mapping", "u32"]),
+    ([100_005, 3, 1], ["dirpath", "mountres3"]),
 ];
+
+/// The programs that are answered for besides NFS, and the room that the longest reply to one takes.
+const ANSWERED: [u32; 2] = [100_000, 100_005];
+const ROOM: usize = 32;
 const ARGUMENTS: usize = 0;
 const RESULTS: usize = 1;
 
@@ -98,7 +106,7 @@ fn sorted(folder: &Path) -> io::Result<Vec<PathBuf>> {
 /// Both streams of one connection. What a reply answers is known by the call of the same `xid`.
 fn connection(sent: &[u8], answered: &[u8], list: &mut Vec<String>) {
     let mut truth = Truth::new();
-    let mut calls = HashMap::new();
+    let (mut calls, mut replies) = (HashMap::new(), HashMap::new());
     for call in stream(&mut truth, sent, list) {
         let arguments = judged(&mut truth, &call, list);
         for (reading, seen, room) in [
@@ -112,6 +120,14 @@ fn connection(sent: &[u8], answered: &[u8], list: &mut Vec<String>) {
         let [choice, in_current] = Reading::BOTH.map(|reading| truth.choose(reading, &call, false, &mut [0; 24]));
         assert_eq!(choice, in_current, "both readings choose the same for a captured call");
         if let Choice::HandOver { program, version, procedure, .. } = choice {
+            if ANSWERED.contains(&program) {
+                let mut out = [0; ROOM];
+                let asked = truth.ask(&call, false, &mut out);
+                list.push(Question::Ask { seen: false, room: ROOM, message: call.clone() }.line());
+                if let (Asked::Reply(length), 0) = (asked, procedure) {
+                    replies.insert(call[..4].to_vec(), out[..length].to_vec());
+                }
+            }
             if let Some(body) = BODIES.iter().find(|body| body.0 == [program, version, procedure]) {
                 all_of(&mut truth, &call, arguments, body.1, list);
                 as_one(&mut truth, &call, arguments, body.0, ARGUMENTS, list);
@@ -125,7 +141,16 @@ fn connection(sent: &[u8], answered: &[u8], list: &mut Vec<String>) {
         let in_current = read(&mut truth, &reply, 0, "current_rpc_msg", list);
         assert_eq!(results, in_current, "both readings of a captured reply end at the same place");
         list.push(Question::Choose { reading: Reading::Crate, seen: false, room: 24, message: reply.clone() }.line());
+        if let Some(due) = replies.get(&reply[..4]) {
+            assert_eq!(reply, *due, "what a captured server answers to procedure 0 is what is answered here");
+        }
         if let Some(body) = calls.get(&reply[..4]) {
+            if body.0 == [100_005, 3, 5] {
+                let whole = truth.walk(Walk::Exports, &reply, results).expect("a captured list is taken");
+                let list_of = Piece { place: results, count: whole[3] as usize };
+                let room = reply.len() - results;
+                list.push(Question::List { source: reply.clone(), list: list_of, room, start: 0 }.line());
+            }
             all_of(&mut truth, &reply, results, body.2, list);
             as_one(&mut truth, &reply, results, body.0, RESULTS, list);
         }

@@ -2,10 +2,10 @@
 use std::fmt::{self, Display, Formatter};
 
 use crate::answers::{
-    Fed, Refusal, State, Told, Took, CHOOSE_FIGURES, COMPLETE, FEED_FIGURES, MORE, PART_FIGURES, READ_FIGURES, REPLY,
-    STATE_FIGURES, UNKNOWN_KIND, WRITE_FIGURES,
+    Fed, Piece, Refusal, State, Told, Took, ASK_FIGURES, CHOOSE_FIGURES, COMPLETE, DONE, FEED_FIGURES, MORE, PART_FIGURES,
+    READ_FIGURES, REPLY, SAME_FIGURES, STATE_FIGURES, UNKNOWN_KIND, WRITE_FIGURES,
 };
-use crate::cases::{call_with, Case, Cut, Lending, Question, Room, BODY};
+use crate::cases::{bare_call, call_with, Case, Cut, Lending, Question, Room, BODY};
 use crate::lent::{bytes, list, Left};
 use crate::lines::{self, hex};
 use crate::model::Model;
@@ -13,7 +13,7 @@ use crate::proved::Proved;
 use crate::shapes::{kind, Reading, KINDS};
 use crate::tally::Tally;
 use crate::truth::Truth;
-use crate::values::{Value, Writer};
+use crate::values::{Value, Walk, Writer};
 use crate::wanting::{broken, Said};
 use crate::yielded::Yielded;
 
@@ -24,6 +24,9 @@ pub struct Sides {
     /// What the proved side told last.
     said: Said,
 }
+
+/// So many entries of an export list, and names of each, are walked one by one.
+const WALKED: usize = 24;
 
 /// A case on which the sides differ.
 pub struct Difference {
@@ -61,6 +64,11 @@ impl Sides {
             },
             Question::Part { message, at, count } => self.part(message, *at, *count, lending),
             Question::Choose { reading, seen, room, message } => self.choose(*reading, *seen, *room, message, lending),
+            Question::Ask { seen, room, message } => self.ask(*seen, *room, message, lending),
+            Question::Walk { walk, at, message } => self.walk(*walk, *at, message, lending),
+            Question::Path { source, path, room, start } => self.write_path(source, *path, *room, *start, lending),
+            Question::List { source, list, room, start } => self.write_list(source, *list, *room, *start, lending),
+            Question::Same { sources, lists } => self.same_lists(sources.both(), *lists, lending),
             Question::Feed { capacity, runs } => self.feed(*capacity, runs, lending),
             Question::Stream { capacity, stream, cuttings } => self.stream(*capacity, stream, cuttings),
             Question::State { state, length, run } => self.state(*state, *length, run, lending),
@@ -190,6 +198,105 @@ impl Sides {
             Reading::Current => "current_choose",
         };
         self.same(name, &got, &due)
+    }
+
+    fn ask(&mut self, seen: bool, room: usize, message: &[u8], lending: &Lending) -> Option<Difference> {
+        let mut due = Left::new(room, lending.info.length(ASK_FIGURES));
+        let mut got = due.clone();
+        if due.info.get().len() >= ASK_FIGURES {
+            let asked = self.truth.ask(message, seen, due.out.slice());
+            due.tell(&Told::asked(&asked));
+        }
+        let number = if seen { (lending.yes as u32).max(1) } else { 0 };
+        got.answer = self.proved.ask(message, number, got.out.slice(), got.info.slice());
+        self.same("ask", &got, &due)
+    }
+
+    /// What reads a list, or what stands at a place of one. A list that is taken is then walked, entry by entry, and each
+    /// entry name by name.
+    fn walk(&mut self, walk: Walk, at: usize, message: &[u8], lending: &Lending) -> Option<Difference> {
+        let mut due = Left::new(0, lending.info.length(walk.figures()));
+        let mut got = due.clone();
+        if due.info.get().len() >= walk.figures() {
+            let expected = self.truth.walk(walk, message, at);
+            if let Ok(figures) = &expected {
+                self.tally.took(figures[1] == 1);
+            }
+            due.tell(&expected.map_or_else(|refusal| Told::refused(&refusal, walk.figures()), Told::done));
+        }
+        got.answer = self.proved.walk(walk, message, at, got.info.slice());
+        let said = self.same(walk.reader(), &got, &due);
+        if said.is_some() || due.answer != DONE {
+            return said;
+        }
+        let figure = |index: usize| due.info.get()[index] as usize;
+        let whole = self.said;
+        let (inner, mut at, count) = match walk {
+            Walk::Exports => (Walk::Export, at, figure(3)),
+            Walk::Export if figure(2) == 1 => (Walk::Group, figure(5), figure(6)),
+            Walk::Export | Walk::Group => return None,
+        };
+        // The last one is the end.
+        for _ in 0..(count + 1).min(WALKED) {
+            let difference = self.walk(inner, at, message, &Lending::ENOUGH);
+            if difference.is_some() {
+                return difference;
+            }
+            // What it told as its place is the next one, for it was done.
+            at = self.said.place as usize;
+        }
+        self.said = whole;
+        None
+    }
+
+    fn write_path(
+        &mut self,
+        source: &[u8],
+        path: Piece,
+        room: usize,
+        start: usize,
+        lending: &Lending,
+    ) -> Option<Difference> {
+        let mut due = Left::new(room, lending.info.length(WRITE_FIGURES));
+        let mut got = due.clone();
+        if due.info.get().len() >= WRITE_FIGURES {
+            let wrote = self.truth.write_path(source, path, due.out.slice(), start);
+            due.tell(&Told::wrote(&wrote));
+        }
+        got.answer = self.proved.write_path(source, path, got.out.slice(), start, got.info.slice());
+        self.same("write_dirpath", &got, &due)
+    }
+
+    fn write_list(
+        &mut self,
+        source: &[u8],
+        list: Piece,
+        room: usize,
+        start: usize,
+        lending: &Lending,
+    ) -> Option<Difference> {
+        let mut due = Left::new(room, lending.info.length(WRITE_FIGURES));
+        let mut got = due.clone();
+        if due.info.get().len() >= WRITE_FIGURES {
+            let wrote = self.truth.write_list(source, list, due.out.slice(), start);
+            due.tell(&Told::wrote(&wrote));
+        }
+        got.answer = self.proved.write_list(source, list, got.out.slice(), start, got.info.slice());
+        self.same("write_exports", &got, &due)
+    }
+
+    fn same_lists(&mut self, sources: [&[u8]; 2], lists: [Piece; 2], lending: &Lending) -> Option<Difference> {
+        let mut due = Left::new(0, lending.info.length(SAME_FIGURES));
+        let mut got = due.clone();
+        if due.info.get().len() >= SAME_FIGURES {
+            let same = self.truth.same(sources, lists);
+            if let Ok(is_same) = same {
+                self.tally.compared(is_same);
+            }
+            due.tell(&Told::same(same));
+        }
+        got.answer = self.proved.same(sources, lists, got.info.slice());
+        self.same("same_exports", &got, &due)
     }
 
     /// Each feed is compared with the model's, and the records with those of the crate.
@@ -333,8 +440,10 @@ impl Sides {
             Cut::Kind { at, .. } => (at, [&vec![0; at], message].concat()),
             Cut::Body | Cut::Credential(_) => (BODY, call_with(message)),
             Cut::Call(_) => (0, call_with(message)),
+            Cut::Mnt => (0, bare_call(100_005, 3, 1, message)),
+            Cut::Getport => (0, bare_call(100_000, 2, 3, message)),
         };
-        let longest = if let Cut::Call(_) = cut { whole.len() } else { message.len() };
+        let longest = if let Cut::Call(_) | Cut::Mnt | Cut::Getport = cut { whole.len() } else { message.len() };
         let mut said = Vec::new();
         for length in 0..=longest {
             let difference = match cut {
@@ -342,6 +451,7 @@ impl Sides {
                 Cut::Body => self.auth_unix(at, length, &whole, lending),
                 Cut::Credential(reading) => self.choose(reading, false, REPLY, &call_with(&message[..length]), lending),
                 Cut::Call(reading) => self.choose(reading, false, REPLY, &whole[..length], lending),
+                Cut::Mnt | Cut::Getport => self.ask(false, 0, &whole[..length], lending),
             };
             if let Some(Difference { proved, expected }) = difference {
                 let at_length = |text: String| format!("cut to {length}: {text}");
@@ -359,10 +469,11 @@ impl Sides {
 
     /// All readers of a kind.
     fn kind(&mut self, kind: usize, at: usize, message: &[u8], lending: &Lending) -> Option<Difference> {
-        match Value::PLACED.into_iter().find(|value| value.kind() == KINDS[kind].0) {
+        let read = match Value::PLACED.into_iter().find(|value| value.kind() == KINDS[kind].0) {
             Some(value) => self.value(value, at, message, lending),
             None => self.read(kind as u32, at, message, Room::Ample, lending),
-        }
+        };
+        read.or_else(|| (KINDS[kind].0 == "exports").then(|| self.walk(Walk::Exports, at, message, lending))?)
     }
 
     /// Whether the answer and all that was lent are the same, what lies around it too.

@@ -1,7 +1,7 @@
 //! The lines of the program `answers`: cases and answers as text.
 use std::fmt::Write;
 
-use crate::answers::{Choice, Fed, Refusal, State, Took, Wrote};
+use crate::answers::{Asked, Call, Choice, Fed, Piece, Refusal, State, Took, Wrote, LONG_PATH};
 use crate::cases::{Cut, Question};
 use crate::shapes::KINDS;
 use crate::yielded::Yielded;
@@ -26,7 +26,7 @@ pub fn refusal(refusal: &Refusal) -> String {
     let Refusal { number, place, wanting } = refusal;
     match number {
         1 => format!("refused 1 {place} {wanting}"),
-        2 => format!("refused 2 {place}"),
+        2 | &LONG_PATH => format!("refused {number} {place}"),
         _ => format!("refused {number}"),
     }
 }
@@ -51,6 +51,29 @@ pub fn choice(choice: &Choice, out: &[u8]) -> String {
         Choice::Reply => String::from("reply 24"),
         Choice::Silence => String::from("silence"),
         Choice::Refused(refused) => refusal(refused),
+    };
+    format!("{text} {}", hex(out))
+}
+
+/// What is answered to a message for all programs, with the output buffer as it then is.
+pub fn asked(asked: &Asked, out: &[u8]) -> String {
+    let text = match asked {
+        Asked::HandOver { program, version, procedure, arguments, auth_unix } => {
+            let (program, version, procedure) = (*program, *version, *procedure);
+            let (arguments, auth_unix) = (*arguments, *auth_unix);
+            return choice(&Choice::HandOver { program, version, procedure, arguments, auth_unix }, out);
+        },
+        Asked::Reply(length) => format!("reply {length}"),
+        Asked::Silence => String::from("silence"),
+        Asked::Refused(refused) => refusal(refused),
+        Asked::Call { call, next, .. } => match call {
+            Call::Mnt(Piece { place, count }) => format!("mnt {place} {count} {next}"),
+            Call::Umnt(Piece { place, count }) => format!("umnt {place} {count} {next}"),
+            Call::Export => format!("export {next}"),
+            Call::Getport([program, version, protocol, port]) => {
+                format!("getport {program} {version} {protocol} {port} {next}")
+            },
+        },
     };
     format!("{text} {}", hex(out))
 }
@@ -119,6 +142,18 @@ impl Question {
             Question::Part { message, at, count } => format!("part {} {at} {count}", hex(message)),
             Question::Choose { reading, seen, room, message } => {
                 format!("{}choose {} {room} {}", reading.prefix(), u8::from(*seen), hex(message))
+            },
+            Question::Ask { seen, room, message } => format!("ask {} {room} {}", u8::from(*seen), hex(message)),
+            Question::Walk { walk, at, message } => format!("{} {} {at}", walk.reader(), hex(message)),
+            Question::Path { source, path, room, start } => {
+                format!("path {} {} {} {room} {start}", hex(source), path.place, path.count)
+            },
+            Question::List { source, list, room, start } => {
+                format!("list {} {} {} {room} {start}", hex(source), list.place, list.count)
+            },
+            Question::Same { sources, lists: [first, second] } => {
+                let [a, b] = sources.both().map(hex);
+                format!("same_exports {a} {} {} {b} {} {}", first.place, first.count, second.place, second.count)
             },
             Question::Feed { capacity, runs } => {
                 let mut line = format!("feed {capacity}");

@@ -10,6 +10,7 @@ use crate::cases::{
     ACCEPTED, ACCEPT_STATS, AUTH_STATS, DENIED,
 };
 use crate::lines::{self, hex};
+use crate::mounted;
 use crate::questions::answer;
 use crate::random::Random;
 use crate::shapes::{Reading, Shape, AUTH_UNIX, KINDS, NFSSTAT3};
@@ -22,8 +23,11 @@ pub const SEED: u64 = 4506;
 /// before stay as they are.
 const FIRST_KINDS: usize = 47;
 
+/// The kinds from this one on have their lines in `mounted`.
+const MOUNTING_KINDS: usize = 67;
+
 /// Most messages of the list are short, so that a person can read them.
-const SHORT: usize = 160;
+pub const SHORT: usize = 160;
 
 /// Those that are cut at every byte are shorter, for each is as many lines.
 const CUT: usize = 120;
@@ -32,7 +36,7 @@ const CUT: usize = 120;
 pub fn lines(captures: &Path) -> io::Result<Vec<String>> {
     let random = &mut Random::of(SEED, 0);
     let mut list: Vec<String> = WORKED.iter().chain(ODD_LINES).map(|line| String::from(*line)).collect();
-    for kind in 0..KINDS.len() {
+    for kind in 0..MOUNTING_KINDS {
         let mut own = Random::of(SEED, kind as u64);
         let random = if kind < FIRST_KINDS { &mut *random } else { &mut own };
         readings(random, kind, &mut list);
@@ -49,6 +53,7 @@ pub fn lines(captures: &Path) -> io::Result<Vec<String>> {
     pieces(random, &mut list);
     example(&mut list);
     cut_everywhere(&mut list);
+    list.extend(mounted::lines());
     list.extend(captured::lines(captures)?);
     let mut met = HashSet::new();
     list.retain(|line| met.insert(line.clone()));
@@ -250,7 +255,7 @@ const ODD_LINES: &[&str] = &[
     "words 00 0 1048577x",
 ];
 
-fn made(random: &mut Random, shape: &Shape, style: Style) -> Vec<u8> {
+pub fn made(random: &mut Random, shape: &Shape, style: Style) -> Vec<u8> {
     loop {
         let mut bytes = Vec::new();
         append_message(random, shape, style, &mut bytes, &mut Vec::new());
@@ -260,7 +265,7 @@ fn made(random: &mut Random, shape: &Shape, style: Style) -> Vec<u8> {
     }
 }
 
-fn read_line(kind: usize, at: usize, message: &[u8]) -> String {
+pub fn read_line(kind: usize, at: usize, message: &[u8]) -> String {
     Question::Read { kind: kind as u32, at, message: message.to_vec(), room: Room::Ample }.line()
 }
 
@@ -353,7 +358,7 @@ fn replies(list: &mut Vec<String>) {
     }
 }
 
-fn bytes_of(words: &[u32]) -> Vec<u8> {
+pub fn bytes_of(words: &[u32]) -> Vec<u8> {
     words.iter().flat_map(|word| word.to_be_bytes()).collect()
 }
 
@@ -528,11 +533,11 @@ fn example(list: &mut Vec<String>) {
 fn cut_everywhere(list: &mut Vec<String>) {
     // Numbers of their own, so that the lines before stay as they are.
     let random = &mut Random::of(SEED, 1);
-    for (kind, (name, shape)) in KINDS.iter().enumerate() {
+    for (kind, (name, shape)) in KINDS.iter().enumerate().take(MOUNTING_KINDS) {
         let mut own = Random::of(!SEED, kind as u64);
         let random = if kind < FIRST_KINDS { &mut *random } else { &mut own };
         let mut messages = match shape {
-            Shape::Status { ok, fail } => {
+            Shape::Status { ok, fail, .. } => {
                 let mut result = |status: u32, arm| [&status.to_be_bytes(), &longest(random, arm)[..]].concat();
                 vec![result(0, ok), result(1, fail)]
             },

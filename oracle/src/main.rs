@@ -8,6 +8,7 @@ mod limits;
 mod lines;
 mod list;
 mod model;
+mod mounted;
 mod odd;
 mod proved;
 mod questions;

@@ -178,6 +178,84 @@ const THOUGHT_OF: &[&[u8]] = &[
     b"read current_bool 0 00000000",
     b"read current_ 0 00000000",
     b"read current_rpc_msg 0 -",
+    b"ask 0 0 -",
+    b"ask 00 0 -",
+    b"ask 2 0 -",
+    b"ask yes 0 -",
+    b"ask  0 -",
+    b"ask 0  -",
+    b"ask 0 24  ",
+    b"ask 0 24 0000002A00000002 ",
+    b"ask 1 24 0000002A00000002",
+    b"ask 1 24 0000002A00000002 -",
+    b"ask 0 24 0000002A0000000g",
+    b"ask 0 24 0000002A0000000",
+    b"ask 0 +24 0000002A00000002",
+    b"ask 0 18446744073709551616 -",
+    b"ask 0 18446744073709551615 -",
+    b"ask 0 18446744073709551615 0",
+    b"Ask 0 24 0000002A00000002",
+    b"as 0 24 0000002A00000002",
+    b"asks 0 24 0000002A00000002",
+    b"ask_ 0 24 0000002A00000002",
+    b"current_ask 0 24 0000002A00000002",
+    b"path - 0 0 0 0",
+    b"path - 0 0 4 0",
+    b"path - 0 0 4 0 ",
+    b"path - 0 0 4 0 0",
+    b"path - 0 0 4",
+    b"path - 0 0 4 ",
+    b"path - 0  4 0",
+    b"path  0 0 4 0",
+    b"path -- 0 0 4 0",
+    b"path - - 0 4 0",
+    b"path - 0 -0 4 0",
+    b"path 00 0 00000000000000000000001 4 0",
+    b"path 00 0 18446744073709551615 4 0",
+    b"path 00 0 18446744073709551616 4 0",
+    b"path 00 18446744073709551615 1 4 0",
+    b"path 00 18446744073709551615 18446744073709551615 18446744073709551615 18446744073709551615",
+    b"path 00 18446744073709551615 18446744073709551615 4 18446744073709551615",
+    b"path 0 0 0 1048577 0",
+    b"path 00 0 0 1048577 x",
+    b"path FfaA 0 2 8 0",
+    b"paths 00 0 1 8 0",
+    b"pat 00 0 1 8 0",
+    b"Path 00 0 1 8 0",
+    b"list - 0 0 0 0",
+    b"list - 0 0 0 0 ",
+    b"list 00000000 0 0 4 0",
+    b"list 00000000 0 0 4 0 ",
+    b"list 00000000 0 0 4 0 -",
+    b"list 00000000 0 0 4",
+    b"list 00000000 0 0  0",
+    b"list 00000000  0 4 0",
+    b"list  0 0 4 0",
+    b"list 0000000g 0 0 4 0",
+    b"list 0000000 0 0 1048577 0",
+    b"list 00000000 0 0 1048577 0 0",
+    b"list 00000000 0 0 1048577",
+    b"list 00000000 0 0 4 \xff",
+    b"list 00000000 18446744073709551615 0 4 0",
+    b"list 00000000 18446744073709551613 0 4 0",
+    b"list 00000000 0 18446744073709551615 4 0",
+    b"list 00000000 0 4294967296 4 0",
+    b"list 00000000 0 0 4 18446744073709551615",
+    b"list FFFFFFFF00000000000000000000000000 0 1 16 0",
+    b"lists 00000000 0 0 4 0",
+    b"lis 00000000 0 0 4 0",
+    b"LIST 00000000 0 0 4 0",
+    b"read dirpath 0 00000000",
+    b"read dirpat 0 00000000",
+    b"read dirpaths 0 00000000",
+    b"read export 0 00000000",
+    b"read exportnode 0 00000000",
+    b"read groups 0 00000000",
+    b"read mountres3_ok 0 0000000000000000",
+    b"read mountstat 0 00000000",
+    b"read mappings 0 -",
+    b"write exports 0 00000000 4 0",
+    b"write exports 0 - 4 0",
     b"part - 0 0",
     b"part - 0 1",
     b"part - 18446744073709551615 18446744073709551615",
@@ -210,6 +288,9 @@ fn words_alone() -> Vec<Vec<u8>> {
         "state",
         "choose",
         "current_choose",
+        "ask",
+        "path",
+        "list",
         "part",
         "words",
         "reads",
@@ -225,6 +306,7 @@ fn rooms() -> Vec<Vec<u8>> {
     for room in [0, 1, BOUND - 1, BOUND, BOUND + 1, 1 << 31, 1 << 32, 1 << 62, usize::MAX] {
         lines.push(format!("choose 0 {room} 0000002a00000002"));
         lines.push(format!("current_choose 0 {room} 0000002a00000002"));
+        lines.push(format!("ask 0 {room} 0000002a00000002"));
         lines.push(format!("state {room} 0 0 0 0 0 0 {room} 80000001aa"));
         lines.push(format!("feed {room} 80000001aa"));
         lines.push(format!("stream {room} 80000001aa80000002bbcc {room} 1 0 {room}"));
@@ -232,6 +314,9 @@ fn rooms() -> Vec<Vec<u8>> {
             lines.push(format!("write bool 0 00000002 {room} {start}"));
             lines.push(format!("write bool 0 000000 {room} {start}"));
             lines.push(format!("fragment - {room} {start}"));
+            lines.push(format!("path 2f 0 0 {room} {start}"));
+            lines.push(format!("list 00000000 0 0 {room} {start}"));
+            lines.push(format!("list 00000000 0 1 {room} {start}"));
         }
     }
     lines.into_iter().map(String::into_bytes).collect()
@@ -253,6 +338,9 @@ fn long() -> Vec<Vec<u8>> {
             ("stream 16 80000000", "80000000", " 1 1"),
             ("stream 8 00000001aa80000002bbcc80 ", "1 ", "0"),
             ("stream 8 80000009 ", "0 ", "-"),
+            ("path ", "2f", " 0 1024 1028 0"),
+            ("list 00000001000000000000000000000000", "00", " 0 1 16 0"),
+            ("ask 0 8 0000002a", "0", ""),
         ] {
             let mut line = filling.repeat((length - front.len() - end.len()).div_ceil(filling.len()));
             line.truncate(length - front.len() - end.len());
@@ -281,6 +369,19 @@ fn whole() -> Vec<Vec<u8>> {
         lines.push(format!("stream {} 80{} 1 1 1 1 {BOUND}", length - 5, &bytes[2..]));
         lines.push(format!("stream {BOUND} 00{}80000000 {BOUND}", &bytes[2..]));
         lines.push(format!("state {BOUND} 0 0 0 {BOUND} 1 0 {BOUND} {bytes}"));
+        lines.push(format!("ask 0 24 0000002a00000000{}", &bytes[16..]));
+        lines.push(format!("path {bytes} {} 1024 1028 0", length - 1_024));
+        lines.push(format!("path {bytes} {} 1025 1028 0", length - 1_024));
+        // A list with a name that fills the source, and one with a path that does.
+        let (name, path) = (length - 24, length - 16);
+        let named = format!("000000010000000000000001{name:08x}{}0000000000000000", "5a".repeat(name));
+        lines.push(format!("list {named} 0 1 {BOUND} 0"));
+        lines.push(format!("read exports 0 {named}"));
+        let long = format!("00000001{path:08x}{}0000000000000000", "5a".repeat(path));
+        lines.push(format!("list {long} 0 1 {BOUND} 0"));
+        // Entries without paths or names, as many as there are.
+        let many = "000000010000000000000000".repeat(length / 12);
+        lines.push(format!("list {many}00000000 0 {} {BOUND} 0", length / 12));
         // READ's and WRITE's data, which end what is read.
         let (read, write) = (length - 20, length - 24);
         lines.push(format!("read read3res 0 {}{read:08x}{}", "00000000".repeat(4), "5a".repeat(read)));
@@ -294,6 +395,7 @@ fn line(question: &Question) -> Option<String> {
     match question {
         Question::Read { kind, .. } if *kind as usize >= KINDS.len() => None,
         Question::Value { .. } | Question::AuthUnix { .. } | Question::Cuts { .. } => None,
+        Question::Walk { .. } | Question::Same { .. } => None,
         // `write` reads what it writes.
         Question::Write { writer, sources, room, start, .. } => {
             let [source, _] = sources.both();
@@ -311,12 +413,13 @@ fn said_otherwise(random: &mut Random, line: String) -> String {
             let at = line.rfind(' ').unwrap_or(0);
             line[..at].to_owned() + &line[at..].to_uppercase()
         },
-        1 => line.replacen("part ", "words ", 1),
+        1 => line.replacen("part ", "words ", 1).replacen("path ", "list ", 1),
         2 if line.starts_with("read ") => {
             let mut words: Vec<&str> = line.split(' ').collect();
             words[1] = random.pick(&KINDS.each_ref().map(|(name, _)| *name));
             words.join(" ")
         },
+        6 | 7 if line.starts_with("choose ") => line.replacen("choose ", "ask ", 1),
         3 if line.starts_with("feed ") => line.replacen(' ', " 0", 1) + " -",
         4 if line.starts_with("feed ") => {
             let mut words: Vec<&str> = line.split(' ').collect();

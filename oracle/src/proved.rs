@@ -4,8 +4,9 @@ pub use side::Proved;
 
 #[cfg(not(feature = "model"))]
 mod side {
+    use crate::answers::Piece;
     use crate::shapes::Reading;
-    use crate::values::{Value, Writer};
+    use crate::values::{Value, Walk, Writer};
 
     // A lent slice passes as its address and its length. include/yugerzat.h declares the same.
     extern "C" {
@@ -164,6 +165,56 @@ mod side {
             info: *mut u64,
             infos: usize,
         ) -> u32;
+        #[rustfmt::skip]
+        fn yugerzat_ask(
+            message: *const u8,
+            length: usize,
+            seen: u32,
+            out: *mut u8,
+            room: usize,
+            info: *mut u64,
+            infos: usize,
+        ) -> u32;
+        fn yugerzat_read_exports(source: *const u8, length: usize, at: usize, info: *mut u64, infos: usize) -> u32;
+        fn yugerzat_next_export(source: *const u8, length: usize, at: usize, info: *mut u64, infos: usize) -> u32;
+        fn yugerzat_next_group(source: *const u8, length: usize, at: usize, info: *mut u64, infos: usize) -> u32;
+        #[rustfmt::skip]
+        fn yugerzat_write_dirpath(
+            source: *const u8,
+            length: usize,
+            place: usize,
+            count: usize,
+            out: *mut u8,
+            room: usize,
+            start: usize,
+            info: *mut u64,
+            infos: usize,
+        ) -> u32;
+        #[rustfmt::skip]
+        fn yugerzat_write_exports(
+            source: *const u8,
+            length: usize,
+            place: usize,
+            count: usize,
+            out: *mut u8,
+            room: usize,
+            start: usize,
+            info: *mut u64,
+            infos: usize,
+        ) -> u32;
+        #[rustfmt::skip]
+        fn yugerzat_same_exports(
+            first: *const u8,
+            first_length: usize,
+            first_place: usize,
+            first_count: usize,
+            second: *const u8,
+            second_length: usize,
+            second_place: usize,
+            second_count: usize,
+            info: *mut u64,
+            infos: usize,
+        ) -> u32;
     }
 
     pub struct Proved;
@@ -267,14 +318,54 @@ mod side {
             // SAFETY: as above.
             unsafe { choose(message.as_ptr(), length, seen, out.as_mut_ptr(), room, info.as_mut_ptr(), infos) }
         }
+
+        pub fn ask(&self, message: &[u8], seen: u32, out: &mut [u8], info: &mut [u64]) -> u32 {
+            let (length, room, infos) = (message.len(), out.len(), info.len());
+            // SAFETY: as above.
+            unsafe { yugerzat_ask(message.as_ptr(), length, seen, out.as_mut_ptr(), room, info.as_mut_ptr(), infos) }
+        }
+
+        /// What reads an export list, or what stands at a place of one.
+        pub fn walk(&self, walk: Walk, message: &[u8], at: usize, info: &mut [u64]) -> u32 {
+            let reader = match walk {
+                Walk::Exports => yugerzat_read_exports,
+                Walk::Export => yugerzat_next_export,
+                Walk::Group => yugerzat_next_group,
+            };
+            // SAFETY: as above.
+            unsafe { reader(message.as_ptr(), message.len(), at, info.as_mut_ptr(), info.len()) }
+        }
+
+        pub fn write_path(&self, source: &[u8], path: Piece, out: &mut [u8], start: usize, info: &mut [u64]) -> u32 {
+            let (length, room, infos) = (source.len(), out.len(), info.len());
+            let (source, out, info) = (source.as_ptr(), out.as_mut_ptr(), info.as_mut_ptr());
+            // SAFETY: as above.
+            unsafe { yugerzat_write_dirpath(source, length, path.place, path.count, out, room, start, info, infos) }
+        }
+
+        pub fn write_list(&self, source: &[u8], list: Piece, out: &mut [u8], start: usize, info: &mut [u64]) -> u32 {
+            let (length, room, infos) = (source.len(), out.len(), info.len());
+            let (source, out, info) = (source.as_ptr(), out.as_mut_ptr(), info.as_mut_ptr());
+            // SAFETY: as above.
+            unsafe { yugerzat_write_exports(source, length, list.place, list.count, out, room, start, info, infos) }
+        }
+
+        pub fn same(&self, sources: [&[u8]; 2], lists: [Piece; 2], info: &mut [u64]) -> u32 {
+            let [(first, length), (second, other)] = sources.map(|source| (source.as_ptr(), source.len()));
+            let [a, b] = lists;
+            let (info, infos) = (info.as_mut_ptr(), info.len());
+            // SAFETY: as above.
+            unsafe { yugerzat_same_exports(first, length, a.place, a.count, second, other, b.place, b.count, info, infos) }
+        }
     }
 }
 
 #[cfg(feature = "model")]
 mod side {
+    use crate::answers::Piece;
     use crate::model::{Fault, Model};
     use crate::shapes::Reading;
-    use crate::values::{Value, Writer};
+    use crate::values::{Value, Walk, Writer};
 
     pub struct Proved(Model);
 
@@ -330,6 +421,26 @@ mod side {
 
         pub fn choose(&self, reading: Reading, message: &[u8], seen: u32, out: &mut [u8], info: &mut [u64]) -> u32 {
             self.0.exported_choose(reading, message, seen, out, info)
+        }
+
+        pub fn ask(&self, message: &[u8], seen: u32, out: &mut [u8], info: &mut [u64]) -> u32 {
+            self.0.exported_ask(message, seen, out, info)
+        }
+
+        pub fn walk(&self, walk: Walk, message: &[u8], at: usize, info: &mut [u64]) -> u32 {
+            self.0.exported_walk(walk, message, at, info)
+        }
+
+        pub fn write_path(&self, source: &[u8], path: Piece, out: &mut [u8], start: usize, info: &mut [u64]) -> u32 {
+            self.0.exported_write_path(source, path, out, start, info)
+        }
+
+        pub fn write_list(&self, source: &[u8], list: Piece, out: &mut [u8], start: usize, info: &mut [u64]) -> u32 {
+            self.0.exported_write_list(source, list, out, start, info)
+        }
+
+        pub fn same(&self, sources: [&[u8]; 2], lists: [Piece; 2], info: &mut [u64]) -> u32 {
+            self.0.exported_same(sources, lists, info)
         }
     }
 }

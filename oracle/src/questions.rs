@@ -1,7 +1,7 @@
 //! Answers lines as the program `answers` must: from the crate, and where it cannot tell, from the model.
 use std::vec::IntoIter;
 
-use crate::answers::{Fed, State, Unwritten, BOUND};
+use crate::answers::{Fed, Piece, State, Unwritten, BOUND};
 use crate::lent::EMPTY;
 use crate::lines;
 use crate::model::Model;
@@ -76,6 +76,25 @@ fn try_answer(truth: &mut Truth, line: &[u8]) -> Result<String, String> {
             let reading = if word == b"choose" { Reading::Crate } else { Reading::Current };
             let choice = truth.choose(reading, &bytes, seen, &mut out);
             Ok(lines::choice(&choice, &out))
+        },
+        b"ask" => {
+            let (seen, room, bytes) = (words.mark()?, words.number()?, words.bytes()?);
+            words.end()?;
+            let mut out = buffer(room)?;
+            let asked = truth.ask(&bytes, seen, &mut out);
+            Ok(lines::asked(&asked, &out))
+        },
+        word @ (b"path" | b"list") => {
+            let (bytes, place, count) = (words.bytes()?, words.number()?, words.number()?);
+            let (room, start) = (words.number()?, words.number()?);
+            words.end()?;
+            let mut out = buffer(room)?;
+            let piece = Piece { place, count };
+            let wrote = match word {
+                b"path" => truth.write_path(&bytes, piece, &mut out, start),
+                _ => truth.write_list(&bytes, piece, &mut out, start),
+            };
+            Ok(lines::wrote(wrote, &out))
         },
         word @ (b"part" | b"words") => {
             let (bytes, place, count) = (words.bytes()?, words.number()?, words.number()?);
@@ -402,6 +421,109 @@ mod tests {
         ("current_choose 0 1 0000002A0000000100000000000000000000000000000005", "refused 8 ee"),
     ];
 
+    /// The line `ask` of a call without a credential: whether it was seen before, the room, the program, its version and
+    /// procedure, and its arguments.
+    macro_rules! ask {
+        ($seen:literal $room:literal $program:literal $version:literal $procedure:literal $arguments:literal) => {
+            concat!(
+                "ask ",
+                $seen,
+                " ",
+                $room,
+                " 0000002A0000000000000002",
+                $program,
+                $version,
+                $procedure,
+                "00000000000000000000000000000000",
+                $arguments
+            )
+        };
+    }
+
+    /// The mount protocol as RFC 1813, appendix I, has it, and the mapping of RFC 1057.
+    const MOUNTING: &[(&str, &str)] = &[
+        ("read dirpath 0 00000000", "took 4 plain 00000000"),
+        ("read dirpath 0 000000022F610000", "took 8 plain 000000022f610000"),
+        ("read dirpath 1 AA000000022F6100FF", "took 9 loose 000000022f610000"),
+        ("read dirpath 0 000000022F61", "refused 1 0 2"),
+        ("read dirpath 0 00000401", "refused 1 0 1028"),
+        ("read mountstat3 0 00002716", "took 4 plain 00002716"),
+        ("read mountstat3 0 00000006", "refused 2 0"),
+        ("read mountres3 0 0000000100000000", "took 4 plain 00000001"),
+        ("read mountres3 0 00000000", "refused 1 4 4"),
+        ("read mountres3 0 0000000300000000", "refused 2 0"),
+        (
+            "read mountres3 0 000000000000000155000000000000020000000000000001",
+            "took 24 plain 000000000000000155000000000000020000000000000001",
+        ),
+        ("read mountres3 0 0000000000000001550000FF0000000200000000000000", "refused 1 12 1"),
+        ("read mapping 0 000186A5000000030000000600000000", "took 16 plain 000186a5000000030000000600000000"),
+        ("read mapping 0 000186A500000003000000060000", "refused 1 12 2"),
+        ("read exports 0 00000000", "took 4 plain 00000000"),
+        ("read exports 0 -", "refused 1 0 4"),
+        // A flag of 2, and dirty padding.
+        (
+            "read exports 0 00000002000000012FAABBCC0000000000000000",
+            "took 20 loose 00000001000000012f0000000000000000000000",
+        ),
+        // An empty path, and a name behind a flag of FFFFFFFF.
+        (
+            "read exports 0 0000000100000000FFFFFFFF00000001610000010000000000000000",
+            "took 28 loose 00000001000000000000000100000001610000000000000000000000",
+        ),
+        // The list's end is wanting, and a name's.
+        ("read exports 0 00000001000000012F00000000000000", "refused 1 16 4"),
+        ("read exports 0 000000010000000000000001000000056162", "refused 1 12 6"),
+        ("write exports 0 0000000500000000000000000000000077 17 1", "wrote 17 ee00000001000000000000000000000000"),
+        ("path 002F6100 1 2 9 1", "wrote 9 ee000000022f610000"),
+        ("path 002F6100 1 4 9 1", "refused 4 eeeeeeeeeeeeeeeeee"),
+        ("path 002F6100 1 2 7 0", "refused 5 eeeeeeeeeeeeee"),
+        ("path 002F6100 1 4 0 1", "refused 9 -"),
+        ("path - 0 0 4 0", "wrote 4 00000000"),
+        ("list 00000000 0 0 4 0", "wrote 4 00000000"),
+        ("list 00000000 0 1 4 0", "refused 4 eeeeeeee"),
+        ("list 00000000 4 0 1 0", "refused 4 ee"),
+        ("list 00000000 0 0 3 0", "refused 5 eeeeee"),
+        ("list 00000000 0 1 0 1", "refused 9 -"),
+        (
+            "list AA000001000000000102AABBCC0000000000000000 1 1 22 1",
+            "wrote 21 ee0000000100000001020000000000000000000000ee",
+        ),
+        (ask!("0" "0" "000186A5" "00000003" "00000001" "000000022F610000"), "mnt 44 2 48 -"),
+        (ask!("0" "1" "000186A5" "00000003" "00000003" "000000022F61FFFF00"), "umnt 44 2 48 ee"),
+        (ask!("0" "0" "000186A5" "00000003" "00000001" "00000000"), "mnt 44 0 44 -"),
+        (ask!("0" "0" "000186A5" "00000003" "00000001" "000000022F61"), "refused 1 40 2 -"),
+        (ask!("0" "0" "000186A5" "00000003" "00000001" ""), "refused 1 40 4 -"),
+        (ask!("0" "0" "000186A5" "00000003" "00000005" "FF"), "export 40 -"),
+        (
+            ask!("0" "0" "000186A0" "00000002" "00000003" "000186A500000003000000060000080100"),
+            "getport 100005 3 6 2049 56 -",
+        ),
+        (ask!("0" "2" "000186A0" "00000002" "00000003" "000186A50000000300000006"), "refused 1 52 4 eeee"),
+        (ask!("0" "25" "000186A5" "00000003" "00000000" ""), "reply 24 0000002a0000000100000000000000000000000000000000ee"),
+        (ask!("0" "24" "000186A5" "00000003" "00000002" ""), "reply 24 0000002a0000000100000000000000000000000000000003"),
+        (ask!("0" "24" "000186A5" "00000003" "00000004" ""), "reply 24 0000002a0000000100000000000000000000000000000003"),
+        (ask!("0" "24" "000186A0" "00000002" "00000001" ""), "reply 24 0000002a0000000100000000000000000000000000000003"),
+        (ask!("0" "1" "000186A0" "00000002" "00000004" ""), "refused 5 ee"),
+        (
+            ask!("0" "32" "000186A5" "00000002" "00000000" ""),
+            "reply 32 0000002a00000001000000000000000000000000000000020000000300000003",
+        ),
+        (
+            ask!("0" "33" "000186A0" "00000003" "00000003" ""),
+            "reply 32 0000002a00000001000000000000000000000000000000020000000200000002ee",
+        ),
+        (
+            ask!("0" "31" "000186A5" "00000001" "00000001" ""),
+            "refused 5 eeeeeeeeeeeeeeeeeeeeeeeeeeeeeeeeeeeeeeeeeeeeeeeeeeeeeeeeeeeeee",
+        ),
+        (ask!("1" "0" "000186A5" "00000001" "00000001" ""), "silence -"),
+        (ask!("0" "0" "000186A3" "00000009" "00000063" ""), "handover 100003 9 99 40 none -"),
+        (ask!("0" "24" "000186A4" "00000003" "00000000" ""), "reply 24 0000002a0000000100000000000000000000000000000001"),
+        ("ask 0 24 0000002A00000002", "reply 24 0000002a0000000100000001000000000000000000000000"),
+        ("ask 0 0 0000002A0000000100000000000000000000000000000000", "refused 8 -"),
+    ];
+
     /// What docs/SCOPE.md leaves to the program: docs/DECISIONS.md says how it was decided.
     const DECIDED: &[(&[u8], &str)] = &[
         (b"feed 1 -", "more 0; state 1 0 0 0 0 0 0; buffer ee"),
@@ -501,14 +623,82 @@ mod tests {
         (b"choose 0 1048577 0000002a00000002", "? room for more than 1048576 bytes"),
         (b"choose 0 1048577 0", "? odd number of hex digits"),
         (b"state 1048577 0 0 0 0 0 0 1048577 -", "? room for more than 1048576 bytes"),
+        (b"ask", "? a mark is missing"),
+        (b"ask  24 -", "? a mark is missing"),
+        (b"ask 00 x z", "? neither 0 nor 1: 00"),
+        (b"ask 0", "? a number is missing"),
+        (b"ask 0 x z", "? not a number: x"),
+        (b"ask 0 24", "? bytes are missing"),
+        (b"ask 0 24 z", "? not hex: z"),
+        (b"ask 0 1048577 0", "? odd number of hex digits"),
+        (b"ask 0 1048577 - -", "? more words than the line takes"),
+        (b"ask 0 1048577 -", "? room for more than 1048576 bytes"),
+        (b"asks 0 24 -", "? no question named asks"),
+        (b"path", "? bytes are missing"),
+        (b"path  0 0 4 0", "? bytes are missing"),
+        (b"path 0 x", "? odd number of hex digits"),
+        (b"path -", "? a number is missing"),
+        (b"path - 0", "? a number is missing"),
+        (b"path - 0 x", "? not a number: x"),
+        (b"path - 0 0 4", "? a number is missing"),
+        (b"path - 0 0 1048577 -", "? not a number: -"),
+        (b"path - 0 0 1048577 0 0", "? more words than the line takes"),
+        (b"path - 9 9 1048577 0", "? room for more than 1048576 bytes"),
+        (b"list", "? bytes are missing"),
+        (b"list 0g 0 0 0 0", "? not hex: 0g"),
+        (b"list 00 0  4 0", "? a number is missing"),
+        (b"list 00 0 0 -1 0", "? not a number: -1"),
+        (b"list 00 0 0 0 0 ", "? more words than the line takes"),
+        (b"list 00 0 0 18446744073709551615 0", "? room for more than 1048576 bytes"),
+        (b"lists 00 0 0 0 0", "? no question named lists"),
     ];
 
     #[test]
     fn worked_bytes() {
         let mut truth = Truth::new();
-        for (line, expected) in WORKED.iter().chain(CALLS_AND_RESULTS).chain(BOTH_READINGS) {
+        for (line, expected) in WORKED.iter().chain(CALLS_AND_RESULTS).chain(BOTH_READINGS).chain(MOUNTING) {
             assert_eq!(answer(&mut truth, line.as_bytes()), *expected, "{line}");
         }
+    }
+
+    /// An opaque of so many bytes, in hex.
+    fn opaque(length: usize) -> String {
+        format!("{length:08x}{}{}", "5a".repeat(length), "00".repeat(length.next_multiple_of(4) - length))
+    }
+
+    #[test]
+    fn paths_about_the_bound() {
+        let mut truth = Truth::new();
+        let mut answers = |line: String| answer(&mut truth, line.as_bytes());
+        let (most, over) = (opaque(1_024), opaque(1_025));
+        assert_eq!(answers(format!("read dirpath 0 {most}")), format!("took 1028 plain {most}"));
+        assert_eq!(answers(format!("read dirpath 2 abcd{over}")), "refused 10 2");
+        assert_eq!(answers(format!("write dirpath 0 {over} 0 9")), "refused 10 0");
+        // A path that is cut comes first, and so does all that is wanting behind it.
+        assert_eq!(answers(format!("read dirpath 0 {}", &over[..over.len() - 2])), "refused 1 0 1");
+        let entry = |path: &str| format!("00000002{path}00000001{}00000000", opaque(300));
+        let long = entry(&over);
+        assert_eq!(answers(format!("read exports 0 {long}")), "refused 1 1348 4");
+        assert_eq!(answers(format!("read exports 0 {long}00000000")), "refused 10 4");
+        assert_eq!(answers(format!("read exports 0 {}{long}{long}00000000", entry(&most))), "refused 10 1348");
+        let fits = entry(&most).replacen("00000002", "00000001", 1);
+        assert_eq!(answers(format!("read exports 0 {}00000000", entry(&most))), format!("took 1348 loose {fits}00000000"));
+        // In writing the number alone, after 9, 3 and 4, and before 5.
+        assert_eq!(answers(format!("path {over} 4 1025 1 0")), "refused 10 ee");
+        assert_eq!(answers(format!("path {over} 5 1025 1 1")), "refused 10 ee");
+        assert_eq!(answers(format!("path {over} 8 1025 1 0")), "refused 4 ee");
+        assert_eq!(answers(format!("path {over} 4 1025 0 1")), "refused 9 -");
+        assert_eq!(answers(format!("path {over} 4 1024 1 0")), "refused 5 ee");
+        assert_eq!(answers(format!("list {long}00000000 0 1 1 0")), "refused 10 ee");
+        assert_eq!(answers(format!("list {long}00000000 0 2 1 0")), "refused 4 ee");
+        assert_eq!(answers(format!("list {long} 0 1 1 0")), "refused 4 ee");
+        assert_eq!(answers(format!("list {long}00000000 0 1 1 2")), "refused 9 ee");
+        assert_eq!(answers(format!("list {long}00000000 1348 0 4 0")), "wrote 4 00000000");
+        // A call.
+        let call = format!("0000002a0000000000000002000186a50000000300000001{}", "00000000".repeat(4));
+        assert_eq!(answers(format!("ask 0 0 {call}{over}")), "refused 10 40 -");
+        assert_eq!(answers(format!("ask 0 0 {call}{}", &over[..over.len() - 8])), "refused 1 40 4 -");
+        assert_eq!(answers(format!("ask 0 0 {call}{most}")), "mnt 44 1024 1068 -");
     }
 
     #[test]

@@ -23,19 +23,26 @@ pub enum Shape {
     Optional(&'static Shape),
     /// A tag, then the value of its arm.
     Union { arms: &'static [(u32, &'static Shape)], undeclared: Undeclared },
-    /// An `nfsstat3`, then the one value if it is 0, and the other if it is a failure.
-    Status { ok: &'static Shape, fail: &'static Shape },
+    /// A status out of a list, then the one value if it is 0, and the other if it is a failure.
+    Status { of: &'static [u32], ok: &'static Shape, fail: &'static Shape },
+    /// An opaque that has at most `MNTPATHLEN` bytes. A longer one is refused once the whole message is read.
+    Path,
+    /// Values, each behind a true flag, and a false flag behind the last.
+    Chain(&'static Shape),
 }
+
+/// The longest path of the mount protocol, in bytes.
+pub const MNTPATHLEN: usize = 1_024;
 
 impl Shape {
     /// Whether a message of it may have an opaque or a word list.
     pub fn has_pieces(&self) -> bool {
         match self {
-            Shape::Opaque | Shape::WordList => true,
+            Shape::Opaque | Shape::WordList | Shape::Path => true,
             Shape::Record(fields) => fields.iter().any(|field| field.has_pieces()),
-            Shape::Optional(value) => value.has_pieces(),
+            Shape::Optional(value) | Shape::Chain(value) => value.has_pieces(),
             Shape::Union { arms, .. } => arms.iter().any(|(_, arm)| arm.has_pieces()),
-            Shape::Status { ok, fail } => ok.has_pieces() || fail.has_pieces(),
+            Shape::Status { ok, fail, .. } => ok.has_pieces() || fail.has_pieces(),
             Shape::Word | Shape::Hyper | Shape::Eight | Shape::Flag | Shape::Closed(_) => false,
         }
     }
@@ -49,7 +56,7 @@ pub enum Undeclared {
     WrittenAs(&'static [u32]),
 }
 
-use Shape::{Closed, Eight, Flag, Hyper, Opaque, Optional, Record, Status, Union, Word, WordList};
+use Shape::{Chain, Closed, Eight, Flag, Hyper, Opaque, Optional, Path, Record, Status, Union, Word, WordList};
 
 const TWO: &[u32] = &[0, 1];
 /// The success comes first.
@@ -57,6 +64,8 @@ pub const NFSSTAT3: &[u32] = &[
     0, 1, 2, 5, 6, 13, 17, 18, 19, 20, 21, 22, 27, 28, 30, 31, 63, 66, 69, 70, 71, 10001, 10002, 10003, 10004, 10005, 10006,
     10007, 10008,
 ];
+/// The success comes first here too.
+pub const MOUNTSTAT3: &[u32] = &[0, 1, 2, 5, 13, 20, 22, 63, 10004, 10006];
 
 pub const NOTHING: Shape = Record(&[]);
 const AUTH_FLAVOR: Shape = Closed(&[0, 1, 2, 3]);
@@ -171,9 +180,12 @@ const SATTRGUARD3: Shape = Optional(&TWO_WORDS);
 const LOOKUP3RESOK: Shape = Record(&[&Opaque, &POST_OP_ATTR, &POST_OP_ATTR]);
 const READ3RESOK: Shape = Record(&[&POST_OP_ATTR, &Word, &Flag, &Opaque]);
 const WRITE3RESOK: Shape = Record(&[&WCC_DATA, &Word, &STABLE_HOW, &Eight]);
+const MOUNTRES3OK: Shape = Record(&[&Opaque, &WordList]);
+/// An entry of an export list behind its flag: a path, and names.
+const EXPORT: Shape = Record(&[&Path, &Chain(&Opaque)]);
 
 /// The kinds in the order of kinds.txt; a kind's number is its index.
-pub static KINDS: [(&str, Shape); 67] = [
+pub static KINDS: [(&str, Shape); 72] = [
     ("bool", Flag),
     ("i32", Word),
     ("i64", Hyper),
@@ -224,15 +236,15 @@ pub static KINDS: [(&str, Shape); 67] = [
     ("stable_how", STABLE_HOW),
     ("sattrguard3", SATTRGUARD3),
     ("getattr3args", Opaque),
-    ("getattr3res", Status { ok: &FATTR3, fail: &NOTHING }),
+    ("getattr3res", Status { of: NFSSTAT3, ok: &FATTR3, fail: &NOTHING }),
     ("setattr3args", Record(&[&Opaque, &SATTR3, &SATTRGUARD3])),
-    ("setattr3res", Status { ok: &WCC_DATA, fail: &WCC_DATA }),
+    ("setattr3res", Status { of: NFSSTAT3, ok: &WCC_DATA, fail: &WCC_DATA }),
     ("lookup3args", DIROPARGS3),
-    ("lookup3res", Status { ok: &LOOKUP3RESOK, fail: &POST_OP_ATTR }),
+    ("lookup3res", Status { of: NFSSTAT3, ok: &LOOKUP3RESOK, fail: &POST_OP_ATTR }),
     ("read3args", Record(&[&Opaque, &Hyper, &Word])),
-    ("read3res", Status { ok: &READ3RESOK, fail: &POST_OP_ATTR }),
+    ("read3res", Status { of: NFSSTAT3, ok: &READ3RESOK, fail: &POST_OP_ATTR }),
     ("write3args", Record(&[&Opaque, &Hyper, &Word, &STABLE_HOW, &Opaque])),
-    ("write3res", Status { ok: &WRITE3RESOK, fail: &WCC_DATA }),
+    ("write3res", Status { of: NFSSTAT3, ok: &WRITE3RESOK, fail: &WCC_DATA }),
     ("current_accept_stat", Current::ACCEPT_STAT),
     ("current_auth_stat", Current::AUTH_STAT),
     ("current_accept_body", Current::ACCEPT_BODY),
@@ -241,10 +253,16 @@ pub static KINDS: [(&str, Shape); 67] = [
     ("current_reply_body", Current::REPLY_BODY),
     ("current_rpc_body", Current::RPC_BODY),
     ("current_rpc_msg", Current::RPC_MSG),
+    ("dirpath", Path),
+    ("mountstat3", Closed(MOUNTSTAT3)),
+    ("mountres3", Status { of: MOUNTSTAT3, ok: &MOUNTRES3OK, fail: &NOTHING }),
+    ("exports", Chain(&EXPORT)),
+    ("mapping", Record(&[&Word, &Word, &Word, &Word])),
 ];
 
-/// The kinds that nfsserve has no type for. The RFCs decide what they are, and the model is their only judge.
-pub const LACKED: [&str; 20] = [
+/// The kinds that are not in nfsserve's list. The RFCs decide what they are. The model is the only judge of all but those of
+/// `MOUNTING`.
+pub const LACKED: [&str; 25] = [
     "stable_how",
     "sattrguard3",
     "getattr3args",
@@ -265,7 +283,15 @@ pub const LACKED: [&str; 20] = [
     "current_reply_body",
     "current_rpc_body",
     "current_rpc_msg",
+    "dirpath",
+    "mountstat3",
+    "mountres3",
+    "exports",
+    "mapping",
 ];
+
+/// The kinds of the mount protocol and of the port mapper. nfsserve has every item of them, which can be asked one by one.
+pub const MOUNTING: [&str; 5] = ["dirpath", "mountstat3", "mountres3", "exports", "mapping"];
 
 /// The number of a kind.
 pub fn kind(name: &str) -> Option<usize> {

@@ -9,6 +9,8 @@ pub struct Judged {
     pub by_crate: u64,
     /// The crate was not asked, because it would have allocated too much: refusal 1 was due.
     pub unasked: u64,
+    /// The crate lacks the kind, but has its items, and judged each of them.
+    pub by_items: u64,
     /// The crate lacks the kind, or the reading: the model alone judged.
     pub by_model: u64,
 }
@@ -26,6 +28,9 @@ pub struct Tally {
     /// Streams that were fed in two cuttings, and how many of them stopped.
     streams: u64,
     stopped: u64,
+    /// Export lists that were compared: those that are the same, and the others.
+    same: u64,
+    other: u64,
 }
 
 impl Tally {
@@ -49,6 +54,11 @@ impl Tally {
         self.streams += 1;
         self.stopped += u64::from(is_stopped);
     }
+
+    /// Two export lists were compared.
+    pub fn compared(&mut self, is_same: bool) {
+        *(if is_same { &mut self.same } else { &mut self.other }) += 1;
+    }
 }
 
 impl AddAssign for Tally {
@@ -60,11 +70,14 @@ impl AddAssign for Tally {
         self.loose += other.loose;
         self.judged.by_crate += other.judged.by_crate;
         self.judged.unasked += other.judged.unasked;
+        self.judged.by_items += other.judged.by_items;
         self.judged.by_model += other.judged.by_model;
         self.cut.extend(other.cut);
         self.held += other.held;
         self.streams += other.streams;
         self.stopped += other.stopped;
+        self.same += other.same;
+        self.other += other.other;
     }
 }
 
@@ -80,10 +93,12 @@ impl Display for Tally {
             write!(f, " {answer}: {count}")?;
         }
         write!(f, "\ntaken: plain {}, loose {}", self.plain, self.loose)?;
-        let Judged { by_crate, unasked, by_model } = self.judged;
+        let Judged { by_crate, unasked, by_items, by_model } = self.judged;
         write!(f, "\nread: by the crate {by_crate}; the crate not asked, for a large claim: {unasked}")?;
+        write!(f, "; of kinds that it lacks, item by item: {by_items}")?;
         write!(f, "; of kinds or a reading that it lacks, by the model alone: {by_model}")?;
         write!(f, "\ncut at every byte: {} sorts of message; counts that held: {}", self.cut.len(), self.held)?;
-        write!(f, "\nfed in two cuttings: {} streams, {} of which stop", self.streams, self.stopped)
+        write!(f, "\nfed in two cuttings: {} streams, {} of which stop", self.streams, self.stopped)?;
+        write!(f, "\nexport lists compared: {} that are the same, {} that are not", self.same, self.other)
     }
 }

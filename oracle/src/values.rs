@@ -53,6 +53,34 @@ impl Value {
     }
 }
 
+/// What is read of an export list: all of it, the entry at a place, or the name at a place of an entry's groups.
+#[derive(Clone, Copy, Debug, PartialEq, Eq)]
+pub enum Walk {
+    Exports,
+    Export,
+    Group,
+}
+
+impl Walk {
+    /// The reader's name in include/yugerzat.h, without what all begin with.
+    pub fn reader(self) -> &'static str {
+        match self {
+            Walk::Exports => "read_exports",
+            Walk::Export => "next_export",
+            Walk::Group => "next_group",
+        }
+    }
+
+    /// How many figures its reader has.
+    pub fn figures(self) -> usize {
+        match self {
+            Walk::Exports => 4,
+            Walk::Export => 7,
+            Walk::Group => 5,
+        }
+    }
+}
+
 /// What is written by its fields. An `rpc_msg` has two writers: a call is the same in both readings.
 #[derive(Clone, Copy, Debug, PartialEq, Eq)]
 pub enum Writer {

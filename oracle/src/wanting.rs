@@ -1,5 +1,6 @@
 //! What the count of refusal 1 promises: exactly so many more bytes finish the item, or its length word where that was
 //! cut, and fewer never do. No model is needed to see that: all cuts of one message tell.
+use crate::answers::LAST_REFUSAL;
 
 /// What a reader told of one cut: its answer and its first two figures.
 #[derive(Clone, Copy, Debug, Default, PartialEq, Eq)]
@@ -19,7 +20,7 @@ fn wrong(at: usize, said: &[Said], length: usize) -> Option<String> {
     let whole = said.len() - 1;
     let Said { answer, place, wanting } = said[length];
     if length == whole {
-        return (1..=9).contains(&answer).then(|| format!("a whole message gets {answer}"));
+        return (1..=LAST_REFUSAL).contains(&answer).then(|| format!("a whole message gets {answer}"));
     }
     let end = |length: usize| (at + length) as u64;
     if answer != 1 || !(at as u64..=end(length)).contains(&place) {

@@ -18,7 +18,7 @@ pub enum Reading {
 }
 
 /// `value` is what an unread message of the kind is: the crate reads into it.
-fn read_into<T: XDR>(mut value: T, source: &[u8], rewriting: &mut Vec<u8>) -> Reading {
+pub(crate) fn read_into<T: XDR>(mut value: T, source: &[u8], rewriting: &mut Vec<u8>) -> Reading {
     let mut rest = source;
     rewriting.clear();
     match value.deserialize(&mut rest) {

@@ -8,7 +8,7 @@ use std::time::Duration;
 use tokio::runtime::Runtime;
 
 use crate::reading::{refusal, Reading};
-use crate::spies::{taken, HandOver};
+use crate::spies::{taken, HandOver, Handler};
 use crate::transaction_tracker::TransactionTracker;
 
 /// What `handle_rpc` did with a message.
@@ -21,6 +21,15 @@ pub enum Choice {
     Refused(Reading),
     /// An error that is not one of reading: a REPLY came.
     NotACall,
+}
+
+/// What one of the crate's own handlers did with a call.
+#[derive(Debug, PartialEq, Eq)]
+pub enum Handled {
+    /// It wrote these bytes, and left so many of the arguments.
+    Wrote(Vec<u8>, usize),
+    /// Refusal 1 or 2 of the arguments.
+    Refused(Reading),
 }
 
 /// What `read_fragment` made of a stream.
@@ -81,6 +90,35 @@ impl Wire {
             (Err(error), _) => match error.downcast_ref::<std::io::Error>() {
                 Some(error) => Choice::Refused(refusal(error.kind())),
                 None => Choice::NotACall,
+            },
+        }
+    }
+
+    /// `handle_portmap` or `handle_mount` on a call with these arguments, where `export` is the name of what is exported. (No
+    /// file system is there: a path that begins with this name must not be mounted.)
+    pub fn handled(&self, handler: Handler, call: [u32; 3], arguments: &[u8], export: &str) -> Handled {
+        let [xid, vers, proc] = call;
+        let call = call_body { rpcvers: 2, vers, proc, ..call_body::default() };
+        let context = RPCContext { export_name: Arc::new(export.to_owned()), ..self.context.clone() };
+        let (mut input, mut output) = (arguments, Vec::new());
+        let answer = match handler {
+            Handler::Nfs => panic!("the handler of NFS is not asked"),
+            Handler::Portmap => {
+                crate::own_portmap_handlers::handle_portmap(xid, call, &mut input, &mut output, &context)
+            },
+            Handler::Mount => self.runtime.block_on(crate::own_mount_handlers::handle_mount(
+                xid,
+                call,
+                &mut input,
+                &mut output,
+                &context,
+            )),
+        };
+        match answer {
+            Ok(()) => Handled::Wrote(output, input.len()),
+            Err(error) => {
+                let error = error.downcast_ref::<std::io::Error>().expect("a handler fails only where it reads");
+                Handled::Refused(refusal(error.kind()))
             },
         }
     }

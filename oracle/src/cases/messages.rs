@@ -1,7 +1,7 @@
 //! Messages made by the shape of their kind, so that most of what both sides are asked has meaning.
-use super::numbers::{count, length, telling, word, SERVED, UNSERVED};
+use super::numbers::{count, length, path_length, telling, true_flag, word, SERVED, UNSERVED};
 use crate::random::Random;
-use crate::shapes::{Reading, Shape, Undeclared, AUTH_UNIX, NFSSTAT3};
+use crate::shapes::{Reading, Shape, Undeclared, AUTH_UNIX};
 
 /// How tidy a message is.
 #[derive(Clone, Copy, Debug, PartialEq, Eq)]
@@ -47,10 +47,19 @@ pub fn append_message(random: &mut Random, shape: &Shape, style: Style, bytes: &
         },
         Shape::Opaque => {
             let length = length(random);
-            words.push(Word::Length(bytes.len()));
-            put(bytes, length as u32);
-            random.append(length, bytes);
-            pad(random, style, length, bytes);
+            opaque(random, length, style, bytes, words);
+        },
+        Shape::Path => {
+            let length = path_length(random);
+            opaque(random, length, style, bytes, words);
+        },
+        Shape::Chain(value) => {
+            while random.once_in(2) {
+                link(random, style, bytes, words);
+                append_message(random, value, style, bytes, words);
+            }
+            words.push(Word::Number(bytes.len()));
+            put(bytes, 0);
         },
         Shape::WordList => {
             let count = count(random);
@@ -79,10 +88,10 @@ pub fn append_message(random: &mut Random, shape: &Shape, style: Style, bytes: &
             put(bytes, tag);
             append_message(random, arm, style, bytes, words);
         },
-        Shape::Status { ok, fail } => {
+        Shape::Status { of, ok, fail } => {
             words.push(Word::Number(bytes.len()));
             // Half are successes: they have the most to tell.
-            let status = if random.once_in(2) { 0 } else { random.pick(&NFSSTAT3[1..]) };
+            let status = if random.once_in(2) { 0 } else { random.pick(&of[1..]) };
             put(bytes, status);
             append_message(random, if status == 0 { ok } else { fail }, style, bytes, words);
         },
@@ -131,14 +140,28 @@ pub fn append_call(random: &mut Random, reading: Reading, bytes: &mut Vec<u8>, w
     let xid = random.word();
     let version = if random.once_in(6) { word(random) } else { 2 };
     let program = if random.once_in(4) { random.pick(UNSERVED) } else { random.pick(SERVED) };
-    for number in [xid, 0, version, program, word(random), random.below(22) as u32] {
-        put(bytes, number);
-    }
+    let numbers = [xid, 0, version, program, word(random), random.below(22) as u32];
+    append_header(random, numbers, bytes, words);
+    let arguments = random.below(30);
+    random.append(arguments, bytes);
+}
+
+/// A call up to its arguments: these words, a credential and a verifier.
+pub fn append_header(random: &mut Random, numbers: [u32; 6], bytes: &mut Vec<u8>, words: &mut Vec<Word>) {
+    numbers.iter().for_each(|number| put(bytes, *number));
     credential(random, bytes, words);
     let flavor = random.below(4) as u32;
     verifier(random, flavor, bytes, words);
-    let arguments = random.below(30);
-    random.append(arguments, bytes);
+}
+
+/// A call of that procedure without a credential, and its arguments.
+pub fn bare_call(program: u32, version: u32, procedure: u32, arguments: &[u8]) -> Vec<u8> {
+    let mut bytes = Vec::new();
+    for number in [42, 0, 2, program, version, procedure, 0, 0, 0, 0] {
+        put(&mut bytes, number);
+    }
+    bytes.extend_from_slice(arguments);
+    bytes
 }
 
 fn credential(random: &mut Random, bytes: &mut Vec<u8>, words: &mut Vec<Word>) {
@@ -185,6 +208,28 @@ fn flag(random: &mut Random, style: Style, bytes: &mut Vec<u8>, words: &mut Vec<
     };
     put(bytes, number);
     number != 0
+}
+
+/// The true flag before a value of a list.
+pub fn link(random: &mut Random, style: Style, bytes: &mut Vec<u8>, words: &mut Vec<Word>) {
+    words.push(Word::Number(bytes.len()));
+    let number = if style.strays(random) { true_flag(random) } else { 1 };
+    put(bytes, number);
+}
+
+fn opaque(random: &mut Random, length: usize, style: Style, bytes: &mut Vec<u8>, words: &mut Vec<Word>) {
+    words.push(Word::Length(bytes.len()));
+    put(bytes, length as u32);
+    random.append(length, bytes);
+    pad(random, style, length, bytes);
+}
+
+/// An opaque of that content.
+pub fn append_opaque(random: &mut Random, content: &[u8], style: Style, bytes: &mut Vec<u8>, words: &mut Vec<Word>) {
+    words.push(Word::Length(bytes.len()));
+    put(bytes, content.len() as u32);
+    bytes.extend_from_slice(content);
+    pad(random, style, content.len(), bytes);
 }
 
 fn pad(random: &mut Random, style: Style, length: usize, bytes: &mut Vec<u8>) {

@@ -1,23 +1,24 @@
 //! The cases: what both sides are asked.
 mod damage;
 mod messages;
+mod mounting;
 mod numbers;
 mod replies;
 mod streams;
 mod values;
 
 pub use damage::damage;
-pub use messages::{append_call, append_message, call_with, with_pieces, Style, BODY};
+pub use messages::{append_call, append_message, bare_call, call_with, with_pieces, Style, BODY};
 pub use replies::{ACCEPTED, ACCEPT_STATS, AUTH_STATS, DENIED};
 pub use streams::{cuts, cutting, run_lengths, state, stream};
 
 use damage::beside;
 use messages::Word;
 
-use crate::answers::{State, BOUND};
+use crate::answers::{Piece, State, BOUND};
 use crate::random::Random;
-use crate::shapes::{kind, Reading, AUTH_UNIX, KINDS};
-use crate::values::{Value, Writer};
+use crate::shapes::{kind, Reading, Shape, AUTH_UNIX, KINDS};
+use crate::values::{Value, Walk, Writer};
 
 /// A question, and what is lent with it.
 #[derive(Clone, Debug)]
@@ -35,6 +36,11 @@ pub enum Question {
     Write { writer: Writer, sources: Sources, fields: Vec<u64>, room: usize, start: usize },
     Part { message: Vec<u8>, at: usize, count: usize },
     Choose { reading: Reading, seen: bool, room: usize, message: Vec<u8> },
+    Ask { seen: bool, room: usize, message: Vec<u8> },
+    Walk { walk: Walk, at: usize, message: Vec<u8> },
+    Path { source: Vec<u8>, path: Piece, room: usize, start: usize },
+    List { source: Vec<u8>, list: Piece, room: usize, start: usize },
+    Same { sources: Sources, lists: [Piece; 2] },
     Feed { capacity: usize, runs: Vec<Vec<u8>> },
     Stream { capacity: usize, stream: Vec<u8>, cuttings: [Vec<usize>; 2] },
     State { state: State, length: usize, run: Vec<u8> },
@@ -42,7 +48,7 @@ pub enum Question {
     Cuts { cut: Cut, message: Vec<u8> },
 }
 
-/// What the pieces of a writer are of. A writer without pieces is lent none of it.
+/// What the pieces of a writer are of, or two lists that are compared. A writer without pieces is lent none of it.
 #[derive(Clone, Debug)]
 pub enum Sources {
     /// One buffer, lent once or twice.
@@ -70,6 +76,10 @@ pub enum Cut {
     Credential(Reading),
     /// The same, where the call ends early.
     Call(Reading),
+    /// A path, in a call of MNT that ends early.
+    Mnt,
+    /// A mapping, in a call of GETPORT that ends early.
+    Getport,
 }
 
 impl Cut {
@@ -81,6 +91,18 @@ impl Cut {
             Cut::Credential(Reading::Current) => "current credential",
             Cut::Call(Reading::Crate) => "call",
             Cut::Call(Reading::Current) => "current call",
+            Cut::Mnt => "MNT",
+            Cut::Getport => "GETPORT",
+        }
+    }
+
+    /// The shape of the message that is cut.
+    fn shape(self) -> &'static Shape {
+        match self {
+            Cut::Kind { kind, .. } => &KINDS[kind].1,
+            Cut::Body | Cut::Credential(_) | Cut::Call(_) => &AUTH_UNIX,
+            Cut::Mnt => &KINDS[kind("dirpath").expect("the kind is known")].1,
+            Cut::Getport => &KINDS[kind("mapping").expect("the kind is known")].1,
         }
     }
 }
@@ -161,8 +183,8 @@ pub fn case(seed: u64, number: u64) -> Case {
     Case { question, lending: Lending::any(random) }
 }
 
-/// A whole message. All kinds take turns, and then what is read of a credential; every other round they are plain and have
-/// pieces, if they may have any.
+/// A whole message. All kinds take turns, then what is read of a credential, and then two calls with arguments; every other
+/// round they are plain and have pieces, if they may have any.
 fn cut_everywhere(random: &mut Random, turn: usize) -> Question {
     const LONGEST: usize = 300;
     let others = [
@@ -171,13 +193,15 @@ fn cut_everywhere(random: &mut Random, turn: usize) -> Question {
         Cut::Call(Reading::Crate),
         Cut::Credential(Reading::Current),
         Cut::Call(Reading::Current),
+        Cut::Mnt,
+        Cut::Getport,
     ];
     let turns = KINDS.len() + others.len();
     let cut = match turn % turns {
         kind if kind < KINDS.len() => Cut::Kind { kind, at: random.below(9) },
         other => others[other - KINDS.len()],
     };
-    let shape = if let Cut::Kind { kind, .. } = cut { &KINDS[kind].1 } else { &AUTH_UNIX };
+    let shape = cut.shape();
     if turn / turns % 2 == 0 {
         return Question::Cuts { cut, message: with_pieces(random, shape, Style::Plain, LONGEST) };
     }
@@ -194,7 +218,12 @@ fn cut_everywhere(random: &mut Random, turn: usize) -> Question {
 /// A message cut to that length, or with so many bytes behind it that it has that length.
 fn cut(random: &mut Random, length: usize) -> Case {
     let (mut bytes, mut words) = (Vec::new(), Vec::new());
-    let question = match random.below(8) {
+    let question = match random.below(9) {
+        8 => {
+            mounting::append_mount_call(random, &mut bytes, &mut words);
+            bytes.resize(length, 0);
+            Question::Ask { seen: random.once_in(12), room: 32, message: bytes }
+        },
         0 | 1 => {
             let reading = reading(random);
             append_call(random, reading, &mut bytes, &mut words);
@@ -230,7 +259,13 @@ fn reading(random: &mut Random) -> Reading {
 }
 
 fn any(random: &mut Random) -> Question {
-    match random.below(100) {
+    match random.below(126) {
+        100..=105 => mounting::read(random),
+        106..=114 => mounting::ask(random),
+        115..=117 => mounting::walk(random),
+        118..=119 => mounting::path(random),
+        120..=122 => mounting::list(random),
+        123..=125 => mounting::same(random),
         0..=39 => read(random),
         40..=44 => replies::reply(random),
         45..=57 => values::value(random),

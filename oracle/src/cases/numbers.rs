@@ -49,3 +49,23 @@ pub fn count(random: &mut Random) -> usize {
         _ => random.below(150),
     }
 }
+
+/// Flags that are true, though not 1.
+pub fn true_flag(random: &mut Random) -> u32 {
+    let some = random.word().max(1);
+    random.pick(&[2, 3, 0x100, 0x0100_0000, 0x7FFF_FFFF, 0x8000_0000, 0xFFFF_FFFF, some])
+}
+
+/// A length of a path: one in ten is about the bound.
+pub fn path_length(random: &mut Random) -> usize {
+    if random.once_in(10) {
+        about_the_bound(random)
+    } else {
+        length(random)
+    }
+}
+
+/// Lengths of paths that are just within the bound, and just over it.
+pub fn about_the_bound(random: &mut Random) -> usize {
+    random.pick(&[1_020, 1_023, 1_024, 1_024, 1_025, 1_025, 1_026, 1_028, 1_100, 2_049])
+}

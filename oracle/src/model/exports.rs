@@ -1,11 +1,11 @@
 //! The model in the library's place: the functions of include/yugerzat.h, with slices for addresses and lengths.
 use super::{Fault, Model};
 use crate::answers::{
-    Choice, Fed, Refusal, State, Told, Unwritten, Wrote, CHOOSE_FIGURES, FEED_FIGURES, PART_FIGURES, READ_FIGURES, REPLY,
-    SHORT_LIST, STATE_FIGURES, WRITE_FIGURES,
+    Choice, Fed, Piece, Refusal, State, Told, Unwritten, Wrote, ASK_FIGURES, CHOOSE_FIGURES, FEED_FIGURES, LAST_REFUSAL,
+    LONG_PATH, PART_FIGURES, READ_FIGURES, REPLY, SAME_FIGURES, SHORT_LIST, STATE_FIGURES, WIDE_NUMBER, WRITE_FIGURES,
 };
 use crate::shapes::{Reading, KINDS};
-use crate::values::{Value, Writer};
+use crate::values::{Value, Walk, Writer};
 
 impl Model {
     pub fn exported_rewrite(self, kind: u32, message: &[u8], at: usize, out: &mut [u8], info: &mut [u64]) -> u32 {
@@ -95,7 +95,7 @@ impl Model {
         }
         let written = self.written(writer, sources, fields);
         let mut wrote = match written {
-            Err(number) if number > 9 => Err(Unwritten::plain(number)),
+            Err(WIDE_NUMBER) => Err(Unwritten::plain(WIDE_NUMBER)),
             _ if start > out.len() => Err(Unwritten::plain(9)),
             Err(_) if self.has(Fault::RoomBeforePiece) && out.len() - start < 8 => Err(Unwritten::no_room(8)),
             Err(number) => Err(Unwritten::plain(number)),
@@ -173,6 +173,57 @@ impl Model {
         self.tell(told, info)
     }
 
+    pub fn exported_ask(self, message: &[u8], seen: u32, out: &mut [u8], info: &mut [u64]) -> u32 {
+        if info.len() < ASK_FIGURES {
+            return self.short_list(info);
+        }
+        let seen = if self.has(Fault::SeenIfOne) { seen == 1 } else { seen != 0 };
+        let mut told = Told::asked(&self.ask(message, seen, out));
+        if self.has(Fault::AskTellsNeeded) && told.answer == 5 {
+            told.figures[0] = REPLY as u64;
+        }
+        self.tell(told, info)
+    }
+
+    pub fn exported_walk(self, walk: Walk, message: &[u8], at: usize, info: &mut [u64]) -> u32 {
+        if info.len() < walk.figures() {
+            return self.short_list(info);
+        }
+        let answer = self.walk(walk, message, at);
+        self.tell(answer.map_or_else(|refusal| Told::refused(&refusal, walk.figures()), Told::done), info)
+    }
+
+    pub fn exported_write_path(self, source: &[u8], path: Piece, out: &mut [u8], start: usize, info: &mut [u64]) -> u32 {
+        self.exported_mount_writer(self.written_path(source, path), out, start, info)
+    }
+
+    pub fn exported_write_list(self, source: &[u8], list: Piece, out: &mut [u8], start: usize, info: &mut [u64]) -> u32 {
+        self.exported_mount_writer(self.written_list(source, list), out, start, info)
+    }
+
+    fn exported_mount_writer(self, written: Result<Vec<u8>, u32>, out: &mut [u8], start: usize, info: &mut [u64]) -> u32 {
+        if info.len() < WRITE_FIGURES {
+            return self.short_list(info);
+        }
+        let mut wrote = match written {
+            _ if start > out.len() => Err(Unwritten::plain(9)),
+            Err(LONG_PATH) if self.has(Fault::LongAfterRoom) && out.len() - start < 1_024 => Err(Unwritten::no_room(1_024)),
+            Err(number) => Err(Unwritten::plain(number)),
+            Ok(bytes) => self.put(&bytes, out, start),
+        };
+        if let Err(Unwritten { number: 5, needed }) = &mut wrote {
+            *needed -= usize::from(self.has(Fault::WriterNeedsLess));
+        }
+        self.tell_wrote(&wrote, info)
+    }
+
+    pub fn exported_same(self, sources: [&[u8]; 2], lists: [Piece; 2], info: &mut [u64]) -> u32 {
+        if info.len() < SAME_FIGURES {
+            return self.short_list(info);
+        }
+        self.tell(Told::same(self.same(sources, lists)), info)
+    }
+
     fn short_list(self, info: &mut [u64]) -> u32 {
         if let (true, Some(first)) = (self.has(Fault::ShortTouched), info.first_mut()) {
             *first = 0;
@@ -190,14 +241,14 @@ impl Model {
 
     /// Puts the figures at the front of the list.
     fn tell(self, mut told: Told, info: &mut [u64]) -> u32 {
-        if (1..=9).contains(&told.answer) && told.figures.len() > 2 {
+        if (1..=LAST_REFUSAL).contains(&told.answer) && told.figures.len() > 2 {
             if self.has(Fault::RefusedPlain) {
                 told.figures[1] = 1;
             }
             if self.has(Fault::RefusedKept) {
                 told.figures.truncate(1);
             }
-            if self.has(Fault::PlaceAlways) && told.answer > 2 {
+            if self.has(Fault::PlaceAlways) && (3..LONG_PATH).contains(&told.answer) {
                 told.figures[0] = u64::from(told.answer);
             }
             if let (true, Some(last)) = (self.has(Fault::RefusedLast), told.figures.last_mut()) {

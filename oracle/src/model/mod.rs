@@ -8,6 +8,7 @@ mod choice;
 #[cfg(feature = "model")]
 mod exports;
 mod fault;
+mod mounting;
 mod reading;
 mod stream;
 mod values;

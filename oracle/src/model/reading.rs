@@ -1,7 +1,7 @@
 //! Reading a message of any kind, and writing it again.
 use super::{word_at, Fault, Model};
 use crate::answers::{Refusal, Took, BOUND};
-use crate::shapes::{Reading, Shape, Undeclared, KINDS, NFSSTAT3, NOTHING, TWO_WORDS};
+use crate::shapes::{Reading, Shape, Undeclared, KINDS, MNTPATHLEN, MOUNTSTAT3, NFSSTAT3, NOTHING, TWO_WORDS};
 
 /// How a reading went, and what lengths and counts the message claimed on the way.
 #[derive(Clone, Copy, Debug)]
@@ -23,6 +23,11 @@ impl Read {
 impl Model {
     /// Reads a message of the kind at a place. Its rewriting is put into `rewriting`.
     pub fn read(self, kind: usize, source: &[u8], at: usize, rewriting: &mut Vec<u8>) -> Read {
+        self.read_whole(&KINDS[kind].1, source, at, rewriting)
+    }
+
+    /// Reads a message of the shape at a place of a source that is not yet known to be short enough.
+    pub(super) fn read_whole(self, shape: &Shape, source: &[u8], at: usize, rewriting: &mut Vec<u8>) -> Read {
         rewriting.clear();
         let bound = if self.has(Fault::BoundOffByOne) { BOUND - 1 } else { BOUND };
         if source.len() > bound {
@@ -31,13 +36,17 @@ impl Model {
         if at > source.len() {
             return Read::refused(9);
         }
-        self.read_shape(&KINDS[kind].1, source, at, rewriting)
+        self.read_shape(shape, source, at, rewriting)
     }
 
     /// The same without refusals 3 and 9. The end of `source` is the end of the message.
     pub(super) fn read_shape(self, shape: &Shape, source: &[u8], at: usize, rewriting: &mut Vec<u8>) -> Read {
-        let mut reader = Reader { model: self, source, at, plain: true, claim: 0, pad: 0, rewriting };
-        let answer = reader.shape(shape);
+        let mut reader = Reader { model: self, source, at, plain: true, claim: 0, pad: 0, long: None, rewriting };
+        let mut answer = reader.shape(shape);
+        // A path over the bound comes after all other faults of the message.
+        if let (Ok(()), Some(place)) = (answer, reader.long) {
+            answer = Err(Refusal::long_path(place));
+        }
         let took = Took { next: reader.at, plain: reader.plain, length: reader.rewriting.len() };
         Read { answer: answer.map(|()| took), claim: reader.claim, pad: reader.pad }
     }
@@ -50,6 +59,8 @@ struct Reader<'a> {
     plain: bool,
     claim: u32,
     pad: usize,
+    /// Where the length word of the first path over the bound stands.
+    long: Option<usize>,
     rewriting: &'a mut Vec<u8>,
 }
 
@@ -74,7 +85,9 @@ impl Reader<'_> {
                 Ok(())
             },
             Shape::Union { arms, undeclared } => self.union(arms, undeclared),
-            Shape::Status { ok, fail } => self.result(ok, fail),
+            Shape::Status { of, ok, fail } => self.result(of, ok, fail),
+            Shape::Path => self.path(),
+            Shape::Chain(value) => self.chain(value),
         }
     }
 
@@ -223,6 +236,7 @@ impl Reader<'_> {
         let (older, current) = (Reading::Crate.auth_stats(), Reading::Current.auth_stats());
         match number {
             29 if has(Fault::EnumerationGap, NFSSTAT3) => true,
+            _ if has(Fault::MountstatOfNfs, MOUNTSTAT3) => NFSSTAT3.contains(&number),
             3 if self.has_inside(Fault::StableThree) && declared == [0, 1, 2] => true,
             5 if has(Fault::AcceptStatFour, Reading::Current.accept_stats()) => false,
             15 if has(Fault::AuthFifteen, current) => true,
@@ -267,14 +281,14 @@ impl Reader<'_> {
     }
 
     /// The results of a call: a status that is declared, and what it announces.
-    fn result(&mut self, ok: &Shape, fail: &Shape) -> Result<(), Refusal> {
+    fn result(&mut self, declared: &[u32], ok: &Shape, fail: &Shape) -> Result<(), Refusal> {
         let model = self.model;
         let status = self.peek()?;
         if model.has(Fault::StatusOpen) {
             self.bytes(4)?;
         } else {
             let off = if model.has(Fault::StatusPlace) { 4 } else { 0 };
-            self.closed(NFSSTAT3).map_err(|refusal| Refusal { place: refusal.place + off, ..refusal })?;
+            self.closed(declared).map_err(|refusal| Refusal { place: refusal.place + off, ..refusal })?;
         }
         if status == 0 || model.has(Fault::FailureAsSuccess) {
             self.shape(ok)
@@ -283,5 +297,62 @@ impl Reader<'_> {
         } else {
             self.shape(fail)
         }
+    }
+
+    /// A path. One over the bound is read whole, as everything behind it is.
+    fn path(&mut self) -> Result<(), Refusal> {
+        let first = self.at;
+        let bound = match () {
+            () if self.model.has(Fault::PathOneMore) => MNTPATHLEN + 1,
+            () if self.model.has(Fault::PathOneLess) => MNTPATHLEN - 1,
+            () => MNTPATHLEN,
+        };
+        // Where it is cut, a planted fault looks at its length all the same.
+        if self.model.has(Fault::LongAtOnce) && self.length()? as usize > bound {
+            return Err(Refusal::long_path(first));
+        }
+        self.opaque()?;
+        if word_at(self.source, first) as usize > bound {
+            self.find_long(first);
+        }
+        Ok(())
+    }
+
+    fn find_long(&mut self, length_word: usize) {
+        let place = match () {
+            () if self.model.has(Fault::LongPlaceContent) => length_word + 4,
+            () if self.model.has(Fault::LongPlaceFlag) => length_word.saturating_sub(4),
+            () => length_word,
+        };
+        if self.long.is_none() || self.model.has(Fault::LastLong) {
+            self.long = Some(place);
+        }
+    }
+
+    /// Values behind true flags: a loop, so that a long list needs no stack.
+    fn chain(&mut self, value: &Shape) -> Result<(), Refusal> {
+        while self.flag(self.model.has(Fault::ChainFlagOne))? {
+            match value {
+                Shape::Opaque => self.name()?,
+                _ => self.shape(value)?,
+            }
+        }
+        Ok(())
+    }
+
+    /// A name in a list of names: an opaque. All else here is planted.
+    fn name(&mut self) -> Result<(), Refusal> {
+        let first = self.at;
+        self.opaque()?;
+        let length = word_at(self.source, first) as usize;
+        if self.model.has(Fault::NameBounded) && length > 255 {
+            self.find_long(first);
+        }
+        if self.model.has(Fault::NamePadKept) {
+            let pad = length.next_multiple_of(4) - length;
+            let end = self.rewriting.len();
+            self.rewriting[end - pad..].copy_from_slice(&self.source[self.at - pad..self.at]);
+        }
+        Ok(())
     }
 }

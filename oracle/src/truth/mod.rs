@@ -1,13 +1,14 @@
 //! What the answers must be. The crate is asked wherever it can tell; the rules of docs/SCOPE.md (the bound, places past
 //! the end, room) stand in front of it; and the model fills in what the crate has no word for: the places of refusals and
 //! of pieces, how many bytes are wanting, kinds that it lacks, and the current reading.
+mod mounting;
 mod values;
 
 use nfsserve::{Handler, Records, Wire};
 
 use crate::answers::{Choice, Refusal, Took, Unwritten, Wrote, BOUND, REPLY};
 use crate::model::Model;
-use crate::shapes::{kind, Reading, KINDS, LACKED};
+use crate::shapes::{kind, Reading, KINDS, LACKED, MOUNTING};
 use crate::tally::Judged;
 use crate::yielded::Yielded;
 
@@ -50,15 +51,18 @@ impl Truth {
         if let Err(Refusal { number: 3 | 9, .. }) = model.answer {
             return model.answer;
         }
-        let Some(number) = self.in_crate[kind] else {
+        let number = self.in_crate[kind];
+        let is_mounting = MOUNTING.contains(&KINDS[kind].0);
+        if number.is_none() && !is_mounting {
             self.judged.by_model += 1;
             std::mem::swap(&mut self.rewriting, &mut self.from_model);
             return model.answer.map(|took| self.took(source, at, took.next));
-        };
+        }
         if too_large(model.claim, source) {
             self.judged.unasked += 1;
             return Err(placed(nfsserve::Reading::Short, model.answer.err()));
         }
+        let Some(number) = number else { return self.read_by_items(kind, source, at, model.answer) };
         self.judged.by_crate += 1;
         match nfsserve::read(number, &source[at..], &mut self.rewriting) {
             nfsserve::Reading::Took(used) => Ok(self.took(source, at, at + used)),
@@ -163,6 +167,7 @@ fn in_crate() -> Vec<Option<usize>> {
     let had = names().filter(|name| !LACKED.contains(name));
     assert!(had.eq(nfsserve::KINDS.iter().copied()), "the crate has the kinds that it does not lack, in the same order");
     assert!(LACKED.iter().all(|name| kind(name).is_some()), "what the crate lacks are kinds");
+    assert!(MOUNTING.iter().all(|name| LACKED.contains(name)), "what is asked item by item is not in its list");
     names().map(|name| nfsserve::KINDS.iter().position(|had| *had == name)).collect()
 }
 
