@@ -94,7 +94,7 @@
 #endif
 
 /* made by tools/generate: version */
-#define YUGERZAT_VERSION "0.4.1"
+#define YUGERZAT_VERSION "0.5.0"
 /* end of version */
 
 /* The compiler warns where an answer is not looked at. */
