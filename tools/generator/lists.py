@@ -399,7 +399,7 @@ def sampled(name, by_zero):
 
 def worked_kinds(facts, order, by_zero):
     path = "crates/worked/specs/EveryKind.antt"
-    unfoldable = {name.name: name for fact in facts for name in fact.unfoldable}
+    unfoldable = {name.name: name for fact in facts for name in fact.unfoldable if name.name not in UNFOLDED}
     entries = [f"({sampled(fact.kind.name, by_zero)} _ refl refl refl, " for fact in facts]
     return [
         (path, "meanings", lines(*(f"use {use}" for use in uses(unfoldable.values(), order)))),

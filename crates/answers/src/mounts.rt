@@ -24,12 +24,16 @@ fn path_words(out: &mut [u8], at: Out, path: Piece, next: usize) -> Out {
     print::number(out, n, next)
 }
 
-fn mapping_words(out: &mut [u8], at: Out, m: mapping, next: usize) -> Out {
-    let n = say(out, at, b"getport");
-    let n = print::number(out, n, m.prog as usize);
+fn mapping_words(out: &mut [u8], at: Out, m: mapping) -> Out {
+    let n = print::number(out, at, m.prog as usize);
     let n = print::number(out, n, m.vers as usize);
     let n = print::number(out, n, m.prot as usize);
-    let n = print::number(out, n, m.port as usize);
+    print::number(out, n, m.port as usize)
+}
+
+fn getport_words(out: &mut [u8], at: Out, m: mapping, next: usize) -> Out {
+    let n = say(out, at, b"getport");
+    let n = mapping_words(out, n, m);
     print::number(out, n, next)
 }
 
@@ -60,7 +64,7 @@ fn turn_words(out: &mut [u8], at: Out, a: Asked) -> Out {
             caller: _,
             value,
             next,
-        } => mapping_words(out, at, value, next),
+        } => getport_words(out, at, value, next),
         _ => at,
     }
 }
@@ -117,44 +121,24 @@ fn write_into(
     }
 }
 
-// path HEX PLACE COUNT ROOM START
-// list HEX PLACE COUNT ROOM START
-pub(crate) fn write(
+// ROOM START, and nothing behind them
+fn write_with_room(
     list: bool,
     line: &[u8],
     start: usize,
-    message: &mut [u8],
+    source: &[u8],
+    x: Piece,
     room: &mut [u8],
     out: &mut [u8],
     at: Out,
 ) -> Out {
-    let b = bytes_at(line, start, message);
-    if !b.good {
-        return why::bytes(line, start, out, at);
-    }
-    let p = number_at(line, b.next);
-    let NumberAt::Is {
-        value: place,
-        next: s,
-    } = p
-    else {
-        return why::number(line, b.next, out, at);
-    };
-    let c = number_at(line, s);
-    let NumberAt::Is {
-        value: count,
-        next: s,
-    } = c
-    else {
-        return why::number(line, s, out, at);
-    };
-    let l = number_at(line, s);
+    let l = number_at(line, start);
     let NumberAt::Is {
         value: length,
         next: s,
     } = l
     else {
-        return why::number(line, s, out, at);
+        return why::number(line, start, out, at);
     };
     let f = number_at(line, s);
     let NumberAt::Is {
@@ -170,14 +154,54 @@ pub(crate) fn write(
     if room.len() < length {
         return why::room(out, at);
     }
+    write_into(list, source, x, &mut room[0..length], from, out, at)
+}
+
+// PLACE COUNT ROOM START
+fn write_piece(
+    list: bool,
+    line: &[u8],
+    start: usize,
+    source: &[u8],
+    room: &mut [u8],
+    out: &mut [u8],
+    at: Out,
+) -> Out {
+    let p = number_at(line, start);
+    let NumberAt::Is {
+        value: place,
+        next: s,
+    } = p
+    else {
+        return why::number(line, start, out, at);
+    };
+    let c = number_at(line, s);
+    let NumberAt::Is {
+        value: count,
+        next: s,
+    } = c
+    else {
+        return why::number(line, s, out, at);
+    };
+    let x = Piece { at: place, count };
+    write_with_room(list, line, s, source, x, room, out, at)
+}
+
+// path HEX PLACE COUNT ROOM START
+// list HEX PLACE COUNT ROOM START
+pub(crate) fn write(
+    list: bool,
+    line: &[u8],
+    start: usize,
+    message: &mut [u8],
+    room: &mut [u8],
+    out: &mut [u8],
+    at: Out,
+) -> Out {
+    let b = bytes_at(line, start, message);
+    if !b.good {
+        return why::bytes(line, start, out, at);
+    }
     let n = b.count;
-    write_into(
-        list,
-        &message[0..n],
-        Piece { at: place, count },
-        &mut room[0..length],
-        from,
-        out,
-        at,
-    )
+    write_piece(list, line, b.next, &message[0..n], room, out, at)
 }

@@ -17,9 +17,8 @@ use Rattle.xdr.specs.Meaning.Public.{Took, output}
 use Rattle.xdr.specs.Laws.Public.{kept}
 -- made by tools/generate: meanings
 use Rattle.xdr.specs.Meaning.Items.{number, word, hyper, word-pair, hyper-pair, flag, int, long, eight, opaque, words}
-use Rattle.xdr.specs.Meaning.Answer.{opened}
 use Rattle.xdr.specs.Meaning.Formats.{eightHeld, pieceHeld, wordsHeld}
-use Rattle.xdr.specs.Meaning.Pieces.{isInside, partOf, partPlace, areInside, wordsPartOf, wordsPlace, wordOf, sizeUpTo, wordsUpTo}
+use Rattle.xdr.specs.Meaning.Pieces.{isInside, partPlace, areInside, wordsPlace, wordOf, sizeUpTo, wordsUpTo}
 use Rattle.rpc.specs.Meaning.Closed.{msg-type, reply-stat, reject-stat, auth-flavor}
 use Rattle.rpc.specs.Meaning.Reading.{mismatch-info}
 use Rattle.rpc.specs.Meaning.Reply.{accept-stat-of, auth-stat-of, accept-body-of, accepted-reply-of, rejected-reply-of, reply-body-of}
@@ -131,7 +130,7 @@ module _ {M S : Type 0} (F : Format M S) where
 
 -- made by tools/generate: every-kind
 pub every-kind : Each kinds
-unfolding opened partOf wordsPartOf number word hyper word-pair hyper-pair flag int long eight opaque words opened eightHeld pieceHeld wordsHeld isInside partOf partPlace areInside wordsPartOf wordsPlace wordOf sizeUpTo wordsUpTo msg-type reply-stat reject-stat auth-flavor mismatch-info accept-stat-of auth-stat-of accept-body-of accepted-reply-of rejected-reply-of reply-body-of call-body rpc-body-of rpc-msg-of time-how set-time set-atime set-mtime sattr set-mode set-uid set-gid set-size nfsstat ftype specdata nfstime fattr wcc-attr pre-op-attr post-op-attr wcc-data fsinfo opaque-auth auth-unix nfs-fh post-op-fh diropargs symlinkdata stable-how write-args write-resok write-resfail write-res sattrguard setattr-args setattr-resok setattr-resfail setattr-res getattr-args getattr-resok getattr-res lookup-args lookup-resok lookup-resfail lookup-res read-args read-resok read-resfail read-res dirpath mountstat mountres-ok mountres node nodes exports next-node next-export groups next-group port-mapping
+unfolding opened partOf wordsPartOf number word hyper word-pair hyper-pair flag int long eight opaque words eightHeld pieceHeld wordsHeld isInside partPlace areInside wordsPlace wordOf sizeUpTo wordsUpTo msg-type reply-stat reject-stat auth-flavor mismatch-info accept-stat-of auth-stat-of accept-body-of accepted-reply-of rejected-reply-of reply-body-of call-body rpc-body-of rpc-msg-of time-how set-time set-atime set-mtime sattr set-mode set-uid set-gid set-size nfsstat ftype specdata nfstime fattr wcc-attr pre-op-attr post-op-attr wcc-data fsinfo opaque-auth auth-unix nfs-fh post-op-fh diropargs symlinkdata stable-how write-args write-resok write-resfail write-res sattrguard setattr-args setattr-resok setattr-resfail setattr-res getattr-args getattr-resok getattr-res lookup-args lookup-resok lookup-resfail lookup-res read-args read-resok read-resfail read-res dirpath mountstat mountres-ok mountres node nodes exports next-node next-export groups next-group port-mapping
 every-kind =
     (by-zero _ refl refl refl, (by-two _ refl refl refl, (by-two _ refl refl refl, (by-two _ refl refl refl, (by-two _ refl refl refl, (by-two _ refl refl refl, (by-two _ refl refl refl, (by-two _ refl refl refl, (by-two _ refl refl refl, (by-zero _ refl refl refl, (by-zero _ refl refl refl, (by-two _ refl refl refl, (by-zero _ refl refl refl, (by-two _ refl refl refl, (by-two _ refl refl refl, (by-two _ refl refl refl, (by-two _ refl refl refl, (by-two _ refl refl refl, (by-two _ refl refl refl, (by-two _ refl refl refl, (by-two _ refl refl refl, (by-two _ refl refl refl, (by-two _ refl refl refl, (by-two _ refl refl refl, (by-two _ refl refl refl, (by-two _ refl refl refl, (by-two _ refl refl refl, (by-two _ refl refl refl, (by-two _ refl refl refl, (by-two _ refl refl refl, (by-two _ refl refl refl, (by-two _ refl refl refl, (by-two _ refl refl refl, (by-two _ refl refl refl, (by-two _ refl refl refl, (by-two _ refl refl refl, (by-two _ refl refl refl, (by-two _ refl refl refl, (by-two _ refl refl refl, (by-two _ refl refl refl, (by-two _ refl refl refl, (by-two _ refl refl refl, (by-two _ refl refl refl, (by-two _ refl refl refl, (by-two _ refl refl refl, (by-two _ refl refl refl, (by-two _ refl refl refl, (by-two _ refl refl refl, (by-two _ refl refl refl, (by-two _ refl refl refl, (by-two _ refl refl refl, (by-two _ refl refl refl, (by-two _ refl refl refl, (by-two _ refl refl refl, (by-two _ refl refl refl, (by-two _ refl refl refl, (by-two _ refl refl refl, (by-two _ refl refl refl, (by-two _ refl refl refl, (by-two _ refl refl refl, (by-two _ refl refl refl, (by-two _ refl refl refl, (by-two _ refl refl refl, (by-two _ refl refl refl, (by-two _ refl refl refl, (by-two _ refl refl refl, (by-two _ refl refl refl, (by-two _ refl refl refl, (by-two _ refl refl refl, (by-two _ refl refl refl, (by-list _ refl refl refl, (by-two _ refl refl refl, tt))))))))))))))))))))))))))))))))))))))))))))))))))))))))))))))))))))))))
 
