@@ -1,21 +1,22 @@
 -- Linked lists are lawful, and are read element by element.
 -- Assumes nothing.
 use mathlib.Core.Path.{_≡_, refl, sym, ap, ap₂, subst, _∙_}
-use mathlib.Core.Logic.{_⊎_, inl, inr}
+use mathlib.Core.Logic.{_⊎_, inl, inr, _↔_}
 use mathlib.Core.Bool.{Bool, true, false, _&&_, and-true}
 use mathlib.Core.Option.{Option, none, some}
-use mathlib.Core.List.{List, [], _∷_, _++_}
+use mathlib.Core.List.{List, [], _∷_, _++_, append-nil}
 use Prim.Native.Nat.{ℕ, zero, suc, _+_, _-_, _≤_, _<_}
 use native.Mathlib.Omega.{arith}
 use lib.ListN.{length, length-append}
 use Rattle.xdr.specs.Meaning.Bytes.{Bytes, Stands}
 use Rattle.xdr.specs.Meaning.Refusal.{TooFew, lessBy}
 use borrow.Author.Tests.{eq-eqb}
-use Rattle.xdr.specs.Meaning.Answer.{Answer, took, refused, mapAnswer, Taken, Came, Loose, clean}
+use Rattle.xdr.specs.Meaning.Answer.{Answer, took, refused, mapAnswer, Taken, Came, Way, Loose, here, shifted, clean}
 use Rattle.xdr.specs.Meaning.Format.{Format, optional}
 use Rattle.xdr.specs.Laws.Lengths.{flag-lengths}
 use Rattle.xdr.specs.declared.piece.Piece.{Piece}
 use Rattle.xdr.specs.Meaning.Kind.{Kind, Found, Sound, Lawful, Codec}
+use Rattle.xdr.specs.Meaning.Combinators.{means}
 use Rattle.xdr.specs.Laws.Lists.{room}
 use Rattle.xdr.specs.declared.refusal.Refusal.{Refusal}
 use Rattle.xdr.specs.declared.refusal.Refusal.the-variants.{Ended}
@@ -157,6 +158,89 @@ module _ {M : Type 0} (O : Codec (Option M)) (some-bytes : (o : Option M) (w : L
         few = λ s t p r h f g. few s p t r h f g;
         enough = λ s t p q w h b f e. enough s p t q w h b f e;
       }
+
+  -- forms, element by element: that of the empty list is one of its end; that of another is one of its first element and, behind it, of the rest
+  pub record Link (m : M) (l : List M) (w : List Loose) (e : List ℕ) : Type 0 where
+    pub e₁ : List ℕ
+    pub e₂ : List ℕ
+    pub w₁ : List Loose
+    pub w₂ : List Loose
+    pub element : O .kind .Form (some m) w₁ e₁
+    pub rest : linkedKind O .Form l w₂ e₂
+    pub bytes : e ≡ e₁ ++ e₂
+    pub loose : w ≡ w₁ ++ shifted (length e₁) w₂
+
+  nothing-loose : {A : Type 0} {x y : A} {v : List Way} → means x [] ≡ means y v → here v ≡ []
+  nothing-loose {v = v} e = let h : v ≡ [] = cc e in ap here h
+
+  pub empty-form : (w : List Loose) (e : List ℕ) → linkedKind O .Form [] w e ↔ O .kind .Form none w e
+  empty-form w e = (from, to)
+    where
+      by : (o : Option M) (x : Rest O o) → join O o x ≡ [] → (w₁ w₂ : List Loose) (e₁ e₂ : List ℕ) → O .kind .Form o w₁ e₁ → rest O (fewer O 0) o .kind .Form x w₂ e₂
+          → O .kind .Form none (w₁ ++ shifted (length e₁) w₂) (e₁ ++ e₂)
+      by none x i w₁ w₂ e₁ e₂ f g =
+          let a : w₁ ++ shifted (length e₁) w₂ ≡ w₁ = ap (λ z. w₁ ++ shifted (length e₁) z) (g .0) ∙ append-nil w₁ in
+          let b : e₁ ++ e₂ ≡ e₁ = ap (λ (z : List ℕ). e₁ ++ z) (g .1) ∙ append-nil e₁ in
+          rw (a, b) f
+      by (some m) x i w₁ w₂ e₁ e₂ f g = let z : _≡_ {A = ℕ} 0 1 = cc i in absurd (omega arith)
+
+      from : linkedKind O .Form [] w e → O .kind .Form none w e
+      from f =
+          let g = f .form in
+          let k : join O (f .of .0) (f .of .1) ≡ [] = cc (f .sees) in
+          let a : w ≡ g .w₁ ++ shifted (length (g .e₁)) (g .w₂) = f .loose ∙ ap (λ z. z ++ f .w₁) (nothing-loose (f .sees)) ∙ g .loose in
+          rw (a, g .bytes) (by (f .of .0) (f .of .1) k (g .w₁) (g .w₂) (g .e₁) (g .e₂) (g .form₁) (g .form₂))
+
+      to : O .kind .Form none w e → linkedKind O .Form [] w e
+      to f =
+          record {
+            of = (none, tt);
+            w₁ = w;
+            w₂ = [];
+            form =
+                record { e₁ = e; e₂ = []; w₁ = w; w₂ = []; form₁ = f; form₂ = (refl, refl); bytes = sym (append-nil e); loose = sym (append-nil w) };
+            sees = refl;
+            loose = refl;
+          }
+
+  pub link-form : (m : M) (l : List M) (w : List Loose) (e : List ℕ) → linkedKind O .Form (m ∷ l) w e ↔ Link m l w e
+  link-form m l w e = (from, to)
+    where
+      by : (o : Option M) (x : Rest O o) → join O o x ≡ m ∷ l → (w₁ w₂ : List Loose) (e₁ e₂ : List ℕ) → w ≡ w₁ ++ shifted (length e₁) w₂ → e ≡ e₁ ++ e₂
+          → O .kind .Form o w₁ e₁ → rest O (fewer O (suc (length l))) o .kind .Form x w₂ e₂ → Link m l w e
+      by none x i w₁ w₂ e₁ e₂ a b f g = let z : _≡_ {A = ℕ} 0 1 = cc i in absurd (omega arith)
+      by (some n) x i w₁ w₂ e₁ e₂ a b f g =
+          let j : n ≡ m = cc i in
+          let k : x ≡ l = cc i in
+          record { e₁ = e₁; e₂ = e₂; w₁ = w₁; w₂ = w₂; element = rw j at f; rest = rw k at g; bytes = b; loose = a }
+
+      from : linkedKind O .Form (m ∷ l) w e → Link m l w e
+      from f =
+          let g = f .form in
+          let k : join O (f .of .0) (f .of .1) ≡ m ∷ l = cc (f .sees) in
+          let a : w ≡ g .w₁ ++ shifted (length (g .e₁)) (g .w₂) = f .loose ∙ ap (λ z. z ++ f .w₁) (nothing-loose (f .sees)) ∙ g .loose in
+          by (f .of .0) (f .of .1) k (g .w₁) (g .w₂) (g .e₁) (g .e₂) a (g .bytes) (g .form₁) (g .form₂)
+
+      to : Link m l w e → linkedKind O .Form (m ∷ l) w e
+      to f =
+          record {
+            of = (some m, l);
+            w₁ = w;
+            w₂ = [];
+            form =
+                record {
+                  e₁ = f .e₁;
+                  e₂ = f .e₂;
+                  w₁ = f .w₁;
+                  w₂ = f .w₂;
+                  form₁ = f .element;
+                  form₂ = f .rest;
+                  bytes = f .bytes;
+                  loose = f .loose;
+                };
+            sees = refl;
+            loose = refl;
+          }
 
   -- how a list is read: an optional element, and behind one that is there the rest
   abbrev pub put : M → Bool → Answer (List M) → Answer (List M)
