@@ -148,7 +148,7 @@ fn put_next_group(src: &[u8], x: NextGroup, out: &mut [u8])
 
 // The list that is read at a place of a source, name by name, at the front of a buffer. A form of a list is as long as what is written, so
 // each name goes as far behind the buffer's start as it stands behind the list's.
-pub fn put_groups(src: &[u8], at: usize, out: &mut [u8])
+pub(crate) fn put_groups(src: &[u8], at: usize, out: &mut [u8])
     ensures { λ _. ⌜ LaysFrom bytes (now (src .entry)) at (now (out .entry)) (now (out .exit)) ⌝ }
 {
     let mut here = at;
