@@ -1,4 +1,4 @@
--- Walking along a linked list: what a step finds, what a loop keeps, and what is known of a list that lies inside.
+-- Walking along a linked list: what a step finds, and what a loop that reads keeps.
 -- Assumes nothing.
 use mathlib.Core.Path.{_≡_, refl, sym, ap, ap₂, subst, _∙_}
 use mathlib.Core.Bool.{Bool, true, false, _&&_}
