@@ -132,7 +132,34 @@ static void cut(reading *read, enum yugerzat_answer taken, size_t list, const ch
     }
 }
 
-/* ---- yugerzat_rewrite and yugerzat_judge */
+/* ---- yugerzat_rewrite, yugerzat_judge and yugerzat_marks */
+
+/* Marks, and holds them to what judging says: the same answer; a plain message has no dirty piece; each piece has a name. */
+static void mark(enum yugerzat_kind kind, const uint8_t *src, size_t count, size_t at, enum yugerzat_answer judgement,
+    const uint64_t *judged)
+{
+    uint64_t marks[FIGURES];
+    struct yugerzat_marking marking;
+    size_t piece, pieces;
+    memset(marks, 0xEE, sizeof marks);
+    memset(&marking, 0xEE, sizeof marking);
+    CHECK(yugerzat_marks(kind, src, count, at, marks, YUGERZAT_FIGURES_MARKS) == judgement);
+    CHECK(yugerzat_mark_kind(kind, src, count, at, &marking) == judgement && marking.refusal.answer == judgement);
+    CHECK(marks[0] == judged[0] && marks[1] == judged[1] && marks[YUGERZAT_FIGURES_MARKS] == UNTOUCHED);
+    pieces = marking.pieces;
+    CHECK(pieces <= YUGERZAT_LIMIT_PIECES && marks[YUGERZAT_FIGURE_MARKS_PIECES] == pieces);
+    CHECK(marks[YUGERZAT_FIGURE_MARKS_FIRST] == (uint64_t)marking.clean[0]);
+    CHECK(marks[YUGERZAT_FIGURE_MARKS_SECOND] == (uint64_t)marking.clean[1]);
+    if (judgement != YUGERZAT_DONE) {
+        CHECK(marking.next == 0 && !marking.plain && pieces == 0 && !marking.clean[0] && !marking.clean[1]);
+        return;
+    }
+    CHECK(marking.next == judged[YUGERZAT_FIGURE_NEXT] && marking.plain == (judged[YUGERZAT_FIGURE_PLAIN] == 1));
+    for (piece = 0; piece < YUGERZAT_LIMIT_PIECES; piece++) {
+        CHECK((yugerzat_piece_name(kind, pieces, piece) != NULL) == (piece < pieces));
+        CHECK(piece < pieces ? !marking.plain || marking.clean[piece] : !marking.clean[piece]);
+    }
+}
 
 /* Rewrites, and holds what judging says to that: it differs where there is no room, and then says what is needed. */
 static enum yugerzat_answer rewrite(
@@ -142,6 +169,7 @@ static enum yugerzat_answer rewrite(
     enum yugerzat_answer answer, judgement;
     memset(judged, 0xEE, sizeof judged);
     judgement = yugerzat_judge(kind, src, count, at, judged, YUGERZAT_FIGURES_JUDGE);
+    mark(kind, src, count, at, judgement, judged);
     answer = yugerzat_rewrite(kind, src, count, at, to, room, info, YUGERZAT_FIGURES_REWRITE);
     if (answer == YUGERZAT_NO_ROOM) {
         CHECK(judgement == YUGERZAT_DONE && judged[YUGERZAT_FIGURE_JUDGE_SIZE] > room);
@@ -235,6 +263,8 @@ static void every_kind(enum yugerzat_kind kind)
     CHECK(yugerzat_rewrite(kind, b.at, b.count, 0, out, BUFFER, NULL, 0) == YUGERZAT_SHORT_LIST && all_untouched());
     CHECK(yugerzat_judge(kind, b.at, b.count, 0, info, 2) == YUGERZAT_SHORT_LIST && all_untouched());
     CHECK(yugerzat_judge(kind, b.at, b.count, 0, NULL, 0) == YUGERZAT_SHORT_LIST && all_untouched());
+    CHECK(yugerzat_marks(kind, b.at, b.count, 0, info, 4) == YUGERZAT_SHORT_LIST && all_untouched());
+    CHECK(yugerzat_marks(kind, b.at, b.count, 0, NULL, 0) == YUGERZAT_SHORT_LIST && all_untouched());
     CHECK(yugerzat_judge(kind, b.at, b.count, 0, info, FIGURES) == YUGERZAT_DONE && figures(3, took) &&
           out_untouched_from(0));
     CHECK(yugerzat_rewrite(kind, b.at, b.count, 0, out, BUFFER, info, FIGURES) == YUGERZAT_DONE && figures(3, took));
@@ -279,6 +309,44 @@ static void ends(enum yugerzat_kind kind, const char *message, uint64_t place, u
     CHECK(read_kind(kind, &b, 0, BUFFER) == YUGERZAT_ENDS);
     CHECK(ended_at(3, place, wanting) && out_untouched_from(0));
     of = "";
+}
+
+/* The message has so many pieces, and those of these names are dirty, each behind a blank. */
+static void dirty(enum yugerzat_kind kind, const char *message, size_t pieces, const char *names)
+{
+    struct bytes b = hex(message);
+    struct yugerzat_marking marking;
+    char found[100] = "";
+    size_t piece;
+    of = message;
+    CHECK(yugerzat_mark_kind(kind, b.at, b.count, 0, &marking) == YUGERZAT_DONE);
+    CHECK(marking.pieces == pieces && marking.next == b.count && !marking.plain);
+    for (piece = 0; piece < marking.pieces; piece++)
+        if (!marking.clean[piece]) {
+            strcat(found, " ");
+            strcat(found, yugerzat_piece_name(kind, marking.pieces, piece));
+        }
+    CHECK(strcmp(found, names) == 0);
+    of = "";
+}
+
+static void test_marks(void)
+{
+    dirty(YUGERZAT_KIND_OPAQUE, "00000001AA000001", 1, " opaque");
+    dirty(YUGERZAT_KIND_DIROPARGS3, "00000001AA00000000000001BB0000CC", 2, " name");
+    dirty(YUGERZAT_KIND_DIROPARGS3, "00000001AA01000000000001BB000000", 2, " dir.data");
+    dirty(YUGERZAT_KIND_DIROPARGS3, "00000001AA01000000000001BB800000", 2, " dir.data name");
+    dirty(YUGERZAT_KIND_LOOKUP3ARGS, "00000001AA00000000000001BB0000CC", 2, " what.name");
+    dirty(YUGERZAT_KIND_POST_OP_FH3, "0000000100000003AABBCC01", 1, " handle.data");
+    dirty(YUGERZAT_KIND_MOUNTRES3, "0000000000000001AA0000FF0000000100000001", 2, " fhandle");
+    dirty(YUGERZAT_KIND_EXPORTS, "00000001000000012F00000000000001000000016200000100000000" "00000000", 1, " exports");
+    /* An odd flag, a stray tag: no piece is dirty. */
+    dirty(YUGERZAT_KIND_BOOL, "00000002", 0, "");
+    dirty(YUGERZAT_KIND_POST_OP_FH3, "0000000200000003AABBCC00", 1, "");
+    dirty(YUGERZAT_KIND_RPC_MSG, "0000002A00000002", 2, "");
+    dirty(YUGERZAT_KIND_REPLY_BODY, "00000002", 1, "");
+    CHECK(yugerzat_piece_name(YUGERZAT_KIND_RPC_MSG, 2, 0) && !yugerzat_piece_name(YUGERZAT_KIND_RPC_MSG, 3, 0));
+    CHECK(!yugerzat_piece_name(YUGERZAT_KIND_BOOL, 1, 0) && !yugerzat_piece_name((enum yugerzat_kind)YUGERZAT_KINDS, 1, 0));
 }
 
 static void test_kinds(void)
@@ -2246,6 +2314,7 @@ static void test_same_exports(void)
 int main(void)
 {
     test_kinds();
+    test_marks();
     test_fragment();
     test_feed();
     test_auth_unix();

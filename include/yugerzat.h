@@ -18,6 +18,7 @@
  *     yugerzat_put_KIND         writes a struct in published form: the same kinds; and yugerzat_put_fragment
  *     yugerzat_judge_kind       reads a message of any kind: is it plain, and how long is its rewriting?
  *     yugerzat_rewrite_kind     reads a message of any kind, and writes it in published form
+ *     yugerzat_mark_kind        reads a message of any kind: the padding of which of its pieces was dirty?
  *     yugerzat_feed_run         assembles records from a stream
  *     yugerzat_choose_program   says what to do with a message that came in
  *     yugerzat_ask_program      the same for a server that answers for mounts and ports too; it stands in
@@ -46,6 +47,11 @@
  * PLAIN AND LOOSE. A message that was read is plain if its bytes are in published form (others say canonical): every
  * flag is 0 or 1, all padding is zero, every tag is declared. Otherwise it is loose: taken as it was meant. Its
  * REWRITING is the same message in published form, and never longer than the larger of 40 bytes and the bytes read.
+ *
+ * MARKS. Where a message is loose, yugerzat_mark_kind says of each of its pieces whether it is clean (its padding was all
+ * zero) or dirty, and yugerzat_piece_name which field that is. A mark is no part of the message: two messages are the
+ * same whatever their marks, and a writer writes zeros in any case. If all pieces are clean, a flag was odd or a tag
+ * was not declared.
  *
  * Plain does not mean that a strict server takes the message:
  *   - Four upper bounds of the RFCs are not held against it: 400 bytes for a credential's body, 255 for a machine
@@ -157,6 +163,9 @@ typedef char yugerzat_answer_has_32_bits[sizeof(enum yugerzat_answer) == 4 ? 1 :
 
 /* A message, a source, an assembler's capacity and an encoding have at most so many bytes. */
 #define YUGERZAT_LIMIT_BYTES ((size_t)1048576)
+
+/* No message has more pieces. */
+#define YUGERZAT_LIMIT_PIECES 2
 
 /* What an answer means, in a few words. Never NULL. */
 static inline const char *yugerzat_strerror(enum yugerzat_answer answer)
@@ -461,6 +470,15 @@ struct yugerzat_rewriting {
     struct yugerzat_refusal refusal;
 };
 
+/* What marking tells. */
+struct yugerzat_marking {
+    size_t next;
+    bool plain;
+    size_t pieces;                     /* how many pieces the message has; 0 where it was refused */
+    bool clean[YUGERZAT_LIMIT_PIECES]; /* of each: whether its padding was all zero; false behind the last */
+    struct yugerzat_refusal refusal;
+};
+
 /* What a writing tells. */
 struct yugerzat_writing {
     size_t after; /* the place after what was written; 0 where it was refused */
@@ -576,6 +594,79 @@ YUGERZAT_MUST_USE static inline enum yugerzat_answer yugerzat_rewrite_kind(enum 
     uint64_t info[YUGERZAT_FIGURES_REWRITE];
     return yugerzat_private_rewritten(
         yugerzat_rewrite(kind, src, src_len, at, out, out_len, info, YUGERZAT_FIGURES_REWRITE), info, rewriting);
+}
+
+/*
+ * Reads a message of a kind from place `at` of src, and writes nothing: says of each of its pieces whether it is clean.
+ * Where no flag is odd and no tag undeclared, the message is plain exactly if all are. Refusals: those of judging.
+ */
+YUGERZAT_MUST_USE static inline enum yugerzat_answer yugerzat_mark_kind(
+    enum yugerzat_kind kind, const uint8_t *src, size_t src_len, size_t at, struct yugerzat_marking *marking)
+{
+    uint64_t info[YUGERZAT_FIGURES_MARKS];
+    enum yugerzat_answer answer = yugerzat_marks(kind, src, src_len, at, info, YUGERZAT_FIGURES_MARKS);
+    bool done = answer == YUGERZAT_DONE;
+    marking->next = done ? (size_t)info[YUGERZAT_FIGURE_NEXT] : 0;
+    marking->plain = done && info[YUGERZAT_FIGURE_PLAIN] != 0;
+    marking->pieces = done ? (size_t)info[YUGERZAT_FIGURE_MARKS_PIECES] : 0;
+    marking->clean[0] = done && info[YUGERZAT_FIGURE_MARKS_FIRST] != 0;
+    marking->clean[1] = done && info[YUGERZAT_FIGURE_MARKS_SECOND] != 0;
+    marking->refusal = yugerzat_private_refusal(answer, info);
+    return answer;
+}
+
+/*
+ * Which field a piece is, counted from 0, of a message of a kind that has so many pieces: "dir.data" and "name" of a
+ * diropargs3. Kinds with cases, as rpc_msg, have other pieces in each, and another count of them. What is one piece
+ * itself has the kind's name. NULL if there is no such piece.
+ */
+static inline const char *yugerzat_piece_name(enum yugerzat_kind kind, size_t pieces, size_t index)
+{
+    static const struct {
+        enum yugerzat_kind kind;
+        size_t pieces;
+        const char *names[YUGERZAT_LIMIT_PIECES];
+    } table[] = {
+        /* made by tools/generate: pieces */
+        {YUGERZAT_KIND_OPAQUE, 1, {"opaque", NULL}},
+        {YUGERZAT_KIND_NFSSTRING, 1, {"nfsstring", NULL}},
+        {YUGERZAT_KIND_WORDS, 1, {"words", NULL}},
+        {YUGERZAT_KIND_AUTH_UNIX, 2, {"machinename", "gids"}},
+        {YUGERZAT_KIND_OPAQUE_AUTH, 1, {"body", NULL}},
+        {YUGERZAT_KIND_RPC_MSG, 2, {"cred.body", "verf.body"}},
+        {YUGERZAT_KIND_RPC_MSG, 1, {"verf.body", NULL}},
+        {YUGERZAT_KIND_RPC_BODY, 2, {"cred.body", "verf.body"}},
+        {YUGERZAT_KIND_RPC_BODY, 1, {"verf.body", NULL}},
+        {YUGERZAT_KIND_CALL_BODY, 2, {"cred.body", "verf.body"}},
+        {YUGERZAT_KIND_REPLY_BODY, 1, {"verf.body", NULL}},
+        {YUGERZAT_KIND_ACCEPTED_REPLY, 1, {"verf.body", NULL}},
+        {YUGERZAT_KIND_NFS_FH3, 1, {"data", NULL}},
+        {YUGERZAT_KIND_POST_OP_FH3, 1, {"handle.data", NULL}},
+        {YUGERZAT_KIND_DIROPARGS3, 2, {"dir.data", "name"}},
+        {YUGERZAT_KIND_SYMLINKDATA3, 1, {"symlink_data", NULL}},
+        {YUGERZAT_KIND_GETATTR3ARGS, 1, {"object.data", NULL}},
+        {YUGERZAT_KIND_SETATTR3ARGS, 1, {"object.data", NULL}},
+        {YUGERZAT_KIND_LOOKUP3ARGS, 2, {"what.dir.data", "what.name"}},
+        {YUGERZAT_KIND_LOOKUP3RES, 1, {"object.data", NULL}},
+        {YUGERZAT_KIND_READ3ARGS, 1, {"file.data", NULL}},
+        {YUGERZAT_KIND_READ3RES, 1, {"data", NULL}},
+        {YUGERZAT_KIND_WRITE3ARGS, 2, {"file.data", "data"}},
+        {YUGERZAT_KIND_CURRENT_ACCEPTED_REPLY, 1, {"verf.body", NULL}},
+        {YUGERZAT_KIND_CURRENT_REPLY_BODY, 1, {"verf.body", NULL}},
+        {YUGERZAT_KIND_CURRENT_RPC_BODY, 2, {"cred.body", "verf.body"}},
+        {YUGERZAT_KIND_CURRENT_RPC_BODY, 1, {"verf.body", NULL}},
+        {YUGERZAT_KIND_CURRENT_RPC_MSG, 2, {"cred.body", "verf.body"}},
+        {YUGERZAT_KIND_CURRENT_RPC_MSG, 1, {"verf.body", NULL}},
+        {YUGERZAT_KIND_DIRPATH, 1, {"dirpath", NULL}},
+        {YUGERZAT_KIND_MOUNTRES3, 2, {"fhandle", "auth_flavors"}},
+        {YUGERZAT_KIND_EXPORTS, 1, {"exports", NULL}},
+        /* end of pieces */
+    };
+    size_t row;
+    for (row = 0; row < sizeof table / sizeof table[0]; row++)
+        if (table[row].kind == kind && table[row].pieces == pieces && index < pieces)
+            return table[row].names[index];
+    return NULL;
 }
 
 /*

@@ -58,7 +58,12 @@ enum {
     YUGERZAT_FIGURES_REWRITE = 3,
 
     YUGERZAT_FIGURE_JUDGE_SIZE = 2, /* how many bytes the rewriting has */
-    YUGERZAT_FIGURES_JUDGE = 3
+    YUGERZAT_FIGURES_JUDGE = 3,
+
+    YUGERZAT_FIGURE_MARKS_PIECES = 2, /* how many pieces the message has: up to two */
+    YUGERZAT_FIGURE_MARKS_FIRST = 3,  /* 1 if the padding of the first was all zero; 0 if not, or if there is none */
+    YUGERZAT_FIGURE_MARKS_SECOND = 4, /* the same of the second */
+    YUGERZAT_FIGURES_MARKS = 5
 };
 
 /*
@@ -72,6 +77,14 @@ YUGERZAT_MUST_USE enum yugerzat_answer yugerzat_rewrite(enum yugerzat_kind kind,
 
 /* The same, but nothing is written: says how long the rewriting would be. */
 YUGERZAT_MUST_USE enum yugerzat_answer yugerzat_judge(
+    enum yugerzat_kind kind, const uint8_t *src, size_t src_len, size_t at, uint64_t *info, size_t info_len);
+
+/*
+ * Reads as yugerzat_judge does, with the same answers, and says of each piece of the message whether its padding was all
+ * zero. The pieces are in the order of the fields; yugerzat_piece_name names them. A list of words, and an empty piece
+ * of a default, are always clean. An export list is one piece: it is clean if all its entries are.
+ */
+YUGERZAT_MUST_USE enum yugerzat_answer yugerzat_marks(
     enum yugerzat_kind kind, const uint8_t *src, size_t src_len, size_t at, uint64_t *info, size_t info_len);
 
 /* ------------------------------------------------------------------ rpc_msg: the header of a call or a reply */

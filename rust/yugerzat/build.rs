@@ -28,7 +28,7 @@ fn link() -> Result<(), String> {
         return Err(format!("{} is no static library", archive.display()));
     }
     // The newest function. Older archives lack it, and kinds; in the oldest, functions have other parameters.
-    let name = b"yugerzat_same_exports";
+    let name = b"yugerzat_marks";
     if !bytes.windows(name.len()).any(|bytes| bytes == name) {
         return Err(format!("{} is not the library of version {}", archive.display(), cargo("CARGO_PKG_VERSION")?));
     }

@@ -44,6 +44,8 @@ class Facts:
     within: Name
     bound: int  # of `within`
     bounded: Name | None  # the law that the kind is another one under a bound that is refused
+    marked: Name  # what its marks tell, or that it has no padding
+    marks: Name | None  # if it is held as a piece: which mark it has
     unfoldable: tuple  # what can be unfolded in the module of the meaning: names
 
 
@@ -59,6 +61,8 @@ class Index:
         self.told = defaultdict(list)
         self.within = defaultdict(list)
         self.bounded = defaultdict(list)
+        self.marked = defaultdict(list)
+        self.marks = defaultdict(list)
         self.unfoldable = defaultdict(list)
         self.used = defaultdict(list)
         self.codecs = {}
@@ -92,6 +96,10 @@ class Index:
             elif type.startswith("Within "):
                 _, bound, measured = type.split(" ", 2)
                 self.within[measured].append((found, bound))
+            elif type.startswith("Marked ") or type.startswith("Unpadded "):
+                self.marked[type.split(" ", 1)[1]].append(found)
+            elif re.match(r"\(x : Piece\) .* MarksAre (\S+) x l$", type):
+                self.marks[type.split()[-3]].append(found)
             elif type.startswith("Bounded "):
                 self.bounded[type.split()[-1]].append(found)
         self.unfoldable[module] = [Name(self.crate, module, name, type) for name, type in UNFOLDABLE.findall(text)]
@@ -162,6 +170,12 @@ class Crates:
                 return found
         raise Trouble(f"crates/{kind.crate}/specs: there is no law of lengths (`Within`) of {kind.meaning}")
 
+    def mark_law(self, kind):
+        """What a kind's marks tell, or that it has none."""
+        if kind.exact:
+            return self.need(kind.crate, "marked", f"({kind.meaning} .kind)", f"law `Unpadded` of {kind.meaning}")
+        return self.need(kind.crate, "marked", f"({kind.meaning} .held)", f"law `Marked` of {kind.meaning}")
+
     def facts(self, kind):
         crate = kind.crate
         if crate not in self.uses:
@@ -184,5 +198,7 @@ class Crates:
             within=within,
             bound=int(bound),
             bounded=self.find(crate, "bounded", kind.meaning),
+            marked=self.mark_law(kind),
+            marks=self.find(crate, "marks", kind.meaning),
             unfoldable=self.index(meaning.crate).unfolded(meaning.module),
         )

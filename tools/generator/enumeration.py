@@ -114,6 +114,7 @@ found{self.camel} ({found}.Is a) = means a []""",
             f"-- {self.code_type}\n{self.step_laws()}",
             self.told_law(),
             f"pub {m}-within : Within 0 ({m} .kind)\nunfolding {m}\n{m}-within = closed-within {of}",
+            self.unpadded_law(f"closed-unpadded {of}"),
             f"pub {m}-fixed : Fixed 4 {m}\nunfolding {m}\n{m}-fixed = seen-fixed word-fixed _ _ _ _",
             f"""pub {m}-writes : (a : {T}) {{v : ℕ}} (at : ℕ) (o : List ℕ) {{w : Written}} {{o′ : List ℕ}} → v ≡ {self.number} a → Writes (exactly word) [] v at o w o′
     → Writes (exactly {m}) [] a at o w o′

@@ -193,6 +193,21 @@ impl {self.answer} {{
         return f"""pub fn {self.name}_inside(src: &[u8], x: {self.code_type}) -> bool
     ensures {{ λ r. ⌜ r ≡ {self.meaning} .held .inside (now (src .entry)) x ⌝ }}"""
 
+    def marks_head(self):
+        return f"""    pub fn marks(self) -> Marks
+        ensures {{ λ r. ⌜ MarksAre {self.meaning} self (viewMarks r) ⌝ }}"""
+
+    def unpadded_law(self, proof):
+        m = self.meaning
+        return f"pub {m}-unpadded : Unpadded ({m} .kind)\nunfolding {m}\n{m}-unpadded = {proof}"
+
+    def marked_law(self, proof):
+        m = self.meaning
+        return f"pub {m}-marked : Marked ({m} .held)\nunfolding {m}\n{m}-marked = {proof}"
+
+    def marks_proof(self, answers):
+        return {f"{self.code_type}/marks": Proof(answers, name="marks")}
+
     # ------------------------------------------------ the specifications that all have
 
     def case(self, name, *values):

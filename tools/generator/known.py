@@ -48,11 +48,12 @@ class Held:
     small: str  # that this is no large number,
     sum: str  # and the same for a sum; none if the sums' own rule set has it
     within: str
+    marked: str  # what its mark tells
 
 
 PIECES = {
-    "opaque": Held("opaque_size", "inside", "isInside", "pieceHeld", "bytes-writer", "size-small", "", "opaque-within"),
-    "words": Held("words_size", "words_inside", "areInside", "wordsHeld", "words-writer", "words-small", "by-words", "words-within"),
+    "opaque": Held("opaque_size", "inside", "isInside", "pieceHeld", "bytes-writer", "size-small", "", "opaque-within", "bytes-marked"),
+    "words": Held("words_size", "words_inside", "areInside", "wordsHeld", "words-writer", "words-small", "by-words", "words-within", "words-marked"),
 }
 
 
@@ -74,6 +75,8 @@ class Known:
     most: int = 0  # to how many
     defined: str = ""  # what definitions call the meaning, if they have another name for it
     inside: bool = False  # it is in range only if it lies inside: a list of words, and what has one
+    paths: tuple | None = ()  # where its pieces are, each by the names of fields; none if that depends on a case
+    seen: tuple = ()  # what is unfolded to see them
 
     @property
     def piece(self):
@@ -114,6 +117,17 @@ class Known:
     def within(self):
         return self.piece.within if self.piece else f"{self.meaning}-within"
 
+    @property
+    def marked(self):
+        """What its marks tell: a codec has no padding."""
+        if self.codec:
+            return f"plain-marked {self.unpadded}"
+        return self.piece.marked if self.piece else f"{self.meaning}-marked"
+
+    @property
+    def unpadded(self):
+        return f"{self.meaning}-unpadded"
+
     def small(self, value):
         """The law that the size of a value is no large number, if it varies."""
         if self.piece:
@@ -143,8 +157,8 @@ ITEMS = {
     "u32": Known("u32", "u32", "U32Read", False, True, "word", "ℕ", "ℕ", 4, "word-good"),
     "u64": Known("u64", "u64", "U64Read", False, True, "hyper", "ℕ", "ℕ", 8, "hyper-good"),
     "bool": Known("bool", "bool", "BoolRead", True, True, "flag", "Bool", "Bool", 4, "flag-good"),
-    "opaque": Known("opaque", "Piece", "PieceRead", True, False, "bytes", "List ℕ", "Piece", 0, "piece-good", 4, 1 << 21),
-    "words": Known("words", "Piece", "PieceRead", True, False, "wordList", "List ℕ", "Piece", 0, "words-good", 4, 1 << 23, inside=True),
+    "opaque": Known("opaque", "Piece", "PieceRead", True, False, "bytes", "List ℕ", "Piece", 0, "piece-good", 4, 1 << 21, paths=((),), seen=("pieceHeld",)),
+    "words": Known("words", "Piece", "PieceRead", True, False, "wordList", "List ℕ", "Piece", 0, "words-good", 4, 1 << 23, inside=True, paths=((),), seen=("wordsHeld",)),
 }
 
 OPAQUE = ITEMS["opaque"]
@@ -179,7 +193,8 @@ SPECS = {
     XDR + "Meaning.Pieces": "isInside sizeUpTo areInside",
     XDR + "Meaning.Sizes": "OfSize",
     XDR + "Meaning.Public": "Answers Writes output laid laidOf",
-    XDR + "Meaning.Views": "viewWrote",
+    XDR + "Meaning.Marks": "Marked MarksAre",
+    XDR + "Meaning.Views": "viewWrote viewMarks",
     XDR + "Laws.Padding": "size-small words-small",
     XDR + "Laws.Marks": "and-left and-right",
     XDR + "Laws.Pieces": "piece-good",
@@ -197,8 +212,10 @@ SPECS = {
     XDR + "Laws.Writers": "Writer bytes-writer words-writer put-outside put-short write-off write-place write-on write-in plain-off plain-on",
     XDR + "Laws.Lays": "sums by-words lays rooms size-is fixed-off fixed-on",
     XDR + "Laws.Fields": "fixed-writer codec-writer pair-writer pair-sized named-sized Lays lays-of lays-codec lays-none lays-both lays-named lays-all lays-plain marked",
-    XDR + "Laws.Optional": "Between maybe-plan maybe-between maybe-within held-within Optional OptionalHeld lays-void lays-value none-bytes none-size some-word some-hyper some-size option-writer optionSize void-inside value-inside held-void held-value held-sized void-size value-size",
-    XDR + "Laws.Status": "OnStatus ok-inside failed-inside alone-inside ok-lays failed-lays alone-lays resultSize status-sized ok-size failed-size alone-size ok-fixed failed-fixed status-within armBy status-lost status-took",
+    XDR + "Laws.Optional": "Between maybe-plan maybe-between maybe-within held-within Optional OptionalHeld lays-void lays-value none-bytes none-size some-word some-hyper some-size option-writer optionSize void-inside value-inside held-void held-value held-sized void-size value-size void-marks value-marks",
+    XDR + "Laws.Status": "OnStatus ok-inside failed-inside alone-inside ok-marks failed-marks alone-marks ok-lays failed-lays alone-lays resultSize status-sized ok-size failed-size alone-size ok-fixed failed-fixed status-within armBy status-lost status-took",
+    XDR + "Laws.Unpadded": "Unpadded void-unpadded pair-unpadded view-unpadded closed-unpadded option-unpadded word-unpadded hyper-unpadded flag-unpadded no-marks",
+    XDR + "Laws.Marked": "plain-marked pair-marked named-marked maybe-marked status-marked bytes-marked words-marked piece-marks words-marks",
     XDR + "Laws.Programs": "for-lost for-took by-procedure by-none",
     "Rattle.nfsattr.specs.Laws.Status": "nfsstat-lost nfsstat-took",
     XDR + "declared.piece.Piece": "Piece",
@@ -206,7 +223,7 @@ SPECS = {
     XDR + "declared.refusal.Refusal.the-variants": "PastEnd",
 }
 CODE = {
-    "xdr": "MOST Piece PieceRead BoolRead U32Read U64Read Refusal Wrote inside words_inside write_u32",
+    "xdr": "MOST Marks Piece PieceRead BoolRead U32Read U64Read Refusal Wrote inside words_inside write_u32",
     "xdr::inner": "u32_at u64_at bool_at opaque_at opaque_size words_at words_size put_u32 put_u64 put_u32_pair put_u32_u64 put_bool put_opaque put_words",
     "xdr::order": "Opening open_at place room",
 }

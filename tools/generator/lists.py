@@ -10,7 +10,7 @@ import textwrap
 from generator.crates import Crates
 from generator.known import stem
 from generator.language import read_topic
-from generator.table import Trouble, read_table, read_text
+from generator.table import MOST_PIECES, Trouble, read_pieces, read_table, read_text
 
 HEADER = "made by tools/generate from kinds.txt"
 
@@ -69,9 +69,11 @@ def outputs(root):
     made.append(("crates/door/proofs/kinds/copy_kind/Proof.antt", chooser_proof(groups)))
     made += door_meanings(facts, groups, order)
     made += worked_answers(facts, order)
+    made += worked_marks(facts, order)
     made += worked_kinds(facts, order, BY_ZERO | without_two(root))
     made += header_lists(kinds)
     made += procedure_lists(root)
+    made += piece_lists(read_pieces(root, kinds))
     made += versions(root)
     made.append(("rust/yugerzat/src/kind.rs", "kinds", rust_list(kinds)))
     made.append(("crates/answers/src/kinds.rt", "kinds", words_list(kinds)))
@@ -136,11 +138,17 @@ def definition(*parts):
 # ---------------------------------------------------------------- the copiers
 
 
+def has_pieces(fact):
+    """Whether what the code holds has pieces, or its type a case that has: it then says which marks it has."""
+    return not fact.kind.exact and fact.kind.meaning != "eightBytes"
+
+
 def copier_file(comment, facts, order):
     ghosts = [EXACTLY] if any(fact.kind.exact for fact in facts) else []
     ghosts += uses([fact.meaning for fact in facts], order)
     ghosts.append("Rattle.door.specs.Meaning.Copy.{viewCopied, Copies}")
     items = ["crate::copy::Copied", "crate::copy::copied_to"] + [f"{fact.answer_crate}::{fact.answer}" for fact in facts]
+    items += [] if all(map(has_pieces, facts)) else ["xdr::Marks"]
     return lines(
         f"// {HEADER}",
         f"// {comment}",
@@ -174,12 +182,13 @@ def signature(head, parameters):
 def took(fact):
     """The arm of a reading that was taken. `rt fmt` breaks a line over 100 signs, and a call with over 60 of arguments."""
     write = f"{fact.called}::write_{fact.kind.name}({'src, ' if fact.source else ''}v, out, start)"
+    marks = "v.marks()" if has_pieces(fact) else "Marks::None"
     if fact.plain:
         front = [f"        {fact.answer}::Took {{", "            value: v,", "            next: n,", "            plain: p,"]
-        head, arguments = "        } => copied_to(", ("n", "p", write)
+        head, arguments = "        } => copied_to(", ("n", "p", marks, write)
     else:
         front = []
-        head, arguments = f"        {fact.answer}::Took {{ value: v, next: n }} => copied_to(", ("n", "true", write)
+        head, arguments = f"        {fact.answer}::Took {{ value: v, next: n }} => copied_to(", ("n", "true", marks, write)
     joined = ", ".join(arguments)
     if len(joined) <= 60 and len(f"{head}{joined}),") <= 100:
         return [*front, f"{head}{joined}),"]
@@ -189,6 +198,7 @@ def took(fact):
 def reading_law(fact):
     """The law that what was read and written is the copy, and what the proof is to search with."""
     meaning, view = fact.kind.meaning, fact.view.name
+    marks = f", {fact.marks.name}" if fact.marks else ""
     if fact.kind.exact and fact.meaning.type == "Codec ℤ":
         return "signed-read", f"(signed-read {meaning} {view} Took, toZ-ofZ, needs)"
     if fact.kind.exact:
@@ -196,8 +206,8 @@ def reading_law(fact):
     if meaning == "eightBytes":
         return "eight-read", "eight-read"
     if fact.bounded:
-        return "bounded-read", f"(bounded-read {fact.bounded.name} {view})"
-    return "was-read", f"(was-read {meaning} {view})"
+        return "bounded-read", f"(bounded-read {fact.bounded.name} {view}{marks})"
+    return "was-read", f"(was-read {meaning} {view}{marks})"
 
 
 def copier_proof(file, fact):
@@ -211,9 +221,10 @@ def copier_proof(file, fact):
     imports += [EXACTLY] if kind.exact else []
     imports.append(f"{fact.view.module}.{{{view}}}")
     imports += [f"{fact.bounded.module}.{{{fact.bounded.name}}}"] if fact.bounded else []
+    imports += [f"{fact.marks.module}.{{{fact.marks.name}}}"] if fact.marks else []
     imports += [f"{fact.answer_module}.the-variants.{{Took}}"] if signed else []
     imports.append(f"Rattle.door.specs.Laws.Copy.{{not-read, {law}}}")
-    needs = " ".join(["(search needs)"] * 5)
+    needs = " ".join(["(search needs)"] * (6 if has_pieces(fact) else 5))
     refused = f"(λ c. search (not-read {kind.format} {view}))"
     term = f"tie.close (tie.spec {needs} {refused} (search needs) (λ c. search {given}))"
     return proof(file, f"copy_{kind.name}", imports, [term])
@@ -380,6 +391,15 @@ def worked_answers(facts, order):
     ]
 
 
+def worked_marks(facts, order):
+    path = "crates/worked/specs/EveryMark.antt"
+    entries = [f"plain-marked {fact.marked.name}" if fact.kind.exact else fact.marked.name for fact in facts] + ["tt"]
+    return [
+        (path, "uses", lines(*(f"use {use}" for use in uses([fact.marked for fact in facts], order)))),
+        (path, "every-marked", definition("every-marked : EachMarked kinds", "every-marked =", *chain("also", entries))),
+    ]
+
+
 def within(fact):
     return fact.within.name if fact.bound == LONGEST else f"weaken (omega arith) {fact.within.name}"
 
@@ -428,6 +448,17 @@ def header_lists(kinds):
         (C_HEADER, "kinds", lines("enum yugerzat_kind YUGERZAT_32_BITS {", *rows, "};", count)),
         (C_HEADER, "kind names", lines(*names)),
     ]
+
+
+def piece_lists(pieces):
+    """The names of the pieces of each kind, and of each of its cases."""
+    c = [f"        {{YUGERZAT_KIND_{kind.name.upper()}, {len(names)}, {{{', '.join(quoted(names) + ['NULL'] * (MOST_PIECES - len(names)))}}}}}," for kind, names in pieces]
+    rust = [f"    (Kind::{camel_case(kind.name)}, &[{', '.join(quoted(names))}])," for kind, names in pieces]
+    return [(C_HEADER, "pieces", lines(*c)), ("rust/yugerzat/src/marks.rs", "pieces", lines(*rust))]
+
+
+def quoted(names):
+    return [f'"{name}"' for name in names]
 
 
 def procedure_lists(root):

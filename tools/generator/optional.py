@@ -15,7 +15,7 @@ class Optional(Kind):
         self.value = declared.parts[0].name
         self.value_type = type
         message = self.type if field.codec else f"Option {bracket(field.message)}"
-        self.known = Known(self.name, self.code_type, self.answer, True, field.codec, meaning, message, self.type, 0, f"{meaning}-good", 4, 4 + most_of(field), inside=field.inside)
+        self.known = Known(self.name, self.code_type, self.answer, True, field.codec, meaning, message, self.type, 0, f"{meaning}-good", 4, 4 + most_of(field), inside=field.inside, paths=() if field.codec else None)
         self.variable = "v" if field.codec else "x"
         self.cases = lower(meaning) + "Cases"
         self.variants = f"{lower(meaning)}Is"
@@ -26,7 +26,7 @@ class Optional(Kind):
     def code(self):
         parts = [self.enum_code(), self.answer_code(), self.at_code()]
         if not self.known.codec:
-            parts.append(self.inside_code())
+            parts += [self.marks_code(), self.inside_code()]
         links = [] if self.number else [self.link_code()]
         return parts + [self.sum_code(), *links, self.put_code(), *self.public_code()]
 
@@ -62,6 +62,10 @@ class Optional(Kind):
         {self.code_type}::Void => {void},
         {self.code_type}::{self.value}({binder}) => {some},
     }}"""
+
+    def marks_code(self):
+        cases = self.match_code("Marks::None", "f.marks()").replace(f"match {self.variable} ", "match self ").replace("\n", "\n    ")
+        return f"impl {self.code_type} {{\n{self.marks_head()}\n    {{\n    {cases}\n    }}\n}}"
 
     def inside_code(self):
         return f"{self.inside_head()}\n{{\n{self.match_code('true', self.field.inside_of('f'))}\n}}"
@@ -118,6 +122,7 @@ class Optional(Kind):
 unfolding {m}
 {m}-between v = maybe-between {field.meaning} {self.cases} {field.meaning}-fixed v""",
                 self.small_law(),
+                self.unpadded_law(f"view-unpadded (λ x. refl) (option-unpadded {field.meaning} {field.unpadded})"),
             ]
         else:
             plan = f"-- {self.code_type}\nabbrev pub {m}-plan : Planned ({m} .held .read)\nunfolding {m}\n{m}-plan = plan (optionally (at {bracket(field.format)})) _"
@@ -133,6 +138,7 @@ unfolding {m}
 {m}-bound {self.variants}.Void = omega arith
 {m}-bound ({self.variants}.{escaped(self.value)} f) = omega (arith, {field.small("f")})""",
                 self.most_law(size),
+                self.marked_law(f"maybe-marked {bracket(field.format)} {bracket(field.marked)} {self.cases}"),
             ]
         return [plan, self.step_laws(), self.told_law(), within] + own
 
@@ -176,6 +182,9 @@ unfolding {m} {self.pieces(OPAQUE, field)}
                 + [f"(λ c. search (needs, lays-plain, lays-void {m}-optional))", NEEDS, f"(λ c. search (needs, lays-plain, lays-value {m}-optional))"]
             )  # fmt: skip
         else:
+            value = "piece-marks" if field.name == "opaque" else "words-marks" if field.name == "words" else ""
+            some = ", ".join([f"value-marks {m}-optional"] + [value] * bool(value))
+            proofs.update(self.marks_proof(needs(3) + [f"(λ c. search (void-marks {m}-optional))", f"(λ c. search ({some}))"]))
             proofs[f"{self.name}_inside"] = Proof(
                 needs(3) + [f"(λ c. search (void-inside {m}-optional))", f"(λ c. search (value-inside {m}-optional))"], unfolding=self.pieces(field)
             )

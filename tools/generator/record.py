@@ -2,9 +2,13 @@
 
 from generator.kind import NEEDS, Kind, Proof, bracket, folded, least_of, lower, most_of, needs, nested, product, projections
 from generator.known import OPAQUE, Known, camel, escaped
+from generator.table import Trouble
 
 # More calls than these in one reader, and its proof is not found.
 MOST_FIELDS = 6
+
+# The cases of xdr's type Marks, by how many marks each has.
+MARKS = ("None", "One", "Two")
 
 # Of a reader with so many calls: those in its middle.
 MIDDLE = {5: (3,), 6: (2, 4)}
@@ -24,9 +28,20 @@ class Record(Kind):
         message = self.type if codec else camel(meaning)
         least, most = sum(map(least_of, fields)), sum(map(most_of, fields))
         inside = any(field.inside for field in fields)
-        self.known = Known(self.name, self.code_type, self.answer, plain, codec, meaning, message, self.type, fixed, f"{meaning}-good", least, most, inside=inside)
+        paths, seen = self.piece_paths(), (meaning, *dict.fromkeys(name for field in fields for name in field.seen))
+        self.known = Known(self.name, self.code_type, self.answer, plain, codec, meaning, message, self.type, fixed, f"{meaning}-good", least, most, inside=inside, paths=paths, seen=() if codec else seen)
         self.variable = "v" if codec else "x"
         self.locals = [f"f{at}" for at in range(1, len(fields) + 1)]
+
+    def piece_paths(self):
+        """Where its pieces are, in the order of its fields."""
+        by_case = [name for name, field in zip(self.names, self.fields) if field.paths is None]
+        if by_case:
+            raise Trouble(f"{self.topic.path}: {self.code_type}: which pieces {by_case[0]} has depends on a case, and no field may be so yet")
+        paths = tuple((name, *path) for name, field in zip(self.names, self.fields) for path in field.paths)
+        if len(paths) > len(MARKS) - 1:
+            raise Trouble(f"{self.topic.path}: {self.code_type} has {len(paths)} pieces, and the type Marks of xdr has room for {len(MARKS) - 1}")
+        return paths
 
     @property
     def formats(self):
@@ -55,7 +70,7 @@ class Record(Kind):
             parts.append(self.size_code())
         parts += [self.answer_code(), self.at_code()]
         if not self.known.codec:
-            parts.append(self.inside_code())
+            parts += [self.marks_code(), self.inside_code()]
         if not self.known.fixed:
             parts.append(self.sum_code())
         parts += [self.link_code(at) for at in reversed(range(len(self.fields) - 1))]
@@ -82,6 +97,20 @@ class Record(Kind):
             place = f"n{at}"
         took = self.took(value=f"{self.code_type} {{ {', '.join(self.names)} }}", next=place, plain=" & ".join(marks))
         return f"{self.at_head()}\n{{\n{steps}    {self.answer}::Took {{ {took} }}\n}}"
+
+    def marks_code(self):
+        """The mark of each piece, reached field by field."""
+        lets, marks, made = "", [], {}
+        for path in self.known.paths:
+            value = "self"
+            for depth in range(1, len(path) + 1):
+                if path[:depth] not in made:
+                    made[path[:depth]] = f"f{len(made) + 1}"
+                    lets += f"        let {made[path[:depth]]} = {value}.{path[depth - 1]};\n"
+                value = made[path[:depth]]
+            marks.append(f"{value}.clean")
+        values = f"({', '.join(marks)})" if marks else ""
+        return f"impl {self.code_type} {{\n{self.marks_head()}\n    {{\n{lets}        Marks::{MARKS[len(marks)]}{values}\n    }}\n}}"
 
     def lets(self, wanted):
         return "".join(f"    let {local} = {self.variable}.{name};\n" for local, name, field in zip(self.locals, self.names, self.fields) if wanted(field))
@@ -173,7 +202,7 @@ unfoldable pub {m} : Codec {self.type}
     # ------------------------------------------------ laws
 
     def laws(self):
-        return [self.plan_law(), self.step_laws(), self.told_law(), self.within_law()] + (self.codec_laws() if self.known.codec else self.held_laws())
+        return [self.plan_law(), self.step_laws(), self.told_law(), self.within_law(), *self.mark_laws()] + (self.codec_laws() if self.known.codec else self.held_laws())
 
     def plan_law(self):
         m = self.meaning
@@ -191,6 +220,18 @@ unfoldable pub {m} : Codec {self.type}
         return f"""pub {m}-within : Within 0 ({m} .codec .kind)
 unfolding {m}
 {m}-within = view-within _ _ ({bracket(self.formats)} .codec .laws) {bracket(parts)} (λ x m l u w e s f. no-default s)"""
+
+    def mark_laws(self):
+        """What its marks tell, and which they are."""
+        m = self.meaning
+        if self.known.codec:
+            return [self.unpadded_law(f"view-unpadded (λ x. refl) {bracket(folded('pair-unpadded', [field.unpadded for field in self.fields]))}")]
+        parts = bracket(folded("pair-marked", [field.marked for field in self.fields]))
+        marks = " ∷ ".join([f"x {' '.join(f'.{escaped(name)}' for name in path)} .clean" for path in self.known.paths] + ["[]"])
+        return [
+            self.marked_law(f"named-marked {bracket(self.formats)} {lower(m)}Names {parts}"),
+            f"pub {m}-marks : (x : {self.type}) → MarksAre {m} x ({marks})\nunfolding {' '.join(self.known.seen)}\n{m}-marks x = record {{ are = λ s. refl }}",
+        ]
 
     def link_laws(self):
         """The writer of the fields from each on."""
@@ -364,4 +405,6 @@ unfolding {m} {self.pieces(OPAQUE, *self.fields)}
             proofs[f"put_{self.name}"] = Proof([f"(λ c. search (lays, size-is {m}-fixed))"] + needs(2) + [f"(λ c. search (needs, lays-plain, {m}-lays, size-is {m}-fixed))"])
         else:
             proofs[f"put_{self.name}"] = Proof(needs(1) + ["(λ c. search lays)"] + needs(2) + [f"(λ c. search (needs, lays-plain, {m}-lays))"])
+        if not self.known.codec:
+            proofs.update(self.marks_proof([f"(λ c. search {m}-marks)"]))
         return {**proofs, **self.common_proofs()}

@@ -44,7 +44,7 @@ class Result(Kind):
         message = f"Result {escaped(status.failures)} {' '.join(bracket(arm.message) if arm else NOTHING for arm in arms)}"
         plain = any(arm.plain for arm in there)
         least, most = BYTES + min(size[0] for size in sizes), BYTES + max(size[1] for size in sizes)
-        self.known = Known(self.name, self.code_type, self.answer, plain, False, meaning, message, self.type, 0, f"{meaning}-good", least, most, inside=any(arm.inside for arm in there))
+        self.known = Known(self.name, self.code_type, self.answer, plain, False, meaning, message, self.type, 0, f"{meaning}-good", least, most, inside=any(arm.inside for arm in there), paths=None)
         self.variants = f"{lower(meaning)}Is"
         self.law = f"{meaning}-status"
 
@@ -55,7 +55,7 @@ class Result(Kind):
 
     def code(self):
         links = [self.link_code(at) for at in (0, 1) if self.arms[at]]
-        return [self.enum_code(), self.answer_code(), self.at_code(), self.inside_code(), self.sum_code(), *links, self.put_code(), *self.public_code()]
+        return [self.enum_code(), self.answer_code(), self.at_code(), self.marks_code(), self.inside_code(), self.sum_code(), *links, self.put_code(), *self.public_code()]
 
     def enum_code(self):
         comment = f"// {self.declared.comment}\n" if self.declared.comment else ""
@@ -97,6 +97,11 @@ class Result(Kind):
             }};
             {self.answer}::Took {{ {took} }}
 """
+
+    def marks_code(self):
+        marks = [("f.marks()", True) if field and not field.codec else ("Marks::None", False) for field in self.arms]
+        cases = self.match_code(marks).replace("match x ", "match self ").replace("\n", "\n    ")
+        return f"impl {self.code_type} {{\n{self.marks_head()}\n    {{\n    {cases}\n    }}\n}}"
 
     def inside_code(self):
         tests = [(field.inside_of("f"), True) if field and not field.codec else ("true", False) for field in self.arms]
@@ -180,6 +185,7 @@ class Result(Kind):
         size = f"{start}Size"
         of = f"{self.status.meaning} {self.status.success} {self.formats()} {start}Arms"
         within = " ".join(arm.within if arm else "void-within" for arm in self.arms)
+        marked = " ".join(bracket(arm.marked if arm else "plain-marked void-unpadded") for arm in self.arms)
         bounds = ""
         for arm, (_, _, own) in zip(self.arms, self.cases()):
             law = arm.small("f") if arm and not arm.fixed else ""
@@ -188,6 +194,7 @@ class Result(Kind):
             f"-- {self.code_type}\npub {self.law} : OnStatus {of} {m}\nunfolding {m}\n{self.law} = record {{ is = refl }}",
             self.step_laws(),
             self.told_law(),
+            self.marked_law(f"status-marked {of} {self.status.meaning}-unpadded {marked}"),
             f"pub {m}-within : Within 0 ({m} .codec .kind)\nunfolding {m}\n{m}-within = status-within {of} {self.status.meaning}-within {within}",
             f"abbrev pub {size} : {T} → ℕ\n{size} x = resultSize {self.sizes()} ({start}From x)",
             f"abbrev pub {m}-writer : Writer {m}\n{m}-writer = record {{ size = {size}; sized = status-sized {self.sizes()} }}",
@@ -220,6 +227,8 @@ unfolding {m} {self.pieces(OPAQUE, *self.arms)}
             needs(count + sum(asked)) + [f"(λ c. search ({law}-inside {self.law}))" for law in self.told], unfolding=self.pieces(*self.arms)
         )
         proofs[f"{self.name}_size"] = Proof(self.size_proof())
+        ends = [f"(λ c. search ({', '.join([f'{law}-marks {self.law}'] + ['no-marks'] * bool(arm and arm.codec))}))" for arm, law in zip(self.arms, self.told)]
+        proofs.update(self.marks_proof(needs(count + sum(asked)) + ends))
         for at, arm in enumerate(self.arms):
             if arm:
                 proofs[f"put_{self.name}_{at + 1}"] = Proof(

@@ -97,3 +97,27 @@ def filled(heads, kinds):
             )
         groups.append(group)
     return tuple(groups)
+
+
+# The most marks that xdr's type Marks has room for.
+MOST_PIECES = 2
+
+
+def read_pieces(root, kinds):
+    """The pieces of each kind that has any: (kind, names of fields) for each of its cases."""
+    by_name, found = {kind.name: kind for kind in kinds}, []
+    for at, line in enumerate(read_text(root / "kinds.txt", root).splitlines(), 1):
+        if not line.startswith("# pieces: "):
+            continue
+        name, *cases = columns(line[len("# pieces: "):])
+        if name not in by_name or not cases or not all(cases):
+            raise Trouble(f"kinds.txt:{at}: pieces are `# pieces: KIND | FIELD ..`, with a list for each case")
+        cases = [tuple(case.split()) for case in cases]
+        counts = [len(case) for case in cases]
+        if len(set(counts)) != len(counts) or max(counts) > MOST_PIECES:
+            raise Trouble(f"kinds.txt:{at}: the cases of {name} have 1 to {MOST_PIECES} pieces, each another count")
+        found += [(by_name[name], case) for case in cases]
+    names = [kind.name for kind, _ in found]
+    if sorted(set(names), key=lambda name: by_name[name].number) != list(dict.fromkeys(names)):
+        raise Trouble("kinds.txt: the lines of pieces are in the order of the kinds, one for each")
+    return found

@@ -1,4 +1,4 @@
-// The lines about one message: `read`, `write`, `part` and `words`.
+// The lines about one message: `read`, `marks`, `write`, `part` and `words`.
 use crate::buffer::fill;
 use crate::kinds::KindAt;
 use crate::kinds::kind_at;
@@ -11,6 +11,7 @@ use crate::words::number_at;
 use door::Copied;
 use stdio::Out;
 use stdio::say;
+use xdr::Marks;
 use xdr::Piece;
 use xdr::Refusal;
 
@@ -47,8 +48,32 @@ fn took(out: &mut [u8], at: Out, next: usize, plain: bool, rewriting: &[u8]) -> 
     print::hex(out, k, rewriting)
 }
 
-// read KIND AT HEX
+// A letter for each piece: c for a clean one, d for a dirty one.
+fn letter(out: &mut [u8], at: Out, clean: bool) -> Out {
+    if clean {
+        return say(out, at, b"c");
+    }
+    say(out, at, b"d")
+}
+
+// What was read, and the marks of its pieces in the order of the fields.
+fn took_marks(out: &mut [u8], at: Out, next: usize, plain: bool, marks: Marks) -> Out {
+    let n = say(out, at, b"took");
+    let m = print::number(out, n, next);
+    let k = say(out, m, if plain { b" plain " } else { b" loose " });
+    match marks {
+        Marks::None => say(out, k, b"-"),
+        Marks::One(a) => letter(out, k, a),
+        Marks::Two(a, b) => {
+            let i = letter(out, k, a);
+            letter(out, i, b)
+        }
+    }
+}
+
+// read KIND AT HEX, and marks KIND AT HEX
 pub(crate) fn read(
+    for_marks: bool,
     line: &[u8],
     start: usize,
     message: &mut [u8],
@@ -84,14 +109,32 @@ pub(crate) fn read(
             refusal: r,
             next: _,
             plain: _,
+            marks: _,
         } => refusal(out, at, r),
-        Copied::Done { next, plain, end } => took(
-            out,
-            at,
+        Copied::Done {
             next,
             plain,
-            xdr::part(room, Piece { at: 0, count: end }),
-        ),
+            marks,
+            end,
+        } => {
+            if for_marks {
+                return took_marks(out, at, next, plain, marks);
+            }
+            took(
+                out,
+                at,
+                next,
+                plain,
+                xdr::part(
+                    room,
+                    Piece {
+                        at: 0,
+                        count: end,
+                        clean: true,
+                    },
+                ),
+            )
+        }
     }
 }
 
@@ -126,10 +169,12 @@ fn write_into(
             refusal: r,
             next: _,
             plain: _,
+            marks: _,
         } => refused(out, at, r, buf),
         Copied::Done {
             next: _,
             plain: _,
+            marks: _,
             end,
         } => wrote(out, at, end, buf),
     }
@@ -237,7 +282,11 @@ pub(crate) fn part(
     }
     let n = b.count;
     let src = &message[0..n];
-    let x = Piece { at: place, count };
+    let x = Piece {
+        at: place,
+        count,
+        clean: true,
+    };
     if are_words {
         return inside(out, at, xdr::words_inside(src, x), xdr::words_part(src, x));
     }

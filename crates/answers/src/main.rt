@@ -18,7 +18,7 @@ use stdio::Out;
 use stdio::flush;
 use stdio::say;
 
-// What a line asks for, by its first word; 13 where it is none of these.
+// What a line asks for, by its first word; 14 where it is none of these.
 fn verb_of(word: &[u8]) -> u32 {
     if check::same(word, b"read") {
         return 0;
@@ -59,7 +59,10 @@ fn verb_of(word: &[u8]) -> u32 {
     if check::same(word, b"list") {
         return 12;
     }
-    13
+    if check::same(word, b"marks") {
+        return 13;
+    }
+    14
 }
 
 // The answer to a question about a message.
@@ -73,9 +76,10 @@ fn of_message(
     at: Out,
 ) -> Out {
     match verb {
-        0 => items::read(line, s, message, room, out, at),
+        0 => items::read(false, line, s, message, room, out, at),
         1 => items::write(line, s, message, room, out, at),
         2 => items::part(line, s, false, message, out, at),
+        13 => items::read(true, line, s, message, room, out, at),
         _ => items::part(line, s, true, message, out, at),
     }
 }
@@ -121,7 +125,7 @@ fn of_mount(
 fn answer(line: &[u8], message: &mut [u8], room: &mut [u8], out: &mut [u8], at: Out) -> Out {
     let end = text::word_end(line, 0);
     let verb = verb_of(&line[0..end]);
-    if verb < 4 {
+    if verb < 4 || verb == 13 {
         return of_message(verb, line, end + 1, message, room, out, at);
     }
     if verb < 10 {

@@ -183,7 +183,11 @@ fn write_piece(
     else {
         return why::number(line, s, out, at);
     };
-    let x = Piece { at: place, count };
+    let x = Piece {
+        at: place,
+        count,
+        clean: true,
+    };
     write_with_room(list, line, s, source, x, room, out, at)
 }
 

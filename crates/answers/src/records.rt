@@ -325,6 +325,7 @@ fn feed_part(given: Assembler, run: &[u8], buf: &mut [u8], out: &mut [u8], at: O
                     Piece {
                         at: 0,
                         count: length,
+                        clean: true,
                     },
                 ),
             ),

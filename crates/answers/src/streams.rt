@@ -99,6 +99,7 @@ fn hear(h: Heard, run: &[u8], end: usize, buf: &mut [u8], out: &mut [u8]) -> Hea
                     Piece {
                         at: 0,
                         count: length,
+                        clean: true,
                     },
                 ),
                 out,
@@ -114,7 +115,14 @@ fn hear_next(h: Heard, n: usize, stream: &[u8], buf: &mut [u8], out: &mut [u8]) 
     let count = least_left(stream.len(), i, n);
     hear(
         h,
-        xdr::part(stream, Piece { at: i, count }),
+        xdr::part(
+            stream,
+            Piece {
+                at: i,
+                count,
+                clean: true,
+            },
+        ),
         stream.len(),
         buf,
         out,
@@ -177,7 +185,18 @@ fn hear_after_stop(h: Heard, stream: &[u8], buf: &mut [u8]) -> Heard {
     let i = h.used;
     let w = h.at;
     let count = least_left(stream.len(), i, stream.len());
-    let f = rpcwire::feed(s, xdr::part(stream, Piece { at: i, count }), buf);
+    let f = rpcwire::feed(
+        s,
+        xdr::part(
+            stream,
+            Piece {
+                at: i,
+                count,
+                clean: true,
+            },
+        ),
+        buf,
+    );
     Heard {
         state: state_of(f),
         used: further(stream.len(), i, used_of(f)),

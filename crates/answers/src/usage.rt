@@ -16,6 +16,10 @@ space. Bytes are hex, - for none; numbers are decimal and fit 64 bits.
   read KIND AT HEX             took NEXT plain|loose REWRITING, or a refusal
       read bool 0 00000100
       took 4 loose 00000001
+  marks KIND AT HEX            took NEXT plain|loose MARKS, or a refusal: a letter for each piece in the order of the
+                               fields, c where its padding was all zero and else d; - for none
+      marks diropargs3 0 00000001AA00000000000001BB0000CC
+      took 16 loose cd
   write KIND AT HEX ROOM START wrote NEXT BUFFER, or refused N BUFFER, or the refusal to read
       write bool 0 00000100 6 1
       wrote 5 ee00000001ee

@@ -1,5 +1,6 @@
 pub mod Copy
 pub mod Exports
+pub mod Marks
 pub mod Figures
 pub mod Values
 pub mod Given

@@ -1,6 +1,7 @@
 pub mod Copy
 pub mod Kinds
 pub mod Exports
+pub mod Marks
 pub mod Figures
 pub mod Values
 pub mod Given

@@ -1,6 +1,7 @@
 // What copying a message answers: it is read from one buffer and written, in published form, into another.
-ghost use Rattle.xdr.specs.Meaning.Views.{viewWrote};
+ghost use Rattle.xdr.specs.Meaning.Views.{viewMarks, viewWrote};
 ghost use Rattle.door.specs.Meaning.Copy.{Is, viewCopied, saidOf};
+use xdr::Marks;
 use xdr::Refusal;
 use xdr::Wrote;
 
@@ -9,30 +10,39 @@ pub enum Copied {
     Unknown,
     // The reading was refused.
     Unread(Refusal),
-    // The reading was taken, and the writing refused: the refusal, the place after what was read, and whether that was in published form.
+    // The reading was taken, and the writing refused: the refusal, the place after what was read, whether that was in published form, and the
+    // marks of its pieces.
     Unwritten {
         refusal: Refusal,
         next: usize,
         plain: bool,
+        marks: Marks,
     },
-    // The place after what was read, whether that was in published form, and the place after what was written.
+    // The place after what was read, whether that was in published form, the marks of its pieces, and the place after what was written.
     Done {
         next: usize,
         plain: bool,
+        marks: Marks,
         end: usize,
     },
 }
 
 // The answer of a reading that was taken, by what its writer says.
-pub(crate) fn copied_to(next: usize, plain: bool, w: Wrote) -> Copied
-    ensures { λ r. ⌜ Is (saidOf next plain) (viewWrote w) (viewCopied r) ⌝ }
+pub(crate) fn copied_to(next: usize, plain: bool, marks: Marks, w: Wrote) -> Copied
+    ensures { λ r. ⌜ Is (saidOf next plain (viewMarks marks)) (viewWrote w) (viewCopied r) ⌝ }
 {
     match w {
         Wrote::Refused(r) => Copied::Unwritten {
             refusal: r,
             next,
             plain,
+            marks,
         },
-        Wrote::Done(end) => Copied::Done { next, plain, end },
+        Wrote::Done(end) => Copied::Done {
+            next,
+            plain,
+            marks,
+            end,
+        },
     }
 }

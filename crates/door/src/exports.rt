@@ -47,11 +47,17 @@ fn tell_copied(c: Copied, info: &mut [u64]) -> u32
             refusal,
             next: _,
             plain: _,
+            marks: _,
         } => {
             put_figures(&[0, 0, refusal.needed() as u64], 0, info);
             refusal.number()
         }
-        Copied::Done { next, plain, end } => {
+        Copied::Done {
+            next,
+            plain,
+            marks: _,
+            end,
+        } => {
             put_figures(&[next as u64, bit(plain), end as u64], 0, info);
             0
         }
@@ -110,8 +116,14 @@ fn tell_judged(c: Copied, info: &mut [u64]) -> u32
             refusal,
             next,
             plain,
+            marks: _,
         } => tell_size(refusal, next, plain, info),
-        Copied::Done { next, plain, end } => {
+        Copied::Done {
+            next,
+            plain,
+            marks: _,
+            end,
+        } => {
             put_figures(&[next as u64, bit(plain), end as u64], 0, info);
             0
         }

@@ -31,6 +31,7 @@ use nfs::Symlinkdata3Read;
 use nfs::TimeHowRead;
 use nfs::WccAttrRead;
 use nfs::WccDataRead;
+use xdr::Marks;
 
 pub(crate) fn copy_time_how(src: &[u8], at: usize, out: &mut [u8], start: usize) -> Copied
     ensures { λ r. ⌜ Copies (exactly time-how) (now (src .entry)) at start (now (out .entry)) (viewCopied r) (now (out .exit)) ⌝ }
@@ -40,6 +41,7 @@ pub(crate) fn copy_time_how(src: &[u8], at: usize, out: &mut [u8], start: usize)
         TimeHowRead::Took { value: v, next: n } => copied_to(
             n,
             true,
+            Marks::None,
             nfs::write_time_how(v, out, start),
         ),
     }
@@ -53,6 +55,7 @@ pub(crate) fn copy_nfsstat3(src: &[u8], at: usize, out: &mut [u8], start: usize)
         Nfsstat3Read::Took { value: v, next: n } => copied_to(
             n,
             true,
+            Marks::None,
             nfs::write_nfsstat3(v, out, start),
         ),
     }
@@ -66,6 +69,7 @@ pub(crate) fn copy_ftype3(src: &[u8], at: usize, out: &mut [u8], start: usize) -
         Ftype3Read::Took { value: v, next: n } => copied_to(
             n,
             true,
+            Marks::None,
             nfs::write_ftype3(v, out, start),
         ),
     }
@@ -79,6 +83,7 @@ pub(crate) fn copy_specdata3(src: &[u8], at: usize, out: &mut [u8], start: usize
         Specdata3Read::Took { value: v, next: n } => copied_to(
             n,
             true,
+            Marks::None,
             nfs::write_specdata3(v, out, start),
         ),
     }
@@ -93,7 +98,7 @@ pub(crate) fn copy_nfs_fh3(src: &[u8], at: usize, out: &mut [u8], start: usize) 
             value: v,
             next: n,
             plain: p,
-        } => copied_to(n, p, nfs::write_nfs_fh3(src, v, out, start)),
+        } => copied_to(n, p, v.marks(), nfs::write_nfs_fh3(src, v, out, start)),
     }
 }
 
@@ -105,6 +110,7 @@ pub(crate) fn copy_nfstime3(src: &[u8], at: usize, out: &mut [u8], start: usize)
         Nfstime3Read::Took { value: v, next: n } => copied_to(
             n,
             true,
+            Marks::None,
             nfs::write_nfstime3(v, out, start),
         ),
     }
@@ -118,6 +124,7 @@ pub(crate) fn copy_fattr3(src: &[u8], at: usize, out: &mut [u8], start: usize) -
         Fattr3Read::Took { value: v, next: n } => copied_to(
             n,
             true,
+            Marks::None,
             nfs::write_fattr3(v, out, start),
         ),
     }
@@ -132,7 +139,7 @@ pub(crate) fn copy_fsinfo3(src: &[u8], at: usize, out: &mut [u8], start: usize) 
             value: v,
             next: n,
             plain: p,
-        } => copied_to(n, p, nfs::write_fsinfo3(v, out, start)),
+        } => copied_to(n, p, Marks::None, nfs::write_fsinfo3(v, out, start)),
     }
 }
 
@@ -144,6 +151,7 @@ pub(crate) fn copy_wcc_attr(src: &[u8], at: usize, out: &mut [u8], start: usize)
         WccAttrRead::Took { value: v, next: n } => copied_to(
             n,
             true,
+            Marks::None,
             nfs::write_wcc_attr(v, out, start),
         ),
     }
@@ -158,7 +166,7 @@ pub(crate) fn copy_pre_op_attr(src: &[u8], at: usize, out: &mut [u8], start: usi
             value: v,
             next: n,
             plain: p,
-        } => copied_to(n, p, nfs::write_pre_op_attr(v, out, start)),
+        } => copied_to(n, p, Marks::None, nfs::write_pre_op_attr(v, out, start)),
     }
 }
 
@@ -171,7 +179,7 @@ pub(crate) fn copy_post_op_attr(src: &[u8], at: usize, out: &mut [u8], start: us
             value: v,
             next: n,
             plain: p,
-        } => copied_to(n, p, nfs::write_post_op_attr(v, out, start)),
+        } => copied_to(n, p, Marks::None, nfs::write_post_op_attr(v, out, start)),
     }
 }
 
@@ -184,7 +192,7 @@ pub(crate) fn copy_wcc_data(src: &[u8], at: usize, out: &mut [u8], start: usize)
             value: v,
             next: n,
             plain: p,
-        } => copied_to(n, p, nfs::write_wcc_data(v, out, start)),
+        } => copied_to(n, p, Marks::None, nfs::write_wcc_data(v, out, start)),
     }
 }
 
@@ -197,7 +205,7 @@ pub(crate) fn copy_post_op_fh3(src: &[u8], at: usize, out: &mut [u8], start: usi
             value: v,
             next: n,
             plain: p,
-        } => copied_to(n, p, nfs::write_post_op_fh3(src, v, out, start)),
+        } => copied_to(n, p, v.marks(), nfs::write_post_op_fh3(src, v, out, start)),
     }
 }
 
@@ -210,7 +218,7 @@ pub(crate) fn copy_set_mode3(src: &[u8], at: usize, out: &mut [u8], start: usize
             value: v,
             next: n,
             plain: p,
-        } => copied_to(n, p, nfs::write_set_mode3(v, out, start)),
+        } => copied_to(n, p, Marks::None, nfs::write_set_mode3(v, out, start)),
     }
 }
 
@@ -223,7 +231,7 @@ pub(crate) fn copy_set_uid3(src: &[u8], at: usize, out: &mut [u8], start: usize)
             value: v,
             next: n,
             plain: p,
-        } => copied_to(n, p, nfs::write_set_uid3(v, out, start)),
+        } => copied_to(n, p, Marks::None, nfs::write_set_uid3(v, out, start)),
     }
 }
 
@@ -236,7 +244,7 @@ pub(crate) fn copy_set_gid3(src: &[u8], at: usize, out: &mut [u8], start: usize)
             value: v,
             next: n,
             plain: p,
-        } => copied_to(n, p, nfs::write_set_gid3(v, out, start)),
+        } => copied_to(n, p, Marks::None, nfs::write_set_gid3(v, out, start)),
     }
 }
 
@@ -249,7 +257,7 @@ pub(crate) fn copy_set_size3(src: &[u8], at: usize, out: &mut [u8], start: usize
             value: v,
             next: n,
             plain: p,
-        } => copied_to(n, p, nfs::write_set_size3(v, out, start)),
+        } => copied_to(n, p, Marks::None, nfs::write_set_size3(v, out, start)),
     }
 }
 
@@ -261,6 +269,7 @@ pub(crate) fn copy_set_atime(src: &[u8], at: usize, out: &mut [u8], start: usize
         SetAtimeRead::Took { value: v, next: n } => copied_to(
             n,
             true,
+            Marks::None,
             nfs::write_set_atime(v, out, start),
         ),
     }
@@ -274,6 +283,7 @@ pub(crate) fn copy_set_mtime(src: &[u8], at: usize, out: &mut [u8], start: usize
         SetMtimeRead::Took { value: v, next: n } => copied_to(
             n,
             true,
+            Marks::None,
             nfs::write_set_mtime(v, out, start),
         ),
     }
@@ -288,7 +298,7 @@ pub(crate) fn copy_sattr3(src: &[u8], at: usize, out: &mut [u8], start: usize) -
             value: v,
             next: n,
             plain: p,
-        } => copied_to(n, p, nfs::write_sattr3(v, out, start)),
+        } => copied_to(n, p, Marks::None, nfs::write_sattr3(v, out, start)),
     }
 }
 
@@ -301,7 +311,7 @@ pub(crate) fn copy_diropargs3(src: &[u8], at: usize, out: &mut [u8], start: usiz
             value: v,
             next: n,
             plain: p,
-        } => copied_to(n, p, nfs::write_diropargs3(src, v, out, start)),
+        } => copied_to(n, p, v.marks(), nfs::write_diropargs3(src, v, out, start)),
     }
 }
 
@@ -314,6 +324,6 @@ pub(crate) fn copy_symlinkdata3(src: &[u8], at: usize, out: &mut [u8], start: us
             value: v,
             next: n,
             plain: p,
-        } => copied_to(n, p, nfs::write_symlinkdata3(src, v, out, start)),
+        } => copied_to(n, p, v.marks(), nfs::write_symlinkdata3(src, v, out, start)),
     }
 }

@@ -9,6 +9,7 @@ use crate::copy::copied_to;
 use xdr::BoolRead;
 use xdr::I32Read;
 use xdr::I64Read;
+use xdr::Marks;
 use xdr::PieceRead;
 use xdr::U32Read;
 use xdr::U64Read;
@@ -22,7 +23,7 @@ pub(crate) fn copy_bool(src: &[u8], at: usize, out: &mut [u8], start: usize) -> 
             value: v,
             next: n,
             plain: p,
-        } => copied_to(n, p, xdr::write_bool(v, out, start)),
+        } => copied_to(n, p, Marks::None, xdr::write_bool(v, out, start)),
     }
 }
 
@@ -31,7 +32,12 @@ pub(crate) fn copy_i32(src: &[u8], at: usize, out: &mut [u8], start: usize) -> C
 {
     match xdr::read_i32(src, at) {
         I32Read::Refused(r) => Copied::Unread(r),
-        I32Read::Took { value: v, next: n } => copied_to(n, true, xdr::write_i32(v, out, start)),
+        I32Read::Took { value: v, next: n } => copied_to(
+            n,
+            true,
+            Marks::None,
+            xdr::write_i32(v, out, start),
+        ),
     }
 }
 
@@ -40,7 +46,12 @@ pub(crate) fn copy_i64(src: &[u8], at: usize, out: &mut [u8], start: usize) -> C
 {
     match xdr::read_i64(src, at) {
         I64Read::Refused(r) => Copied::Unread(r),
-        I64Read::Took { value: v, next: n } => copied_to(n, true, xdr::write_i64(v, out, start)),
+        I64Read::Took { value: v, next: n } => copied_to(
+            n,
+            true,
+            Marks::None,
+            xdr::write_i64(v, out, start),
+        ),
     }
 }
 
@@ -49,7 +60,12 @@ pub(crate) fn copy_u32(src: &[u8], at: usize, out: &mut [u8], start: usize) -> C
 {
     match xdr::read_u32(src, at) {
         U32Read::Refused(r) => Copied::Unread(r),
-        U32Read::Took { value: v, next: n } => copied_to(n, true, xdr::write_u32(v, out, start)),
+        U32Read::Took { value: v, next: n } => copied_to(
+            n,
+            true,
+            Marks::None,
+            xdr::write_u32(v, out, start),
+        ),
     }
 }
 
@@ -58,7 +74,12 @@ pub(crate) fn copy_u64(src: &[u8], at: usize, out: &mut [u8], start: usize) -> C
 {
     match xdr::read_u64(src, at) {
         U64Read::Refused(r) => Copied::Unread(r),
-        U64Read::Took { value: v, next: n } => copied_to(n, true, xdr::write_u64(v, out, start)),
+        U64Read::Took { value: v, next: n } => copied_to(
+            n,
+            true,
+            Marks::None,
+            xdr::write_u64(v, out, start),
+        ),
     }
 }
 
@@ -67,7 +88,12 @@ pub(crate) fn copy_eight(src: &[u8], at: usize, out: &mut [u8], start: usize) ->
 {
     match xdr::read_eight(src, at) {
         U64Read::Refused(r) => Copied::Unread(r),
-        U64Read::Took { value: v, next: n } => copied_to(n, true, xdr::write_eight(v, out, start)),
+        U64Read::Took { value: v, next: n } => copied_to(
+            n,
+            true,
+            Marks::None,
+            xdr::write_eight(v, out, start),
+        ),
     }
 }
 
@@ -80,7 +106,7 @@ pub(crate) fn copy_opaque(src: &[u8], at: usize, out: &mut [u8], start: usize) -
             value: v,
             next: n,
             plain: p,
-        } => copied_to(n, p, xdr::write_opaque(src, v, out, start)),
+        } => copied_to(n, p, v.marks(), xdr::write_opaque(src, v, out, start)),
     }
 }
 
@@ -93,6 +119,6 @@ pub(crate) fn copy_words(src: &[u8], at: usize, out: &mut [u8], start: usize) ->
             value: v,
             next: n,
             plain: p,
-        } => copied_to(n, p, xdr::write_words(src, v, out, start)),
+        } => copied_to(n, p, v.marks(), xdr::write_words(src, v, out, start)),
     }
 }

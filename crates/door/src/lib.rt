@@ -11,6 +11,7 @@ mod messages;
 mod mounts;
 mod procedures;
 // end of copiers
+pub mod marks;
 pub mod mounting;
 pub mod replies;
 pub mod values_read;

@@ -34,6 +34,7 @@ use rpc::ReplyBodyRead;
 use rpc::ReplyStatRead;
 use rpc::RpcBodyRead;
 use rpc::RpcMsgRead;
+use xdr::Marks;
 
 pub(crate) fn copy_msg_type(src: &[u8], at: usize, out: &mut [u8], start: usize) -> Copied
     ensures { λ r. ⌜ Copies (exactly msg-type) (now (src .entry)) at start (now (out .entry)) (viewCopied r) (now (out .exit)) ⌝ }
@@ -43,6 +44,7 @@ pub(crate) fn copy_msg_type(src: &[u8], at: usize, out: &mut [u8], start: usize)
         MsgTypeRead::Took { value: v, next: n } => copied_to(
             n,
             true,
+            Marks::None,
             rpc::write_msg_type(v, out, start),
         ),
     }
@@ -56,6 +58,7 @@ pub(crate) fn copy_reply_stat(src: &[u8], at: usize, out: &mut [u8], start: usiz
         ReplyStatRead::Took { value: v, next: n } => copied_to(
             n,
             true,
+            Marks::None,
             rpc::write_reply_stat(v, out, start),
         ),
     }
@@ -69,6 +72,7 @@ pub(crate) fn copy_accept_stat(src: &[u8], at: usize, out: &mut [u8], start: usi
         AcceptStatRead::Took { value: v, next: n } => copied_to(
             n,
             true,
+            Marks::None,
             rpc::write_accept_stat(v, out, start),
         ),
     }
@@ -82,6 +86,7 @@ pub(crate) fn copy_reject_stat(src: &[u8], at: usize, out: &mut [u8], start: usi
         RejectStatRead::Took { value: v, next: n } => copied_to(
             n,
             true,
+            Marks::None,
             rpc::write_reject_stat(v, out, start),
         ),
     }
@@ -95,6 +100,7 @@ pub(crate) fn copy_auth_stat(src: &[u8], at: usize, out: &mut [u8], start: usize
         AuthStatRead::Took { value: v, next: n } => copied_to(
             n,
             true,
+            Marks::None,
             rpc::write_auth_stat(v, out, start),
         ),
     }
@@ -108,6 +114,7 @@ pub(crate) fn copy_auth_flavor(src: &[u8], at: usize, out: &mut [u8], start: usi
         AuthFlavorRead::Took { value: v, next: n } => copied_to(
             n,
             true,
+            Marks::None,
             rpc::write_auth_flavor(v, out, start),
         ),
     }
@@ -122,7 +129,7 @@ pub(crate) fn copy_auth_unix(src: &[u8], at: usize, out: &mut [u8], start: usize
             value: v,
             next: n,
             plain: p,
-        } => copied_to(n, p, rpc::write_auth_unix(src, v, out, start)),
+        } => copied_to(n, p, v.marks(), rpc::write_auth_unix(src, v, out, start)),
     }
 }
 
@@ -135,7 +142,7 @@ pub(crate) fn copy_opaque_auth(src: &[u8], at: usize, out: &mut [u8], start: usi
             value: v,
             next: n,
             plain: p,
-        } => copied_to(n, p, rpc::write_opaque_auth(src, v, out, start)),
+        } => copied_to(n, p, v.marks(), rpc::write_opaque_auth(src, v, out, start)),
     }
 }
 
@@ -148,7 +155,7 @@ pub(crate) fn copy_rpc_msg(src: &[u8], at: usize, out: &mut [u8], start: usize) 
             value: v,
             next: n,
             plain: p,
-        } => copied_to(n, p, rpc::write_rpc_msg(src, v, out, start)),
+        } => copied_to(n, p, v.marks(), rpc::write_rpc_msg(src, v, out, start)),
     }
 }
 
@@ -161,7 +168,7 @@ pub(crate) fn copy_rpc_body(src: &[u8], at: usize, out: &mut [u8], start: usize)
             value: v,
             next: n,
             plain: p,
-        } => copied_to(n, p, rpc::write_rpc_body(src, v, out, start)),
+        } => copied_to(n, p, v.marks(), rpc::write_rpc_body(src, v, out, start)),
     }
 }
 
@@ -174,7 +181,7 @@ pub(crate) fn copy_call_body(src: &[u8], at: usize, out: &mut [u8], start: usize
             value: v,
             next: n,
             plain: p,
-        } => copied_to(n, p, rpc::write_call_body(src, v, out, start)),
+        } => copied_to(n, p, v.marks(), rpc::write_call_body(src, v, out, start)),
     }
 }
 
@@ -187,7 +194,7 @@ pub(crate) fn copy_reply_body(src: &[u8], at: usize, out: &mut [u8], start: usiz
             value: v,
             next: n,
             plain: p,
-        } => copied_to(n, p, rpc::write_reply_body(src, v, out, start)),
+        } => copied_to(n, p, v.marks(), rpc::write_reply_body(src, v, out, start)),
     }
 }
 
@@ -200,7 +207,12 @@ pub(crate) fn copy_accepted_reply(src: &[u8], at: usize, out: &mut [u8], start: 
             value: v,
             next: n,
             plain: p,
-        } => copied_to(n, p, rpc::write_accepted_reply(src, v, out, start)),
+        } => copied_to(
+            n,
+            p,
+            v.marks(),
+            rpc::write_accepted_reply(src, v, out, start),
+        ),
     }
 }
 
@@ -213,7 +225,7 @@ pub(crate) fn copy_accept_body(src: &[u8], at: usize, out: &mut [u8], start: usi
             value: v,
             next: n,
             plain: p,
-        } => copied_to(n, p, rpc::write_accept_body(v, out, start)),
+        } => copied_to(n, p, Marks::None, rpc::write_accept_body(v, out, start)),
     }
 }
 
@@ -226,7 +238,7 @@ pub(crate) fn copy_rejected_reply(src: &[u8], at: usize, out: &mut [u8], start: 
             value: v,
             next: n,
             plain: p,
-        } => copied_to(n, p, rpc::write_rejected_reply(v, out, start)),
+        } => copied_to(n, p, Marks::None, rpc::write_rejected_reply(v, out, start)),
     }
 }
 
@@ -238,6 +250,7 @@ pub(crate) fn copy_mismatch_info(src: &[u8], at: usize, out: &mut [u8], start: u
         MismatchInfoRead::Took { value: v, next: n } => copied_to(
             n,
             true,
+            Marks::None,
             rpc::write_mismatch_info(v, out, start),
         ),
     }
@@ -256,6 +269,7 @@ pub(crate) fn copy_current_accept_stat(
         CurrentAcceptStatRead::Took { value: v, next: n } => copied_to(
             n,
             true,
+            Marks::None,
             rpc::write_current_accept_stat(v, out, start),
         ),
     }
@@ -269,6 +283,7 @@ pub(crate) fn copy_current_auth_stat(src: &[u8], at: usize, out: &mut [u8], star
         CurrentAuthStatRead::Took { value: v, next: n } => copied_to(
             n,
             true,
+            Marks::None,
             rpc::write_current_auth_stat(v, out, start),
         ),
     }
@@ -288,7 +303,12 @@ pub(crate) fn copy_current_accept_body(
             value: v,
             next: n,
             plain: p,
-        } => copied_to(n, p, rpc::write_current_accept_body(v, out, start)),
+        } => copied_to(
+            n,
+            p,
+            Marks::None,
+            rpc::write_current_accept_body(v, out, start),
+        ),
     }
 }
 
@@ -306,7 +326,12 @@ pub(crate) fn copy_current_accepted_reply(
             value: v,
             next: n,
             plain: p,
-        } => copied_to(n, p, rpc::write_current_accepted_reply(src, v, out, start)),
+        } => copied_to(
+            n,
+            p,
+            v.marks(),
+            rpc::write_current_accepted_reply(src, v, out, start),
+        ),
     }
 }
 
@@ -324,7 +349,12 @@ pub(crate) fn copy_current_rejected_reply(
             value: v,
             next: n,
             plain: p,
-        } => copied_to(n, p, rpc::write_current_rejected_reply(v, out, start)),
+        } => copied_to(
+            n,
+            p,
+            Marks::None,
+            rpc::write_current_rejected_reply(v, out, start),
+        ),
     }
 }
 
@@ -337,7 +367,12 @@ pub(crate) fn copy_current_reply_body(src: &[u8], at: usize, out: &mut [u8], sta
             value: v,
             next: n,
             plain: p,
-        } => copied_to(n, p, rpc::write_current_reply_body(src, v, out, start)),
+        } => copied_to(
+            n,
+            p,
+            v.marks(),
+            rpc::write_current_reply_body(src, v, out, start),
+        ),
     }
 }
 
@@ -350,7 +385,12 @@ pub(crate) fn copy_current_rpc_body(src: &[u8], at: usize, out: &mut [u8], start
             value: v,
             next: n,
             plain: p,
-        } => copied_to(n, p, rpc::write_current_rpc_body(src, v, out, start)),
+        } => copied_to(
+            n,
+            p,
+            v.marks(),
+            rpc::write_current_rpc_body(src, v, out, start),
+        ),
     }
 }
 
@@ -363,6 +403,11 @@ pub(crate) fn copy_current_rpc_msg(src: &[u8], at: usize, out: &mut [u8], start:
             value: v,
             next: n,
             plain: p,
-        } => copied_to(n, p, rpc::write_current_rpc_msg(src, v, out, start)),
+        } => copied_to(
+            n,
+            p,
+            v.marks(),
+            rpc::write_current_rpc_msg(src, v, out, start),
+        ),
     }
 }

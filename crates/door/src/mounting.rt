@@ -2,7 +2,7 @@
 ghost use mathlib.Core.List.{_∷_};
 ghost use Prim.Native.Nat.{_≤_};
 ghost use lib.ListN.{length};
-ghost use mathlib.Core.Bool.{cond};
+ghost use mathlib.Core.Bool.{true, cond};
 ghost use Rattle.xdr.specs.Meaning.Formats.{bytes};
 ghost use Rattle.rpcwire.specs.Meaning.Views.{viewCaller};
 ghost use Rattle.mount.specs.Meaning.Path.{longPath};
@@ -266,12 +266,21 @@ pub extern "C" fn yugerzat_write_dirpath(
     start: usize,
     info: &mut [u64],
 ) -> u32
-    ensures { λ r. ⌜ WithinCalled bytes longPath (now (src .entry)) (record { at = place; count = count }) start (now (out .entry)) (now (info .entry)) r (now (out .exit)) (now (info .exit)) ⌝ }
+    ensures { λ r. ⌜ WithinCalled bytes longPath (now (src .entry)) (record { at = place; count = count; clean = true }) start (now (out .entry)) (now (info .entry)) r (now (out .exit)) (now (info .exit)) ⌝ }
 {
     if info.len() < 1 {
         return SHORT_LIST;
     }
-    let w = write_dirpath(src, Piece { at: place, count }, out, start);
+    let w = write_dirpath(
+        src,
+        Piece {
+            at: place,
+            count,
+            clean: true,
+        },
+        out,
+        start,
+    );
     tell_wrote(w, info)
 }
 
@@ -285,12 +294,21 @@ pub extern "C" fn yugerzat_write_exports(
     start: usize,
     info: &mut [u64],
 ) -> u32
-    ensures { λ r. ⌜ WithinCalled nodes longList (now (src .entry)) (record { at = place; count = count }) start (now (out .entry)) (now (info .entry)) r (now (out .exit)) (now (info .exit)) ⌝ }
+    ensures { λ r. ⌜ WithinCalled nodes longList (now (src .entry)) (record { at = place; count = count; clean = true }) start (now (out .entry)) (now (info .entry)) r (now (out .exit)) (now (info .exit)) ⌝ }
 {
     if info.len() < 1 {
         return SHORT_LIST;
     }
-    let w = write_exports(src, Piece { at: place, count }, out, start);
+    let w = write_exports(
+        src,
+        Piece {
+            at: place,
+            count,
+            clean: true,
+        },
+        out,
+        start,
+    );
     tell_wrote(w, info)
 }
 
@@ -326,7 +344,7 @@ pub extern "C" fn yugerzat_same_exports(
     b_count: usize,
     info: &mut [u64],
 ) -> u32
-    ensures { λ r. ⌜ SameCalled (now (a .entry)) (record { at = «a_place»; count = «a_count» }) (now (b .entry)) (record { at = «b_place»; count = «b_count» }) (now (info .entry)) r (now (info .exit)) ⌝ }
+    ensures { λ r. ⌜ SameCalled (now (a .entry)) (record { at = «a_place»; count = «a_count»; clean = true }) (now (b .entry)) (record { at = «b_place»; count = «b_count»; clean = true }) (now (info .entry)) r (now (info .exit)) ⌝ }
 {
     if info.len() < 1 {
         return SHORT_LIST;
@@ -336,11 +354,13 @@ pub extern "C" fn yugerzat_same_exports(
         Piece {
             at: a_place,
             count: a_count,
+            clean: true,
         },
         b,
         Piece {
             at: b_place,
             count: b_count,
+            clean: true,
         },
     );
     tell_compared(c, info)

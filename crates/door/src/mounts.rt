@@ -11,6 +11,7 @@ use crate::copy::copied_to;
 use mount::MappingRead;
 use mount::Mountres3Read;
 use mount::Mountstat3Read;
+use xdr::Marks;
 use xdr::PieceRead;
 
 pub(crate) fn copy_dirpath(src: &[u8], at: usize, out: &mut [u8], start: usize) -> Copied
@@ -22,7 +23,7 @@ pub(crate) fn copy_dirpath(src: &[u8], at: usize, out: &mut [u8], start: usize) 
             value: v,
             next: n,
             plain: p,
-        } => copied_to(n, p, mount::write_dirpath(src, v, out, start)),
+        } => copied_to(n, p, v.marks(), mount::write_dirpath(src, v, out, start)),
     }
 }
 
@@ -34,6 +35,7 @@ pub(crate) fn copy_mountstat3(src: &[u8], at: usize, out: &mut [u8], start: usiz
         Mountstat3Read::Took { value: v, next: n } => copied_to(
             n,
             true,
+            Marks::None,
             mount::write_mountstat3(v, out, start),
         ),
     }
@@ -48,7 +50,7 @@ pub(crate) fn copy_mountres3(src: &[u8], at: usize, out: &mut [u8], start: usize
             value: v,
             next: n,
             plain: p,
-        } => copied_to(n, p, mount::write_mountres3(src, v, out, start)),
+        } => copied_to(n, p, v.marks(), mount::write_mountres3(src, v, out, start)),
     }
 }
 
@@ -61,7 +63,7 @@ pub(crate) fn copy_exports(src: &[u8], at: usize, out: &mut [u8], start: usize) 
             value: v,
             next: n,
             plain: p,
-        } => copied_to(n, p, mount::write_exports(src, v, out, start)),
+        } => copied_to(n, p, v.marks(), mount::write_exports(src, v, out, start)),
     }
 }
 
@@ -73,6 +75,7 @@ pub(crate) fn copy_mapping(src: &[u8], at: usize, out: &mut [u8], start: usize) 
         MappingRead::Took { value: v, next: n } => copied_to(
             n,
             true,
+            Marks::None,
             mount::write_mapping(v, out, start),
         ),
     }

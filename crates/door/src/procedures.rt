@@ -21,6 +21,7 @@ use nfsfile::Lookup3resRead;
 use nfsfile::Sattrguard3Read;
 use nfsfile::Setattr3argsRead;
 use nfsfile::Setattr3resRead;
+use xdr::Marks;
 
 pub(crate) fn copy_stable_how(src: &[u8], at: usize, out: &mut [u8], start: usize) -> Copied
     ensures { λ r. ⌜ Copies (exactly stable-how) (now (src .entry)) at start (now (out .entry)) (viewCopied r) (now (out .exit)) ⌝ }
@@ -30,6 +31,7 @@ pub(crate) fn copy_stable_how(src: &[u8], at: usize, out: &mut [u8], start: usiz
         StableHowRead::Took { value: v, next: n } => copied_to(
             n,
             true,
+            Marks::None,
             nfsdata::write_stable_how(v, out, start),
         ),
     }
@@ -44,7 +46,7 @@ pub(crate) fn copy_sattrguard3(src: &[u8], at: usize, out: &mut [u8], start: usi
             value: v,
             next: n,
             plain: p,
-        } => copied_to(n, p, nfsfile::write_sattrguard3(v, out, start)),
+        } => copied_to(n, p, Marks::None, nfsfile::write_sattrguard3(v, out, start)),
     }
 }
 
@@ -57,7 +59,12 @@ pub(crate) fn copy_getattr3args(src: &[u8], at: usize, out: &mut [u8], start: us
             value: v,
             next: n,
             plain: p,
-        } => copied_to(n, p, nfsfile::write_getattr3args(src, v, out, start)),
+        } => copied_to(
+            n,
+            p,
+            v.marks(),
+            nfsfile::write_getattr3args(src, v, out, start),
+        ),
     }
 }
 
@@ -69,6 +76,7 @@ pub(crate) fn copy_getattr3res(src: &[u8], at: usize, out: &mut [u8], start: usi
         Getattr3resRead::Took { value: v, next: n } => copied_to(
             n,
             true,
+            v.marks(),
             nfsfile::write_getattr3res(src, v, out, start),
         ),
     }
@@ -83,7 +91,12 @@ pub(crate) fn copy_setattr3args(src: &[u8], at: usize, out: &mut [u8], start: us
             value: v,
             next: n,
             plain: p,
-        } => copied_to(n, p, nfsfile::write_setattr3args(src, v, out, start)),
+        } => copied_to(
+            n,
+            p,
+            v.marks(),
+            nfsfile::write_setattr3args(src, v, out, start),
+        ),
     }
 }
 
@@ -96,7 +109,12 @@ pub(crate) fn copy_setattr3res(src: &[u8], at: usize, out: &mut [u8], start: usi
             value: v,
             next: n,
             plain: p,
-        } => copied_to(n, p, nfsfile::write_setattr3res(src, v, out, start)),
+        } => copied_to(
+            n,
+            p,
+            v.marks(),
+            nfsfile::write_setattr3res(src, v, out, start),
+        ),
     }
 }
 
@@ -109,7 +127,12 @@ pub(crate) fn copy_lookup3args(src: &[u8], at: usize, out: &mut [u8], start: usi
             value: v,
             next: n,
             plain: p,
-        } => copied_to(n, p, nfsfile::write_lookup3args(src, v, out, start)),
+        } => copied_to(
+            n,
+            p,
+            v.marks(),
+            nfsfile::write_lookup3args(src, v, out, start),
+        ),
     }
 }
 
@@ -122,7 +145,12 @@ pub(crate) fn copy_lookup3res(src: &[u8], at: usize, out: &mut [u8], start: usiz
             value: v,
             next: n,
             plain: p,
-        } => copied_to(n, p, nfsfile::write_lookup3res(src, v, out, start)),
+        } => copied_to(
+            n,
+            p,
+            v.marks(),
+            nfsfile::write_lookup3res(src, v, out, start),
+        ),
     }
 }
 
@@ -135,7 +163,12 @@ pub(crate) fn copy_read3args(src: &[u8], at: usize, out: &mut [u8], start: usize
             value: v,
             next: n,
             plain: p,
-        } => copied_to(n, p, nfsdata::write_read3args(src, v, out, start)),
+        } => copied_to(
+            n,
+            p,
+            v.marks(),
+            nfsdata::write_read3args(src, v, out, start),
+        ),
     }
 }
 
@@ -148,7 +181,7 @@ pub(crate) fn copy_read3res(src: &[u8], at: usize, out: &mut [u8], start: usize)
             value: v,
             next: n,
             plain: p,
-        } => copied_to(n, p, nfsdata::write_read3res(src, v, out, start)),
+        } => copied_to(n, p, v.marks(), nfsdata::write_read3res(src, v, out, start)),
     }
 }
 
@@ -161,7 +194,12 @@ pub(crate) fn copy_write3args(src: &[u8], at: usize, out: &mut [u8], start: usiz
             value: v,
             next: n,
             plain: p,
-        } => copied_to(n, p, nfsdata::write_write3args(src, v, out, start)),
+        } => copied_to(
+            n,
+            p,
+            v.marks(),
+            nfsdata::write_write3args(src, v, out, start),
+        ),
     }
 }
 
@@ -174,6 +212,11 @@ pub(crate) fn copy_write3res(src: &[u8], at: usize, out: &mut [u8], start: usize
             value: v,
             next: n,
             plain: p,
-        } => copied_to(n, p, nfsdata::write_write3res(src, v, out, start)),
+        } => copied_to(
+            n,
+            p,
+            v.marks(),
+            nfsdata::write_write3res(src, v, out, start),
+        ),
     }
 }

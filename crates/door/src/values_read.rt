@@ -2,7 +2,7 @@
 // list holds the place after the value, 1 if it was in published form and else 0, and the value's figures. A refusal: its place,
 // how many bytes it wants, and zeros.
 ghost use mathlib.Core.Path.{_≡_};
-ghost use mathlib.Core.Bool.{cond};
+ghost use mathlib.Core.Bool.{true, cond};
 ghost use mathlib.Core.List.{[], _∷_, _++_};
 ghost use Prim.Native.Nat.{_+_, _≤_};
 ghost use lib.ListN.{length, drop, replicate};
@@ -51,12 +51,19 @@ use xdr::inside;
 // Whether a piece lies inside a message: 0 and the piece, or 4 and the empty piece at the start.
 #[no_mangle]
 pub extern "C" fn yugerzat_part(message: &[u8], at: usize, count: usize, info: &mut [u64]) -> u32
-    ensures { λ r. ⌜ PartCalled (now (message .entry)) (record { at = at; count = count }) (now (info .entry)) r (now (info .exit)) ⌝ }
+    ensures { λ r. ⌜ PartCalled (now (message .entry)) (record { at = at; count = count; clean = true }) (now (info .entry)) r (now (info .exit)) ⌝ }
 {
     if info.len() < 2 {
         return SHORT_LIST;
     }
-    if inside(message, Piece { at, count }) {
+    if inside(
+        message,
+        Piece {
+            at,
+            count,
+            clean: true,
+        },
+    ) {
         put_figures(&[at as u64, count as u64], 0, info);
         return 0;
     }
@@ -377,7 +384,14 @@ pub extern "C" fn yugerzat_read_auth_unix(
     if info.len() < 9 {
         return SHORT_LIST;
     }
-    let v = read_auth_unix_in(message, Piece { at, count });
+    let v = read_auth_unix_in(
+        message,
+        Piece {
+            at,
+            count,
+            clean: true,
+        },
+    );
     match v {
         AuthUnixRead::Refused(r) => tell_refused(r, 7, info),
         AuthUnixRead::Took { value, next, plain } => {

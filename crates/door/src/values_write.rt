@@ -161,11 +161,13 @@ pub extern "C" fn yugerzat_write_diropargs3(
             data: Piece {
                 at: fields[0] as usize,
                 count: fields[1] as usize,
+                clean: true,
             },
         },
         name: Piece {
             at: fields[2] as usize,
             count: fields[3] as usize,
+            clean: true,
         },
     };
     let w = write_diropargs3_from(dirs, names, v, out, start);
@@ -354,6 +356,7 @@ fn call_of(fields: &[u64], cred: auth_flavor, verf: auth_flavor) -> call_body
             body: Piece {
                 at: fields[6] as usize,
                 count: fields[7] as usize,
+                clean: true,
             },
         },
         verf: opaque_auth {
@@ -361,6 +364,7 @@ fn call_of(fields: &[u64], cred: auth_flavor, verf: auth_flavor) -> call_body
             body: Piece {
                 at: fields[9] as usize,
                 count: fields[10] as usize,
+                clean: true,
             },
         },
     }
@@ -436,12 +440,14 @@ fn unix_of(fields: &[u64]) -> auth_unix
         machinename: Piece {
             at: fields[1] as usize,
             count: fields[2] as usize,
+            clean: true,
         },
         uid: (fields[3] % WORDS) as u32,
         gid: (fields[4] % WORDS) as u32,
         gids: Piece {
             at: fields[5] as usize,
             count: fields[6] as usize,
+            clean: true,
         },
     }
 }

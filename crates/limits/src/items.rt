@@ -34,6 +34,7 @@ fn front(buf: &[u8], length: usize) -> &[u8] {
         Piece {
             at: 0,
             count: length,
+            clean: true,
         },
     )
 }
@@ -57,8 +58,14 @@ fn copied(out: &mut [u8], at: Out, c: Copied) -> Out {
             refusal: r,
             next: _,
             plain: _,
+            marks: _,
         } => print::refusal(out, at, r),
-        Copied::Done { next, plain, end } => took(out, at, next, plain, end),
+        Copied::Done {
+            next,
+            plain,
+            marks: _,
+            end,
+        } => took(out, at, next, plain, end),
     }
 }
 
@@ -167,7 +174,11 @@ pub(crate) fn write(
     out: &mut [u8],
     at: Out,
 ) -> Out {
-    let x = Piece { at: piece, count };
+    let x = Piece {
+        at: piece,
+        count,
+        clean: true,
+    };
     let m = write_words(out, at, kind, length, x, n, start);
     if room.len() < n {
         return m;

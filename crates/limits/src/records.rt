@@ -97,6 +97,7 @@ fn run(
     let x = Piece {
         at: from,
         count: length,
+        clean: true,
     };
     let r = rpcwire::feed(s, xdr::part(stream, x), buf);
     fed(out, w, r)
@@ -278,6 +279,7 @@ pub(crate) fn fragment(
     let x = Piece {
         at: 0,
         count: length,
+        clean: true,
     };
     fragment_into(xdr::part(message, x), &mut room[0..n], start, out, m)
 }

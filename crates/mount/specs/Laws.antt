@@ -7,6 +7,7 @@ pub mod Ask
 pub mod One
 pub mod Pairs
 pub mod Same
+pub mod Marked
 -- made by tools/generate: laws
 pub mod Mnt
 pub mod Portmap

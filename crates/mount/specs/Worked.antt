@@ -34,7 +34,7 @@ abbrev path : List ℕ
 path = 0 ∷ 0 ∷ 0 ∷ 2 ∷ 0x2F ∷ 0x61 ∷ 0 ∷ 0 ∷ []
 
 -- MNT in version 3; in version 1, which is answered though the path is there; DUMP; NULL of the port mapper; GETPORT with one word of four
-pub worked : (due (header 0xA5 3 1 path) false ≡ mnt none (record { at = 44; count = 2 }) 48)
+pub worked : (due (header 0xA5 3 1 path) false ≡ mnt none (record { at = 44; count = 2; clean = true }) 48)
     × (due (header 0xA5 1 1 path) false ≡ reply (progMismatch 7 3))
     × (due (header 0xA5 3 2 []) false ≡ reply (procUnavail 7))
     × (due (header 0xA0 2 0 []) false ≡ reply (success 7))
@@ -52,12 +52,12 @@ published = 0 ∷ 0 ∷ 0 ∷ 1 ∷ 0 ∷ 0 ∷ 0 ∷ 2 ∷ 0x2F ∷ 0x61 ∷ 0 
 
 -- read: one entry, 32 bytes, not plain; and what it means is written in published form, which is plain. The same without its last flag
 -- wants four bytes at 28. The entry at place 0, and the end at 28. It does not lie inside as a list of two
-pub listed : (exports .held .read odd 0 ≡ took (record { at = 0; count = 1 }) 32 false)
-    × (output exports odd (record { at = 0; count = 1 }) ≡ published)
-    × (exports .held .read published 0 ≡ took (record { at = 0; count = 1 }) 32 true)
+pub listed : (exports .held .read odd 0 ≡ took (record { at = 0; count = 1; clean = false }) 32 false)
+    × (output exports odd (record { at = 0; count = 1; clean = false }) ≡ published)
+    × (exports .held .read published 0 ≡ took (record { at = 0; count = 1; clean = true }) 32 true)
     × (exports .held .read (take 28 odd) 0 ≡ refused (Ended 28 4))
-    × (next-export .held .read odd 0 ≡ took (nextExportIs.Export (record { «ex_dir» = record { at = 8; count = 2 }; «ex_groups» = record { at = 12; count = 1 } })) 28 false)
+    × (next-export .held .read odd 0 ≡ took (nextExportIs.Export (record { «ex_dir» = record { at = 8; count = 2; clean = true }; «ex_groups» = record { at = 12; count = 1; clean = false } })) 28 false)
     × (next-export .held .read odd 28 ≡ took nextExportIs.End 32 true)
-    × (exports .held .inside odd (record { at = 0; count = 2 }) ≡ false)
+    × (exports .held .inside odd (record { at = 0; count = 2; clean = true }) ≡ false)
 unfolding number word flag opaque pieceHeld groups node nodes exports next-node next-export
 listed = (refl, refl, refl, refl, refl, refl, refl)

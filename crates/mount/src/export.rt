@@ -13,8 +13,7 @@ ghost use Rattle.xdr.specs.Laws.Fields.{Lays};
 ghost use Rattle.xdr.specs.Laws.Laying.{LaysFrom};
 ghost use Rattle.mount.specs.Meaning.Group.{groups};
 ghost use Rattle.mount.specs.Laws.Export.{overBound};
-ghost use Rattle.mount.specs.declared.export.Walked.the-variants.{Within};
-ghost use Rattle.mount.specs.Meaning.Export.{node, nodes, longList, next-node, next-export, exports, viewNode, lostNode, viewNextExport, lostNextExport, orLong, finished, walked};
+ghost use Rattle.mount.specs.Meaning.Export.{node, nodes, longList, next-node, next-export, exports, viewNode, lostNode, viewNextExport, lostNextExport, orLong, finished, walkOf, WalkedWithin};
 use crate::group::groups_at;
 use crate::group::put_groups;
 use crate::path::MNTPATHLEN;
@@ -38,7 +37,7 @@ pub struct exportnode {
     pub ex_groups: Piece,
 }
 
-// An export list: the place of its first flag, and the count of its entries.
+// An export list: the place of its first flag, and the count of its entries, with one mark over them all.
 pub type exports = Piece;
 
 pub enum ExportnodeRead {
@@ -71,13 +70,14 @@ pub enum Long {
     At(usize),
 }
 
-// A list from its first flag to its end: whether all its paths are within the bound, or where the first is that is not.
+// A list from its first flag to its end: whether all its paths are within the bound, or where the first is that is not. `clean` is its mark.
 pub enum Walked {
     Refused(Refusal),
     Within {
         count: usize,
         next: usize,
         plain: bool,
+        clean: bool,
     },
     Over {
         count: usize,
@@ -196,11 +196,12 @@ fn or_long(long: Long, here: usize, n: usize, next: usize) -> Long
 
 // All entries from a place on: a loop, and no recursion, so a long list needs no stack.
 pub fn walk(src: &[u8], at: usize) -> Walked
-    ensures { λ r. ⌜ r ≡ walked at (nodes .codec .kind .read (now (src .entry)) at) ⌝ }
+    ensures { λ r. ⌜ r ≡ walkOf (now (src .entry)) at ⌝ }
 {
     let mut here = at;
     let mut count: usize = 0;
     let mut plain = true;
+    let mut clean = true;
     let mut long = Long::Nowhere;
     loop {
         let step = next_node_at(src, here);
@@ -213,21 +214,28 @@ pub fn walk(src: &[u8], at: usize) -> Walked
             return Walked::Refused(step.refusal());
         };
         let NextExport::Export(v) = value else {
-            return finish(long, count, next, plain & p);
+            return finish(long, count, next, plain & p, clean);
         };
         let dir = v.ex_dir;
+        let groups = v.ex_groups;
         long = or_long(long, here, dir.count, next);
         here = next;
         count += 1;
         plain = plain & p;
+        clean = clean & dir.clean & groups.clean;
     }
 }
 
-fn finish(long: Long, count: usize, next: usize, plain: bool) -> Walked
-    ensures { λ r. ⌜ r ≡ finished long count next plain ⌝ }
+fn finish(long: Long, count: usize, next: usize, plain: bool, clean: bool) -> Walked
+    ensures { λ r. ⌜ r ≡ finished long count next plain clean ⌝ }
 {
     match long {
-        Long::Nowhere => Walked::Within { count, next, plain },
+        Long::Nowhere => Walked::Within {
+            count,
+            next,
+            plain,
+            clean,
+        },
         Long::At(place) => Walked::Over { count, place },
     }
 }
@@ -237,8 +245,13 @@ pub fn exports_at(src: &[u8], at: usize) -> PieceRead
 {
     match walk(src, at) {
         Walked::Refused(r) => PieceRead::Refused(r),
-        Walked::Within { count, next, plain } => PieceRead::Took {
-            value: Piece { at, count },
+        Walked::Within {
+            count,
+            next,
+            plain,
+            clean,
+        } => PieceRead::Took {
+            value: Piece { at, count, clean },
             next,
             plain,
         },
@@ -366,16 +379,8 @@ fn refuse_long(source: usize, inside: bool, room: usize, at: usize) -> Wrote
 }
 
 // A list that was walked, and is within the bound.
-fn write_walked(
-    src: &[u8],
-    x: Piece,
-    count: usize,
-    next: usize,
-    plain: bool,
-    out: &mut [u8],
-    at: usize,
-) -> Wrote
-    requires { ⌜ Within count next plain ≡ walked (x .at) (nodes .codec .kind .read (now src) (x .at)) ⌝ }
+fn write_walked(src: &[u8], x: Piece, count: usize, next: usize, out: &mut [u8], at: usize) -> Wrote
+    requires { ⌜ WalkedWithin (now src) (x .at) count next ⌝ }
     ensures { λ r. ⌜ WritesWithin nodes longList (now (src .entry)) x at (now (out .entry)) (viewWrote r) (now (out .exit)) ⌝ }
 {
     let from = x.at;
@@ -394,7 +399,12 @@ pub fn write_exports(src: &[u8], x: Piece, out: &mut [u8], at: usize) -> Wrote
 {
     match walk(src, x.at) {
         Walked::Refused(_) => refuse_long(src.len(), false, out.len(), at),
-        Walked::Within { count, next, plain } => write_walked(src, x, count, next, plain, out, at),
+        Walked::Within {
+            count,
+            next,
+            plain: _,
+            clean: _,
+        } => write_walked(src, x, count, next, out, at),
         Walked::Over { count, place: _ } => refuse_long(src.len(), count == x.count, out.len(), at),
     }
 }

@@ -1,5 +1,5 @@
 // Groups of an export (RFC 1813, appendix I): a list of names, each behind a true flag, and a false flag at its end. A list is held as the place
-// of its first flag and the count of its names.
+// of its first flag and the count of its names, with one mark over them all.
 ghost use mathlib.Core.Path.{_≡_};
 ghost use mathlib.Core.Bool.{true};
 ghost use Rattle.xdr.specs.Meaning.Items.{flag};
@@ -93,6 +93,7 @@ pub fn groups_at(src: &[u8], at: usize) -> PieceRead
     let mut here = at;
     let mut count: usize = 0;
     let mut plain = true;
+    let mut clean = true;
     loop {
         let step = next_group_at(src, here);
         let NextGroupRead::Took {
@@ -103,9 +104,9 @@ pub fn groups_at(src: &[u8], at: usize) -> PieceRead
         else {
             return PieceRead::Refused(step.refusal());
         };
-        let NextGroup::Name(_) = value else {
+        let NextGroup::Name(name) = value else {
             return PieceRead::Took {
-                value: Piece { at, count },
+                value: Piece { at, count, clean },
                 next,
                 plain: plain & p,
             };
@@ -113,6 +114,7 @@ pub fn groups_at(src: &[u8], at: usize) -> PieceRead
         here = next;
         count += 1;
         plain = plain & p;
+        clean = clean & name.clean;
     }
 }
 

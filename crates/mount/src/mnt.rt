@@ -7,11 +7,13 @@ ghost use Rattle.xdr.specs.Meaning.Format.{exactly, _⨟_};
 ghost use Rattle.xdr.specs.Meaning.Formats.{bytes, wordList};
 ghost use Rattle.xdr.specs.Meaning.Sizes.{OfSize};
 ghost use Rattle.xdr.specs.Meaning.Public.{laid, Answers, Writes, laidOf};
-ghost use Rattle.xdr.specs.Meaning.Views.{viewWrote};
+ghost use Rattle.xdr.specs.Meaning.Marks.{MarksAre};
+ghost use Rattle.xdr.specs.Meaning.Views.{viewWrote, viewMarks};
 ghost use Rattle.xdr.specs.Laws.Fields.{Lays};
 ghost use Rattle.mount.specs.Laws.Mnt.{mountresOkSize, mountresSize};
 ghost use Rattle.mount.specs.Meaning.Mnt.{mountfailNumber, mountstat, mountstatNumber, foundMountstat3, mountstatAll, lostMountstat3, viewMountstat3, lostMountres3Ok, viewMountres3Ok, mountres-ok, lostMountres3, viewMountres3, mountres};
 use xdr::MOST;
+use xdr::Marks;
 use xdr::Piece;
 use xdr::PieceRead;
 use xdr::Refusal;
@@ -225,6 +227,16 @@ pub fn mountres3_ok_at(src: &[u8], at: usize) -> Mountres3OkRead
     }
 }
 
+impl mountres3_ok {
+    pub fn marks(self) -> Marks
+        ensures { λ r. ⌜ MarksAre mountres-ok self (viewMarks r) ⌝ }
+    {
+        let f1 = self.fhandle;
+        let f2 = self.auth_flavors;
+        Marks::Two(f1.clean, f2.clean)
+    }
+}
+
 pub fn mountres3_ok_inside(src: &[u8], x: mountres3_ok) -> bool
     ensures { λ r. ⌜ r ≡ mountres-ok .held .inside (now (src .entry)) x ⌝ }
 {
@@ -333,6 +345,17 @@ pub fn mountres3_at(src: &[u8], at: usize) -> Mountres3Read
                 next: n1,
                 plain: true,
             }
+        }
+    }
+}
+
+impl mountres3 {
+    pub fn marks(self) -> Marks
+        ensures { λ r. ⌜ MarksAre mountres self (viewMarks r) ⌝ }
+    {
+        match self {
+            mountres3::MNT3_OK(f) => f.marks(),
+            mountres3::Failed(_) => Marks::None,
         }
     }
 }

@@ -52,6 +52,7 @@ fn stands(src: &[u8], x: Piece) -> Standing
             count,
             next: _,
             plain: _,
+            clean: _,
         } => with_count(count, n, Standing::Within),
         Walked::Over { count, place: _ } => with_count(count, n, Standing::Long),
     }

@@ -8,6 +8,7 @@ pub mod Bytes
 pub mod Lengths
 pub mod One
 pub mod Sources
+pub mod Unpadded
 -- made by tools/generate: laws
 pub mod Change
 pub mod Dir

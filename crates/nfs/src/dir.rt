@@ -6,7 +6,8 @@ ghost use Rattle.xdr.specs.Meaning.Items.{flag};
 ghost use Rattle.xdr.specs.Meaning.Format.{exactly, _⨟_};
 ghost use Rattle.xdr.specs.Meaning.Formats.{bytes};
 ghost use Rattle.xdr.specs.Meaning.Public.{laidOf, Answers, Writes};
-ghost use Rattle.xdr.specs.Meaning.Views.{viewWrote};
+ghost use Rattle.xdr.specs.Meaning.Marks.{MarksAre};
+ghost use Rattle.xdr.specs.Meaning.Views.{viewMarks, viewWrote};
 ghost use Rattle.xdr.specs.Laws.Fields.{Lays};
 ghost use Rattle.nfs.specs.Laws.Dir.{nfsFhSize, postOpFhSize, diropargsSize, symlinkdataSize};
 ghost use Rattle.nfs.specs.Meaning.Dir.{lostNfsFh3, viewNfsFh3, nfs-fh, lostPostOpFh3, viewPostOpFh3, post-op-fh, lostDiropargs3, viewDiropargs3, diropargs, lostSymlinkdata3, viewSymlinkdata3, symlinkdata};
@@ -18,6 +19,7 @@ use crate::put::set::sattr3_size;
 use crate::set::sattr3;
 use xdr::BoolRead;
 use xdr::MOST;
+use xdr::Marks;
 use xdr::Piece;
 use xdr::PieceRead;
 use xdr::Refusal;
@@ -84,6 +86,15 @@ pub fn nfs_fh3_at(src: &[u8], at: usize) -> NfsFh3Read
         value: nfs_fh3 { data },
         next: n1,
         plain: p1,
+    }
+}
+
+impl nfs_fh3 {
+    pub fn marks(self) -> Marks
+        ensures { λ r. ⌜ MarksAre nfs-fh self (viewMarks r) ⌝ }
+    {
+        let f1 = self.data;
+        Marks::One(f1.clean)
     }
 }
 
@@ -195,6 +206,17 @@ pub fn post_op_fh3_at(src: &[u8], at: usize) -> PostOpFh3Read
         value: post_op_fh3::handle(v),
         next: n2,
         plain: p1 & p2,
+    }
+}
+
+impl post_op_fh3 {
+    pub fn marks(self) -> Marks
+        ensures { λ r. ⌜ MarksAre post-op-fh self (viewMarks r) ⌝ }
+    {
+        match self {
+            post_op_fh3::Void => Marks::None,
+            post_op_fh3::handle(f) => f.marks(),
+        }
     }
 }
 
@@ -327,6 +349,17 @@ pub fn diropargs3_at(src: &[u8], at: usize) -> Diropargs3Read
     }
 }
 
+impl diropargs3 {
+    pub fn marks(self) -> Marks
+        ensures { λ r. ⌜ MarksAre diropargs self (viewMarks r) ⌝ }
+    {
+        let f1 = self.dir;
+        let f2 = f1.data;
+        let f3 = self.name;
+        Marks::Two(f2.clean, f3.clean)
+    }
+}
+
 pub fn diropargs3_inside(src: &[u8], x: diropargs3) -> bool
     ensures { λ r. ⌜ r ≡ diropargs .held .inside (now (src .entry)) x ⌝ }
 {
@@ -454,6 +487,15 @@ pub fn symlinkdata3_at(src: &[u8], at: usize) -> Symlinkdata3Read
         },
         next: n2,
         plain: p1 & p2,
+    }
+}
+
+impl symlinkdata3 {
+    pub fn marks(self) -> Marks
+        ensures { λ r. ⌜ MarksAre symlinkdata self (viewMarks r) ⌝ }
+    {
+        let f1 = self.symlink_data;
+        Marks::One(f1.clean)
     }
 }
 

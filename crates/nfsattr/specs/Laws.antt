@@ -9,3 +9,4 @@ pub mod Status
 pub mod Bytes
 pub mod Lengths
 pub mod One
+pub mod Unpadded

@@ -6,7 +6,8 @@ ghost use Rattle.xdr.specs.Meaning.Items.{hyper, word, flag};
 ghost use Rattle.xdr.specs.Meaning.Format.{exactly, _⨟_};
 ghost use Rattle.xdr.specs.Meaning.Formats.{bytes};
 ghost use Rattle.xdr.specs.Meaning.Public.{laidOf, Answers, Writes, laid};
-ghost use Rattle.xdr.specs.Meaning.Views.{viewWrote};
+ghost use Rattle.xdr.specs.Meaning.Marks.{MarksAre};
+ghost use Rattle.xdr.specs.Meaning.Views.{viewMarks, viewWrote};
 ghost use Rattle.xdr.specs.Laws.Fields.{Lays};
 ghost use Rattle.nfs.specs.Meaning.Dir.{nfs-fh};
 ghost use Rattle.nfsattr.specs.Meaning.Attr.{post-op-attr};
@@ -33,6 +34,7 @@ use nfsattr::stat::nfsfail3;
 use nfsattr::stat::nfsstat3;
 use xdr::BoolRead;
 use xdr::MOST;
+use xdr::Marks;
 use xdr::Piece;
 use xdr::PieceRead;
 use xdr::Refusal;
@@ -119,6 +121,16 @@ pub fn read3args_at(src: &[u8], at: usize) -> Read3argsRead
         },
         next: n3,
         plain: p1,
+    }
+}
+
+impl READ3args {
+    pub fn marks(self) -> Marks
+        ensures { λ r. ⌜ MarksAre read-args self (viewMarks r) ⌝ }
+    {
+        let f1 = self.file;
+        let f2 = f1.data;
+        Marks::One(f2.clean)
     }
 }
 
@@ -279,6 +291,15 @@ pub fn read3resok_at(src: &[u8], at: usize) -> Read3resokRead
         },
         next: n4,
         plain: p1 & p3 & p4,
+    }
+}
+
+impl READ3resok {
+    pub fn marks(self) -> Marks
+        ensures { λ r. ⌜ MarksAre read-resok self (viewMarks r) ⌝ }
+    {
+        let f1 = self.data;
+        Marks::One(f1.clean)
     }
 }
 
@@ -480,6 +501,17 @@ pub fn read3res_at(src: &[u8], at: usize) -> Read3resRead
                 next: n2,
                 plain: p2,
             }
+        }
+    }
+}
+
+impl READ3res {
+    pub fn marks(self) -> Marks
+        ensures { λ r. ⌜ MarksAre read-res self (viewMarks r) ⌝ }
+    {
+        match self {
+            READ3res::NFS3_OK(f) => f.marks(),
+            READ3res::Failed(_, _) => Marks::None,
         }
     }
 }

@@ -9,7 +9,8 @@ ghost use Rattle.xdr.specs.Meaning.Format.{exactly, _⨟_};
 ghost use Rattle.xdr.specs.Meaning.Formats.{bytes};
 ghost use Rattle.xdr.specs.Meaning.Sizes.{OfSize};
 ghost use Rattle.xdr.specs.Meaning.Public.{laid, Answers, Writes, laidOf};
-ghost use Rattle.xdr.specs.Meaning.Views.{viewWrote};
+ghost use Rattle.xdr.specs.Meaning.Marks.{MarksAre};
+ghost use Rattle.xdr.specs.Meaning.Views.{viewWrote, viewMarks};
 ghost use Rattle.xdr.specs.Laws.Fields.{Lays};
 ghost use Rattle.nfs.specs.Meaning.Dir.{nfs-fh};
 ghost use Rattle.nfsattr.specs.Meaning.Attr.{wcc-data};
@@ -36,6 +37,7 @@ use nfsattr::put::stat::put_nfsstat3;
 use nfsattr::stat::nfsfail3;
 use nfsattr::stat::nfsstat3;
 use xdr::MOST;
+use xdr::Marks;
 use xdr::Piece;
 use xdr::PieceRead;
 use xdr::Refusal;
@@ -235,6 +237,17 @@ pub fn write3args_at(src: &[u8], at: usize) -> Write3argsRead
         },
         next: n5,
         plain: p1 & p5,
+    }
+}
+
+impl WRITE3args {
+    pub fn marks(self) -> Marks
+        ensures { λ r. ⌜ MarksAre write-args self (viewMarks r) ⌝ }
+    {
+        let f1 = self.file;
+        let f2 = f1.data;
+        let f3 = self.data;
+        Marks::Two(f2.clean, f3.clean)
     }
 }
 
@@ -612,6 +625,17 @@ pub fn write3res_at(src: &[u8], at: usize) -> Write3resRead
                 next: n2,
                 plain: p2,
             }
+        }
+    }
+}
+
+impl WRITE3res {
+    pub fn marks(self) -> Marks
+        ensures { λ r. ⌜ MarksAre write-res self (viewMarks r) ⌝ }
+    {
+        match self {
+            WRITE3res::NFS3_OK(_) => Marks::None,
+            WRITE3res::Failed(_, _) => Marks::None,
         }
     }
 }

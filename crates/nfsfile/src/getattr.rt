@@ -4,7 +4,8 @@ ghost use mathlib.Core.Path.{_≡_};
 ghost use Rattle.xdr.specs.Meaning.Format.{exactly, _⨟_};
 ghost use Rattle.xdr.specs.Meaning.Sizes.{OfSize};
 ghost use Rattle.xdr.specs.Meaning.Public.{laidOf, Answers, Writes, laid};
-ghost use Rattle.xdr.specs.Meaning.Views.{viewWrote};
+ghost use Rattle.xdr.specs.Meaning.Marks.{MarksAre};
+ghost use Rattle.xdr.specs.Meaning.Views.{viewMarks, viewWrote};
 ghost use Rattle.xdr.specs.Laws.Fields.{Lays};
 ghost use Rattle.nfsattr.specs.Meaning.Stat.{nfsstat};
 ghost use Rattle.nfsfile.specs.Laws.Getattr.{getattrArgsSize, getattrResSize};
@@ -25,6 +26,7 @@ use nfsattr::put::stat::put_nfsstat3;
 use nfsattr::stat::nfsfail3;
 use nfsattr::stat::nfsstat3;
 use xdr::MOST;
+use xdr::Marks;
 use xdr::Refusal;
 use xdr::Wrote;
 use xdr::order::Opening;
@@ -75,6 +77,16 @@ pub fn getattr3args_at(src: &[u8], at: usize) -> Getattr3argsRead
         value: GETATTR3args { object },
         next: n1,
         plain: p1,
+    }
+}
+
+impl GETATTR3args {
+    pub fn marks(self) -> Marks
+        ensures { λ r. ⌜ MarksAre getattr-args self (viewMarks r) ⌝ }
+    {
+        let f1 = self.object;
+        let f2 = f1.data;
+        Marks::One(f2.clean)
     }
 }
 
@@ -227,6 +239,17 @@ pub fn getattr3res_at(src: &[u8], at: usize) -> Getattr3resRead
                 value: GETATTR3res::Failed(e),
                 next: n1,
             }
+        }
+    }
+}
+
+impl GETATTR3res {
+    pub fn marks(self) -> Marks
+        ensures { λ r. ⌜ MarksAre getattr-res self (viewMarks r) ⌝ }
+    {
+        match self {
+            GETATTR3res::NFS3_OK(_) => Marks::None,
+            GETATTR3res::Failed(_) => Marks::None,
         }
     }
 }

@@ -4,7 +4,8 @@ ghost use mathlib.Core.Path.{_≡_};
 ghost use lib.ListN.{length};
 ghost use Rattle.xdr.specs.Meaning.Format.{exactly, _⨟_};
 ghost use Rattle.xdr.specs.Meaning.Public.{laidOf, Answers, Writes, laid};
-ghost use Rattle.xdr.specs.Meaning.Views.{viewWrote};
+ghost use Rattle.xdr.specs.Meaning.Marks.{MarksAre};
+ghost use Rattle.xdr.specs.Meaning.Views.{viewMarks, viewWrote};
 ghost use Rattle.xdr.specs.Laws.Fields.{Lays};
 ghost use Rattle.nfs.specs.Meaning.Dir.{nfs-fh};
 ghost use Rattle.nfsattr.specs.Meaning.Attr.{post-op-attr};
@@ -34,6 +35,7 @@ use nfsattr::put::stat::put_nfsstat3;
 use nfsattr::stat::nfsfail3;
 use nfsattr::stat::nfsstat3;
 use xdr::MOST;
+use xdr::Marks;
 use xdr::Refusal;
 use xdr::Wrote;
 use xdr::order::Opening;
@@ -84,6 +86,18 @@ pub fn lookup3args_at(src: &[u8], at: usize) -> Lookup3argsRead
         value: LOOKUP3args { what },
         next: n1,
         plain: p1,
+    }
+}
+
+impl LOOKUP3args {
+    pub fn marks(self) -> Marks
+        ensures { λ r. ⌜ MarksAre lookup-args self (viewMarks r) ⌝ }
+    {
+        let f1 = self.what;
+        let f2 = f1.dir;
+        let f3 = f2.data;
+        let f4 = f1.name;
+        Marks::Two(f3.clean, f4.clean)
     }
 }
 
@@ -202,6 +216,16 @@ pub fn lookup3resok_at(src: &[u8], at: usize) -> Lookup3resokRead
         },
         next: n3,
         plain: p1 & p2 & p3,
+    }
+}
+
+impl LOOKUP3resok {
+    pub fn marks(self) -> Marks
+        ensures { λ r. ⌜ MarksAre lookup-resok self (viewMarks r) ⌝ }
+    {
+        let f1 = self.object;
+        let f2 = f1.data;
+        Marks::One(f2.clean)
     }
 }
 
@@ -394,6 +418,17 @@ pub fn lookup3res_at(src: &[u8], at: usize) -> Lookup3resRead
                 next: n2,
                 plain: p2,
             }
+        }
+    }
+}
+
+impl LOOKUP3res {
+    pub fn marks(self) -> Marks
+        ensures { λ r. ⌜ MarksAre lookup-res self (viewMarks r) ⌝ }
+    {
+        match self {
+            LOOKUP3res::NFS3_OK(f) => f.marks(),
+            LOOKUP3res::Failed(_, _) => Marks::None,
         }
     }
 }

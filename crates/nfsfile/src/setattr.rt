@@ -7,7 +7,8 @@ ghost use lib.ListN.{length};
 ghost use Rattle.xdr.specs.Meaning.Items.{flag};
 ghost use Rattle.xdr.specs.Meaning.Format.{exactly, _⨟_};
 ghost use Rattle.xdr.specs.Meaning.Public.{laid, Answers, Writes, laidOf};
-ghost use Rattle.xdr.specs.Meaning.Views.{viewWrote};
+ghost use Rattle.xdr.specs.Meaning.Marks.{MarksAre};
+ghost use Rattle.xdr.specs.Meaning.Views.{viewWrote, viewMarks};
 ghost use Rattle.xdr.specs.Laws.Fields.{Lays};
 ghost use Rattle.nfs.specs.Meaning.Dir.{nfs-fh};
 ghost use Rattle.nfs.specs.Meaning.Set.{sattr};
@@ -42,6 +43,7 @@ use nfsattr::stat::nfsfail3;
 use nfsattr::stat::nfsstat3;
 use xdr::BoolRead;
 use xdr::MOST;
+use xdr::Marks;
 use xdr::Refusal;
 use xdr::Wrote;
 use xdr::inner::bool_at;
@@ -229,6 +231,16 @@ pub fn setattr3args_at(src: &[u8], at: usize) -> Setattr3argsRead
         },
         next: n3,
         plain: p1 & p2 & p3,
+    }
+}
+
+impl SETATTR3args {
+    pub fn marks(self) -> Marks
+        ensures { λ r. ⌜ MarksAre setattr-args self (viewMarks r) ⌝ }
+    {
+        let f1 = self.object;
+        let f2 = f1.data;
+        Marks::One(f2.clean)
     }
 }
 
@@ -508,6 +520,17 @@ pub fn setattr3res_at(src: &[u8], at: usize) -> Setattr3resRead
                 next: n2,
                 plain: p2,
             }
+        }
+    }
+}
+
+impl SETATTR3res {
+    pub fn marks(self) -> Marks
+        ensures { λ r. ⌜ MarksAre setattr-res self (viewMarks r) ⌝ }
+    {
+        match self {
+            SETATTR3res::NFS3_OK(_) => Marks::None,
+            SETATTR3res::Failed(_, _) => Marks::None,
         }
     }
 }

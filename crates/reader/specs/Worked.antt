@@ -55,12 +55,12 @@ pub taken : mkdir .held .read bytes 0
               prog = 100003;
               vers = 3;
               proc = 9;
-              cred = record { flavor = «AUTH_NULL»; body = record { at = 32; count = 0 } };
-              verf = record { flavor = «AUTH_NULL»; body = record { at = 40; count = 0 } };
+              cred = record { flavor = «AUTH_NULL»; body = record { at = 32; count = 0; clean = true } };
+              verf = record { flavor = «AUTH_NULL»; body = record { at = 40; count = 0; clean = true } };
             });
       },
       (
-        record { dir = record { «data» = record { at = 44; count = 4 } }; name = record { at = 52; count = 2 } },
+        record { dir = record { «data» = record { at = 44; count = 4; clean = true } }; name = record { at = 52; count = 2; clean = true } },
         record { mode = mode.mode 493; uid = uid.Void; gid = gid.Void; size = size.Void; atime = atime.«DONT_CHANGE»; mtime = mtime.«DONT_CHANGE» },
       ),
     )

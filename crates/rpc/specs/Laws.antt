@@ -15,3 +15,4 @@ pub mod UnixKept
 pub mod Stray
 pub mod Current
 pub mod Readings
+pub mod Marked

@@ -3,6 +3,7 @@
 pub mod answer;
 mod fit;
 pub mod inner;
+mod marks;
 pub mod message;
 mod put;
 mod read;

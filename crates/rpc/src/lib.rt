@@ -9,6 +9,7 @@ pub mod current;
 mod fit;
 pub mod inner;
 mod makers;
+mod marks;
 pub mod message;
 mod put;
 mod read;

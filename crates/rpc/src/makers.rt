@@ -19,7 +19,11 @@ pub(crate) fn no_auth() -> opaque_auth
 {
     opaque_auth {
         flavor: auth_flavor::AUTH_NULL,
-        body: Piece { at: 0, count: 0 },
+        body: Piece {
+            at: 0,
+            count: 0,
+            clean: true,
+        },
     }
 }
 

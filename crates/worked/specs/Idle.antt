@@ -130,36 +130,36 @@ module _ {M S : Type 0} (F : Format M S) where
         n (sym (held-of m .2) ∙ writes-nothing (bytesOf m) (bytesOf m′) (held-of m .0) (held-of m′ .0) 0 o (c .1) (d .1) ∙ held-of m′ .2)
 
   -- 4. A rewriter that copies its input: of a reading that is not plain, what is written is never the bytes that were read.
-  module _ (s : List ℕ) (at start : ℕ) (o o′ : List ℕ) (hb : Bytes s) {n e : ℕ} (same : part o′ start e ≡ part s at n) where
+  module _ (s : List ℕ) (at start : ℕ) (o o′ : List ℕ) (hb : Bytes s) {n e : ℕ} {l : List Bool} (same : part o′ start e ≡ part s at n) where
     by-writing : (x : S) → opened s at (F .held .read s at) ≡ took x n false → (w : Written) → writing F s x start (length o) ≡ w
-        → made n false e ≡ saidOf n false w → o′ ≡ leaving F s x w start o → ⊥
-    by-writing x t (unwritten r) k h l =
+        → made n false l e ≡ saidOf n false (F .held .marks s x) w → o′ ≡ leaving F s x w start o → ⊥
+    by-writing x t (unwritten r) k h v =
         let z : _≡_ {A = ℕ} 0 1 = cc h in omega arith
-    by-writing x t (done d) k h l =
+    by-writing x t (done d) k h v =
         let f : e ≡ d = cc h in
         let y : Took F = record { source = s; place = at; value = x; next = n; plain = false; answers = record { is = sym t; bytes = hb } } in
-        let b = wrote-back F s x start o (record { says = sym k; leaves = l; good = kept F .in-range y }) .bytes in
+        let b = wrote-back F s x start o (record { says = sym k; leaves = v; good = kept F .in-range y }) .bytes in
         let p : false ≡ true = kept F .plain-iff y .1 (sym same ∙ ap (part o′ start) f ∙ b) in
         let z : _≡_ {A = ℕ} 0 1 = cc p in omega arith
 
-    by-reading : (a : Answer S) → opened s at (F .held .read s at) ≡ a → made n false e ≡ copySaid F s start o a → o′ ≡ copyLeft F s start o a → ⊥
-    by-reading (refused r) t h l =
+    by-reading : (a : Answer S) → opened s at (F .held .read s at) ≡ a → made n false l e ≡ copySaid F s start o a → o′ ≡ copyLeft F s start o a → ⊥
+    by-reading (refused r) t h v =
         let z : _≡_ {A = ℕ} 0 1 = cc h in omega arith
-    by-reading (took x k b) t h l = by-said (writing F s x start (length o)) refl h l
+    by-reading (took x k b) t h v = by-said (writing F s x start (length o)) refl h v
       where
-        by-said : (w : Written) → writing F s x start (length o) ≡ w → made n false e ≡ saidOf k b w → o′ ≡ leaving F s x w start o → ⊥
+        by-said : (w : Written) → writing F s x start (length o) ≡ w → made n false l e ≡ saidOf k b (F .held .marks s x) w → o′ ≡ leaving F s x w start o → ⊥
         by-said (unwritten r) u g m =
             let z : _≡_ {A = ℕ} 0 1 = cc g in omega arith
         by-said (done d) u g m =
             let f : opened s at (F .held .read s at) ≡ took x n false = cc (t, g) in
-            let f′ : made n false e ≡ made n false d = cc g in
+            let f′ : made n false l e ≡ made n false (F .held .marks s x) d = cc g in
             by-writing x f (done d) u f′ m
 
-    pub copies-input : Copies F s at start o (made n false e) o′ → ⊥
+    pub copies-input : Copies F s at start o (made n false l e) o′ → ⊥
     copies-input c = by-reading (opened s at (F .held .read s at)) refl (c .says) (c .leaves)
 
 -- A flag of 256 is such a reading: the copy is not of its bytes.
-pub loose-copied : Copies (exactly flag) (0 ∷ 0 ∷ 1 ∷ 0 ∷ []) 0 0 (7 ∷ 7 ∷ 7 ∷ 7 ∷ []) (made 4 false 4) (0 ∷ 0 ∷ 0 ∷ 1 ∷ [])
+pub loose-copied : Copies (exactly flag) (0 ∷ 0 ∷ 1 ∷ 0 ∷ []) 0 0 (7 ∷ 7 ∷ 7 ∷ 7 ∷ []) (made 4 false [] 4) (0 ∷ 0 ∷ 0 ∷ 1 ∷ [])
 unfolding opened writing placing number word flag
 loose-copied = record { says = refl; leaves = refl }
 

@@ -5,5 +5,6 @@ pub mod Table
 pub mod Worked
 pub mod Procedures
 pub mod EveryAnswer
+pub mod EveryMark
 pub mod Readings
 pub mod Streams

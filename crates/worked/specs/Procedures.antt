@@ -46,11 +46,11 @@ rows =
     (0 ∷ 0 ∷ 0 ∷ 1 ∷ 9 ∷ 0 ∷ 0 ∷ 0 ∷ 0 ∷ 0 ∷ 0 ∷ 0 ∷ 0 ∷ 0 ∷ 0 ∷ 7 ∷ 0 ∷ 0 ∷ 0 ∷ 1 ∷ 0 ∷ 0 ∷ 0 ∷ 2 ∷ 0 ∷ 0 ∷ 0 ∷ 1 ∷ 0xAA ∷ 0 ∷ 0 ∷ 0 ∷ []) 0
     (took
     (record {
-      file = record { «data» = record { at = 4; count = 1 } };
+      file = record { «data» = record { at = 4; count = 1; clean = true } };
       offset = 7;
       count = 1;
       stable = «FILE_SYNC»;
-      «data» = record { at = 28; count = 1 };
+      «data» = record { at = 28; count = 1; clean = true };
     })
     32
     true)
@@ -61,7 +61,7 @@ unfolding opened number word hyper flag opaque pieceHeld nfsstat post-op-attr pr
 worked = ((refl, refl), ((refl, refl), ((refl, refl), ((refl, refl), ((refl, refl), ((refl, refl), (refl, tt)))))))
 
 -- by number: 1 is GETATTR, and 4 is another procedure
-pub first : readBy (0 ∷ 0 ∷ 0 ∷ 0 ∷ []) 0 argumentsByNumber 1 ≡ some (took (is.GETATTR (record { object = record { «data» = record { at = 4; count = 0 } } })) 4 true)
+pub first : readBy (0 ∷ 0 ∷ 0 ∷ 0 ∷ []) 0 argumentsByNumber 1 ≡ some (took (is.GETATTR (record { object = record { «data» = record { at = 4; count = 0; clean = true } } })) 4 true)
 unfolding opened number word opaque pieceHeld nfs-fh getattr-args
 first = refl
 

@@ -80,10 +80,10 @@ rows =
     -- two words, and where they lie: the count of the piece is in words
     ∷ reading wordList (0 ∷ 0 ∷ 0 ∷ 2 ∷ 0 ∷ 0 ∷ 0 ∷ 7 ∷ 0xFF ∷ 0xFF ∷ 0xFF ∷ 0xFF ∷ []) (took (7 ∷ 4294967295 ∷ []) 12 true)
     (0 ∷ 0 ∷ 0 ∷ 2 ∷ 0 ∷ 0 ∷ 0 ∷ 7 ∷ 0xFF ∷ 0xFF ∷ 0xFF ∷ 0xFF ∷ [])
-    ∷ holding wordList (0 ∷ 0 ∷ 0 ∷ 2 ∷ 0 ∷ 0 ∷ 0 ∷ 7 ∷ 0xFF ∷ 0xFF ∷ 0xFF ∷ 0xFF ∷ []) 0 (took (record { at = 4; count = 2 }) 12 true)
+    ∷ holding wordList (0 ∷ 0 ∷ 0 ∷ 2 ∷ 0 ∷ 0 ∷ 0 ∷ 7 ∷ 0xFF ∷ 0xFF ∷ 0xFF ∷ 0xFF ∷ []) 0 (took (record { at = 4; count = 2; clean = true }) 12 true)
     -- a handle of one byte and a name of two, behind a word that belongs to something else
     ∷ holding diropargs (9 ∷ 9 ∷ 9 ∷ 9 ∷ 0 ∷ 0 ∷ 0 ∷ 1 ∷ 0xAA ∷ 0 ∷ 0 ∷ 0 ∷ 0 ∷ 0 ∷ 0 ∷ 2 ∷ 0x68 ∷ 0x69 ∷ 0 ∷ 0 ∷ []) 4
-    (took (record { dir = record { «data» = record { at = 8; count = 1 } }; name = record { at = 16; count = 2 } }) 20 true)
+    (took (record { dir = record { «data» = record { at = 8; count = 1; clean = true } }; name = record { at = 16; count = 2; clean = true } }) 20 true)
     -- two's complement: -1, and the least number
     ∷ reading (exactly int) (0xFF ∷ 0xFF ∷ 0xFF ∷ 0xFF ∷ []) (took (negsuc 0) 4 true) (0xFF ∷ 0xFF ∷ 0xFF ∷ 0xFF ∷ [])
     ∷ reading (exactly int) (0x80 ∷ 0 ∷ 0 ∷ 0 ∷ []) (took (negsuc 2147483647) 4 true) (0x80 ∷ 0 ∷ 0 ∷ 0 ∷ [])

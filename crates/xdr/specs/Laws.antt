@@ -60,3 +60,5 @@ pub mod Walks
 pub mod Within
 pub mod Programs
 pub mod Laying
+pub mod Unpadded
+pub mod Marked

@@ -21,6 +21,7 @@ pub mod Formats
 pub mod Sizes
 pub mod Order
 pub mod Public
+pub mod Marks
 pub mod Sources
 pub mod Within
 pub mod Views

@@ -200,13 +200,15 @@ fn body_at(src: &[u8], at: usize, n: u32) -> PieceRead
         return PieceRead::Refused(cut_short(src.len(), at, 4 + m));
     }
     let w = word_here(src, at + m);
+    let clean = low_zeros(w, m - n);
     PieceRead::Took {
         value: Piece {
             at: at + 4,
             count: n,
+            clean,
         },
         next: at + 4 + m,
-        plain: low_zeros(w, m - n),
+        plain: clean,
     }
 }
 
@@ -234,7 +236,11 @@ pub fn words_at(src: &[u8], at: usize) -> PieceRead
         return PieceRead::Refused(cut_short(src.len(), at, 4 + all));
     }
     PieceRead::Took {
-        value: Piece { at: p, count: n },
+        value: Piece {
+            at: p,
+            count: n,
+            clean: true,
+        },
         next: p + all,
         plain: true,
     }

@@ -21,6 +21,7 @@ pub use answer::U32Read;
 pub use answer::U64PairRead;
 pub use answer::U64Read;
 pub use answer::Wrote;
+pub use piece::Marks;
 pub use piece::Piece;
 pub use piece::WordFound;
 pub use piece::inside;

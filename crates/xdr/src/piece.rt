@@ -1,14 +1,32 @@
 // Pieces: what is held of the bytes inside a message.
 ghost use denote.Ref.{ptr};
 ghost use mathlib.Core.Path.{_≡_};
+ghost use mathlib.Core.List.{[], _∷_};
 ghost use Rattle.xdr.specs.Meaning.Pieces.{Part, partOf, partPlace, isInside, wordsPartOf, wordsPlace, areInside, wordOf};
-ghost use Rattle.xdr.specs.Meaning.Views.{viewWord};
+ghost use Rattle.xdr.specs.Meaning.Views.{viewWord, viewMarks};
 use crate::number::word_here;
 
-// A part of a message: the place of its first byte, and how many bytes it has, or words where it is a word list.
+// A part of a message: the place of its first byte, and how many bytes it has, or words where it is a word list. `clean` is the mark that a
+// reader sets: whether the padding behind it was all zero. It is no part of what the piece means, and a writer does not look at it.
 pub struct Piece {
     pub at: usize,
     pub count: usize,
+    pub clean: bool,
+}
+
+// The marks of a value's pieces, in the order of its fields. No value has more than two.
+pub enum Marks {
+    None,
+    One(bool),
+    Two(bool, bool),
+}
+
+impl Piece {
+    pub fn marks(self) -> Marks
+        ensures { λ r. ⌜ viewMarks r ≡ self .clean ∷ [] ⌝ }
+    {
+        Marks::One(self.clean)
+    }
 }
 
 // A word of a word list, where there is one.

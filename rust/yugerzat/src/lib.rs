@@ -42,7 +42,7 @@
 //! | You have | You call |
 //! |---|---|
 //! | a stream of records | `Records`, or [`Assembler`] where you read yourself |
-//! | a message of any [kind](Kind) | [`judge`]: is it plain? [`rewrite`]: what is its published form? |
+//! | a message of any [kind](Kind) | [`judge`]: is it plain? [`rewrite`]: what is its published form? [`marks`]: which field was dirty? |
 //! | a call or a reply | [`Message::read`], then [`AuthUnix::read`] for the caller |
 //! | a reply, and you look for the cause | [`current::Message::read`]: [two readings](#two-readings-of-replies) |
 //! | a [procedure](Procedure)'s arguments or results | [`Arguments`], [`Results`], or the one type: [`Setattr3args`] |
@@ -118,6 +118,24 @@
 //! # Ok::<(), yugerzat::Refusal>(())
 //! ```
 //!
+//! # Which field was dirty
+//!
+//! A message that is not plain has an odd flag, an undeclared tag, or dirty padding. [`marks`] says which of its fields had
+//! the padding:
+//!
+//! ```
+//! use yugerzat::{marks, Kind};
+//!
+//! // A LOOKUP of the name BB, with dirt behind it.
+//! let came = [0, 0, 0, 1, 0xAA, 0, 0, 0, 0, 0, 0, 1, 0xBB, 0, 0, 0xCC];
+//! let found = marks(Kind::Lookup3args, &came, 0)?;
+//! assert!(!found.plain);
+//! assert!(found.dirty_fields().eq(["what.name"]));
+//! # Ok::<(), yugerzat::Refusal>(())
+//! ```
+//!
+//! If no field is dirty, it was a flag or a tag. A mark is no part of the message: writing never looks at it.
+//!
 //! # What plain does not say
 //!
 //! **Plain is not "what a strict server takes".** No upper bounds are held against a message, as nfsserve has none: a
@@ -178,6 +196,7 @@ mod attributes;
 mod choice;
 pub mod current;
 mod kind;
+mod marks;
 mod message;
 pub mod mount;
 mod names;
@@ -195,6 +214,7 @@ pub use append::{append_fragment, append_rewriting};
 pub use attributes::{Diropargs3, Fattr3, Ftype3, Nfstime3, Sattr3, SetTime, Specdata3};
 pub use choice::{choose, Choice};
 pub use kind::{judge, rewrite, Judged, Kind, Rewritten, UnknownKind};
+pub use marks::{marks, Marked};
 pub use message::{AcceptStat, Auth, AuthFlavor, AuthStat, AuthUnix, Body, Call, Message, Reply};
 pub use procedure::{Procedure, UnknownProcedure};
 pub use procedures::{

@@ -61,6 +61,9 @@ pub mod figure {
 
         REWRITE_SIZE = 2,
         JUDGE_SIZE = 2,
+        MARKS_PIECES = 2,
+        MARKS_FIRST = 3,
+        MARKS_SECOND = 4,
 
         RPC_MSG_XID = 2,
         RPC_MSG_TAG = 3,
@@ -197,6 +200,7 @@ pub mod figures {
         WRITTEN = 1,
         REWRITE = 3,
         JUDGE = 3,
+        MARKS = 5,
         RPC_MSG = 14,
         WRITE_CALL = 11,
         WRITE_REPLY = 8,

@@ -15,6 +15,7 @@ mod raw {
             info_len: usize,
         ) -> u32;
         pub fn yugerzat_judge(kind: u32, src: *const u8, src_len: usize, at: usize, info: *mut u64, info_len: usize) -> u32;
+        pub fn yugerzat_marks(kind: u32, src: *const u8, src_len: usize, at: usize, info: *mut u64, info_len: usize) -> u32;
         pub fn yugerzat_read_rpc_msg(
             message: *const u8,
             message_len: usize,
@@ -295,6 +296,10 @@ pub fn rewrite(kind: u32, src: &[u8], at: usize, out: &mut [u8], info: &mut [u64
 
 pub fn judge(kind: u32, src: &[u8], at: usize, info: &mut [u64]) -> u32 {
     unsafe { raw::yugerzat_judge(kind, src.as_ptr(), src.len(), at, info.as_mut_ptr(), info.len()) }
+}
+
+pub fn marks(kind: u32, src: &[u8], at: usize, info: &mut [u64]) -> u32 {
+    unsafe { raw::yugerzat_marks(kind, src.as_ptr(), src.len(), at, info.as_mut_ptr(), info.len()) }
 }
 
 /// Reads a credential's body, which is all of `body`.

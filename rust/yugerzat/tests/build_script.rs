@@ -5,7 +5,7 @@ use std::process::{self, Command};
 use std::time::Duration;
 use std::{env, fs, thread};
 
-const ARCHIVE: &[u8] = b"!<arch>\nyugerzat_choose yugerzat_same_exports yugerzat_rewrite";
+const ARCHIVE: &[u8] = b"!<arch>\nyugerzat_choose yugerzat_marks yugerzat_rewrite";
 const HERE: &str = "aarch64-unknown-linux-gnu";
 
 /// A folder with a repository in it: the crate, the script `library`, sources, and an archive as if it were built.
@@ -165,7 +165,7 @@ fn the_build_script_finds_the_library_or_says_why_not() {
     // What is no archive, and one of an older version.
     let folder = place.run(&script, HERE, Some(".")).unwrap_err();
     assert!(folder.contains("cannot be read: "), "{folder}");
-    place.put("called/text", b"yugerzat_same_exports");
+    place.put("called/text", b"yugerzat_marks");
     let text = place.run(&script, HERE, Some("text"));
     assert_eq!(text, Err(format!("{} is no static library", shown("called/text"))));
     for names in ["yugerzat_read yugerzat_judge", "yugerzat_choose yugerzat_rewrite", "yugerzat_current_choose"] {

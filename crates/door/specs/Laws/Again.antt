@@ -41,26 +41,26 @@ pub record Made {M S : Type 0} (F : Format M S) (s : List ℕ) (at start : ℕ) 
   pub answers : Answers F s at (took value n b)
   pub writes : Writes F s value start o (done e) o′
 
-module _ {M S : Type 0} (F : Format M S) (s : List ℕ) (at start : ℕ) (o o′ : List ℕ) (n : ℕ) (b : Bool) (e : ℕ) (hb : Bytes s) where
+module _ {M S : Type 0} (F : Format M S) (s : List ℕ) (at start : ℕ) (o o′ : List ℕ) (n : ℕ) (b : Bool) (l : List Bool) (e : ℕ) (hb : Bytes s) where
   by-said : (x : S) (k : ℕ) (d : Bool) → opened s at (F .held .read s at) ≡ took x k d → (w : Written) → writing F s x start (length o) ≡ w
-      → made n b e ≡ saidOf k d w → o′ ≡ leaving F s x w start o → Made F s at start o o′ n b e
-  by-said x k d t (unwritten r) u g l = let z : _≡_ {A = ℕ} 0 1 = cc g in absurd (omega arith)
-  by-said x k d t (done f) u g l =
+      → made n b l e ≡ saidOf k d (F .held .marks s x) w → o′ ≡ leaving F s x w start o → Made F s at start o o′ n b e
+  by-said x k d t (unwritten r) u g v = let z : _≡_ {A = ℕ} 0 1 = cc g in absurd (omega arith)
+  by-said x k d t (done f) u g v =
       let j : opened s at (F .held .read s at) ≡ took x n b = cc (t, g) in
       let i : f ≡ e = cc g in
       let y : Took F = record { source = s; place = at; value = x; next = n; plain = b; answers = record { is = sym j; bytes = hb } } in
       record {
         value = x;
         answers = y .answers;
-        writes = record { says = sym (u ∙ ap done i); leaves = l ∙ ap (λ (m : ℕ). leaving F s x (done m) start o) i; good = kept F .in-range y };
+        writes = record { says = sym (u ∙ ap done i); leaves = v ∙ ap (λ (m : ℕ). leaving F s x (done m) start o) i; good = kept F .in-range y };
       }
 
-  by-read : (a : Answer S) → opened s at (F .held .read s at) ≡ a → made n b e ≡ copySaid F s start o a → o′ ≡ copyLeft F s start o a
+  by-read : (a : Answer S) → opened s at (F .held .read s at) ≡ a → made n b l e ≡ copySaid F s start o a → o′ ≡ copyLeft F s start o a
       → Made F s at start o o′ n b e
-  by-read (refused r) t g l = let z : _≡_ {A = ℕ} 0 1 = cc g in absurd (omega arith)
-  by-read (took x k d) t g l = by-said x k d t (writing F s x start (length o)) refl g l
+  by-read (refused r) t g v = let z : _≡_ {A = ℕ} 0 1 = cc g in absurd (omega arith)
+  by-read (took x k d) t g v = by-said x k d t (writing F s x start (length o)) refl g v
 
-  pub made-of : Copies F s at start o (made n b e) o′ → Made F s at start o o′ n b e
+  pub made-of : Copies F s at start o (made n b l e) o′ → Made F s at start o o′ n b e
   made-of c = by-read (opened s at (F .held .read s at)) refl (c .says) (c .leaves)
 
 module _ {M S : Type 0} (F : Format M S) {s : List ℕ} {at start : ℕ} {o o′ : List ℕ} {n : ℕ} {b : Bool} {e : ℕ} (m : Made F s at start o o′ n b e) where
@@ -120,21 +120,21 @@ pub record ReadMade (kind : ℕ) (s : List ℕ) (at : ℕ) (o i o′ i′ : List
   pub figures : i′ ≡ sets i 0 (next ∷ cond plain 1 0 ∷ end ∷ [])
   pub made : Made (branch .format) s at 0 o o′ next plain end
 
-of-kind : (l : List Branch) (k : ℕ) (s : List ℕ) (at : ℕ) (o i o′ i′ : List ℕ) → Bytes s → (n : ℕ) (b : Bool) (e : ℕ) → CopiesOf l k s at 0 o (made n b e) o′
+of-kind : (l : List Branch) (k : ℕ) (s : List ℕ) (at : ℕ) (o i o′ i′ : List ℕ) → Bytes s → (n : ℕ) (b : Bool) (m : List Bool) (e : ℕ) → CopiesOf l k s at 0 o (made n b m e) o′
     → i′ ≡ sets i 0 (n ∷ cond b 1 0 ∷ e ∷ []) → ReadMade k s at o i o′ i′
-of-kind [] k s at o i o′ i′ h n b e c f = let z : _≡_ {A = ℕ} 0 1 = cc (c .0) in absurd (omega arith)
-of-kind (x ∷ l) zero s at o i o′ i′ h n b e c f =
-    record { branch = x; next = n; plain = b; end = e; figures = f; made = made-of (x .format) s at 0 o o′ n b e h c }
-of-kind (x ∷ l) (suc k) s at o i o′ i′ h n b e c f =
-    let r = of-kind l k s at o i o′ i′ h n b e c f in
+of-kind [] k s at o i o′ i′ h n b m e c f = let z : _≡_ {A = ℕ} 0 1 = cc (c .0) in absurd (omega arith)
+of-kind (x ∷ l) zero s at o i o′ i′ h n b m e c f =
+    record { branch = x; next = n; plain = b; end = e; figures = f; made = made-of (x .format) s at 0 o o′ n b m e h c }
+of-kind (x ∷ l) (suc k) s at o i o′ i′ h n b m e c f =
+    let r = of-kind l k s at o i o′ i′ h n b m e c f in
     record { branch = r .branch; next = r .next; plain = r .plain; end = r .end; figures = r .figures; made = r .made }
 
 by-copy : (c : Copy) (kind : ℕ) (s : List ℕ) (at : ℕ) (o i o′ i′ : List ℕ) → Bytes s → CopiesOf kinds kind s at 0 o c o′ → 0 ≡ codeOf c → i′ ≡ sets i 0 (figures c)
     → ReadMade kind s at o i o′ i′
 by-copy unknown kind s at o i o′ i′ h c e f = absurd (omega arith)
 by-copy (unread r) kind s at o i o′ i′ h c e f = absurd (numbers-none r e)
-by-copy (unmade r m d) kind s at o i o′ i′ h c e f = absurd (numbers-none r e)
-by-copy (made n b k) kind s at o i o′ i′ h c e f = of-kind kinds kind s at o i o′ i′ h n b k c f
+by-copy (unmade r m d v) kind s at o i o′ i′ h c e f = absurd (numbers-none r e)
+by-copy (made n b m k) kind s at o i o′ i′ h c e f = of-kind kinds kind s at o i o′ i′ h n b m k c f
 
 pub read-made : (kind : ℕ) (s : List ℕ) (at : ℕ) (o i o′ i′ : List ℕ) → Bytes s → Told kind s at o i 0 o′ i′ → ReadMade kind s at o i o′ i′
 read-made kind s at o i o′ i′ h t = by-copy (t .copy) kind s at o i o′ i′ h (t .copies) (t .number) (t .list)

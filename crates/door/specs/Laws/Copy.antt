@@ -19,7 +19,9 @@ use Rattle.xdr.specs.declared.answer.U64Read.{U64Read}
 use Rattle.xdr.specs.declared.answer.Wrote.{Wrote}
 use Rattle.xdr.specs.Meaning.Public.{Answers, output, writing, Writes}
 use Rattle.xdr.specs.Meaning.Within.{WritesWithin}
+use Rattle.xdr.specs.Meaning.Marks.{MarksAre}
 use Rattle.xdr.specs.Laws.Public.{kept}
+use Rattle.xdr.specs.Laws.Unpadded.{no-marks}
 use Rattle.xdr.specs.Laws.Within.{Bounded, read-writes}
 use Rattle.door.specs.Meaning.Copy.{Is, Copy, unknown, unread, saidOf, Copies}
 use Rattle.door.specs.Meaning.Kinds.{CopiesOf, CopiesIn}
@@ -38,18 +40,21 @@ module _ {M S R : Type 0} (F : Format M S) (view : R → Answer S) (s : List ℕ
 
   -- it was taken: the writer's answer is the copy's
   pub was-read : {x : S} {n : ℕ} {b : Bool} → view t ≡ took x n b → {o′ : List ℕ} {w : Written} → Writes F s x start o w o′
-      → {a : Copy} → a ≡ saidOf n b w → Copies F s at start o a o′
-  was-read {x} {n} {b} v d f =
+      → {l : List Bool} → MarksAre F x l → {a : Copy} → a ≡ saidOf n b l w → Copies F s at start o a o′
+  was-read {x} {n} {b} v {w = w} d {l} m f =
       let k : opened s at (F .held .read s at) ≡ took x n b = sym (c .is) ∙ ap view e ∙ v in
-      record { says = rw k (f ∙ ap (saidOf n b) (d .says)); leaves = d .leaves ∙ sym (rw (k, d .says)) }
+      record {
+        says = rw k (f ∙ ap (λ z. saidOf n b z w) (m .are s) ∙ ap (saidOf n b (F .held .marks s x)) (d .says));
+        leaves = d .leaves ∙ sym (rw (k, d .says));
+      }
 
 -- a message under a bound, read and written: what was read keeps to the bound
 module _ {M S R : Type 0} {F : Format M S} {over : M → Option ℕ} {G : Format M S} (B : Bounded F over G) (view : R → Answer S) (s : List ℕ) (at start : ℕ) (o : List ℕ) {r t : R}
     (c : Answers G s at (view r)) (e : r ≡ t) where
   pub bounded-read : {x : S} {n : ℕ} {b : Bool} → view t ≡ took x n b → {o′ : List ℕ} {w : Written} → WritesWithin F over s x start o w o′
-      → {a : Copy} → a ≡ saidOf n b w → Copies G s at start o a o′
-  bounded-read {x} {n} {b} v d f =
-      was-read G view s at start o c e v (read-writes B s at (subst (Answers G s at) (ap view e ∙ v) c) d) f
+      → {l : List Bool} → MarksAre G x l → {a : Copy} → a ≡ saidOf n b l w → Copies G s at start o a o′
+  bounded-read {x} {n} {b} v d m f =
+      was-read G view s at start o c e v (read-writes B s at (subst (Answers G s at) (ap view e ∙ v) c) d) m f
 
 -- a message without pieces is written with no source; with any source that is not too long it is written alike
 abbrev pub Free : {M S : Type 0} → Format M S → S → Type 0
@@ -82,26 +87,26 @@ short F s at {x = x} {n = n} {b = b} c e = kept F .accepted-iff s at c .0 (x, n,
 -- a message without pieces, read and written
 module _ {M R : Type 0} (C : Codec M) (view : R → Answer M) (s : List ℕ) (at start : ℕ) (o : List ℕ) {r t : R} where
   pub plain-read : {x : M} {n : ℕ} {b : Bool} {o′ : List ℕ} {w : Written} {a : Copy} → Answers (exactly C) s at (view r) → r ≡ t
-      → Writes (exactly C) [] x start o w o′ → a ≡ saidOf n b w → view t ≡ took x n b → Copies (exactly C) s at start o a o′
+      → Writes (exactly C) [] x start o w o′ → a ≡ saidOf n b [] w → view t ≡ took x n b → Copies (exactly C) s at start o a o′
   plain-read {w = w} c e d f v =
       was-read (exactly C) view s at start o c e v
-      (freed (exactly C) s (short (exactly C) s at c (ap view e ∙ v)) (λ t. (refl, refl)) refl start o w d) f
+      (freed (exactly C) s (short (exactly C) s at c (ap view e ∙ v)) (λ t. (refl, refl)) refl start o w d) (no-marks C _) f
 
 -- a signed number, which is passed on by its bits
 module _ {R : Type 0} (C : Codec ℤ) (view : R → Answer ℤ) (take : ℤ → ℕ → R) (s : List ℕ) (at start : ℕ) (o : List ℕ) {r : R} where
   pub signed-read : {x x′ : ℤ} {n : ℕ} {o′ : List ℕ} {w : Written} {a : Copy} → Answers (exactly C) s at (view r) → r ≡ take x n
-      → Writes (exactly C) [] x′ start o w o′ → x′ ≡ x → a ≡ saidOf n true w → view (take x n) ≡ took x n true → Copies (exactly C) s at start o a o′
+      → Writes (exactly C) [] x′ start o w o′ → x′ ≡ x → a ≡ saidOf n true [] w → view (take x n) ≡ took x n true → Copies (exactly C) s at start o a o′
   signed-read {w = w} c e d g f v =
       was-read (exactly C) view s at start o c e v
-      (freed (exactly C) s (short (exactly C) s at c (ap view e ∙ v)) (λ t. (refl, refl)) g start o w d) f
+      (freed (exactly C) s (short (exactly C) s at c (ap view e ∙ v)) (λ t. (refl, refl)) g start o w d) (no-marks C _) f
 
 module _ (s : List ℕ) (at start : ℕ) (o : List ℕ) {r t : U64Read} where
   pub eight-read : {x n : ℕ} {b : Bool} {o′ : List ℕ} {w : Written} {a : Copy} → Answers eightBytes s at (viewU64 r) → r ≡ t
-      → Writes eightBytes [] x start o w o′ → a ≡ saidOf n b w → viewU64 t ≡ took x n b → Copies eightBytes s at start o a o′
+      → Writes eightBytes [] x start o w o′ → a ≡ saidOf n b [] w → viewU64 t ≡ took x n b → Copies eightBytes s at start o a o′
   unfolding eightHeld
   eight-read {w = w} c e d f v =
       was-read eightBytes viewU64 s at start o c e v
-      (freed eightBytes s (short eightBytes s at c (ap viewU64 e ∙ v)) (λ t. (refl, refl)) refl start o w d) f
+      (freed eightBytes s (short eightBytes s at c (ap viewU64 e ∙ v)) (λ t. (refl, refl)) refl start o w d) (record { are = λ t. refl }) f
 
 -- a number that is none of the first is above them
 abbrev NoneOf : ℕ → ℕ → Type 0

@@ -48,9 +48,10 @@ module _ (n k : ℕ) (b : Bool) (r : Refusal) (i i′ : List ℕ) where
       record { number = sym (rw g); shown = record { list = s .list ∙ sym (rw g) } }
 
 -- what `tell_size` says, as what is said of the copy
-pub says-size : (x t : Copied) (r : Refusal) (n k : ℕ) (b : Bool) (i i′ : List ℕ) → x ≡ t → Says sizeCode (sizeFigures n b) r i k i′ → viewCopied t ≡ unmade r n b
+pub says-size : (x t : Copied) (r : Refusal) (n k : ℕ) (b : Bool) (m : List Bool) (i i′ : List ℕ) → x ≡ t → Says sizeCode (sizeFigures n b) r i k i′
+    → viewCopied t ≡ unmade r n b m
     → Says judgedCode judgedFigures (viewCopied x) i k i′
-says-size x t r n k b i i′ e s h =
+says-size x t r n k b m i i′ e s h =
     let g = ap viewCopied e ∙ h in
     record { number = s .number ∙ sym (ap judgedCode g); shown = record { list = s .shown .list ∙ sym (ap (λ z. sets i 0 (judgedFigures z)) g) } }
 

@@ -24,8 +24,8 @@ use Rattle.door.specs.Meaning.Exports.{codeOf, figures, Told, judgedCode
 abbrev pub sizeTold : Copy → ℕ
 sizeTold unknown = 0
 sizeTold (unread r) = 0
-sizeTold (unmade r n b) = neededOf r
-sizeTold (made n b e) = e
+sizeTold (unmade r n b m) = neededOf r
+sizeTold (made n b m e) = e
 
 -- what is said of c in judging is what is said of d in rewriting
 record Agrees (c d : Copy) : Type 0 where
@@ -38,11 +38,13 @@ module _ {M S : Type 0} (F : Format M S) (s : List ℕ) (o : List ℕ) where
     abbrev size : ℕ
     size = length (output F s x)
 
-    by-written : (v w : Written) → v ≡ writing F s x 0 0 → w ≡ writing F s x 0 (length o) → Agrees (saidOf n b v) (saidOf n b w)
-        → Agrees (saidOf n b (writing F s x 0 0)) (saidOf n b (writing F s x 0 (length o)))
-    by-written v w e f g = subst (λ z. Agrees (saidOf n b z) (saidOf n b (writing F s x 0 (length o)))) e (subst (λ z. Agrees (saidOf n b v) (saidOf n b z)) f g)
+    by-written : (v w : Written) → v ≡ writing F s x 0 0 → w ≡ writing F s x 0 (length o) → Agrees (saidOf n b (F .held .marks s x) v) (saidOf n b (F .held .marks s x) w)
+        → Agrees (saidOf n b (F .held .marks s x) (writing F s x 0 0)) (saidOf n b (F .held .marks s x) (writing F s x 0 (length o)))
+    by-written v w e f g =
+        subst (λ z. Agrees (saidOf n b (F .held .marks s x) z) (saidOf n b (F .held .marks s x) (writing F s x 0 (length o)))) e
+        (subst (λ z. Agrees (saidOf n b (F .held .marks s x) v) (saidOf n b (F .held .marks s x) z)) f g)
 
-    judged : sizeTold (saidOf n b (writing F s x 0 0)) ≤ length o → Agrees (saidOf n b (writing F s x 0 0)) (saidOf n b (writing F s x 0 (length o)))
+    judged : sizeTold (saidOf n b (F .held .marks s x) (writing F s x 0 0)) ≤ length o → Agrees (saidOf n b (F .held .marks s x) (writing F s x 0 0)) (saidOf n b (F .held .marks s x) (writing F s x 0 (length o)))
     unfolding writing
     judged room = go (leb (length s) most) refl (F .held .inside s x) refl (leb size most) refl (leb size 0) refl
       where
@@ -50,7 +52,7 @@ module _ {M S : Type 0} (F : Format M S) (s : List ℕ) (o : List ℕ) where
         i = F .held .inside s x
 
         go : (p : Bool) → leb (length s) most ≡ p → (q : Bool) → F .held .inside s x ≡ q → (k : Bool) → leb size most ≡ k → (z : Bool) → leb size 0 ≡ z
-            → Agrees (saidOf n b (writing F s x 0 0)) (saidOf n b (writing F s x 0 (length o)))
+            → Agrees (saidOf n b (F .held .marks s x) (writing F s x 0 0)) (saidOf n b (F .held .marks s x) (writing F s x 0 (length o)))
         go false hp q hq k hk z hz =
             let g = leb-false (length s) most hp in
             by-written (unwritten TooLong) (unwritten TooLong) (placing-long (length s) i size 0 0 (omega arith) g) (placing-long (length s) i size (length o) 0 (omega arith) g)
@@ -75,7 +77,7 @@ module _ {M S : Type 0} (F : Format M S) (s : List ℕ) (o : List ℕ) where
             let l = leb-true size most hk in
             let e = leb-false size 0 hz in
             let none : unwritten (NoRoom size) ≡ writing F s x 0 0 = placing-short (length s) i size 0 0 (omega arith) g hq l (omega arith) in
-            let fits : size ≤ length o = subst (λ z. sizeTold (saidOf n b z) ≤ length o) (sym none) room in
+            let fits : size ≤ length o = subst (λ z. sizeTold (saidOf n b (F .held .marks s x) z) ≤ length o) (sym none) room in
             by-written (unwritten (NoRoom size)) (done (0 + size)) none (placing-done (length s) i size (length o) 0 (omega arith) g hq l (omega arith))
             (record { code = refl; list = ap (λ z. n ∷ cond b 1 0 ∷ z ∷ []) (sym (zero-add size)) })
 

@@ -17,7 +17,10 @@ use Rattle.xdr.specs.Meaning.Pieces.{isInside, areInside}
 use Rattle.xdr.specs.Meaning.Sources.{longer}
 use Rattle.xdr.specs.Laws.One.{Told}
 use Rattle.xdr.specs.Laws.Sources.{from-one}
+use Rattle.xdr.specs.Meaning.Views.{viewMarks}
 use Rattle.xdr.specs.declared.piece.Piece.{Piece}
+use Rattle.xdr.specs.declared.piece.Marks.{Marks}
+use Rattle.xdr.specs.declared.piece.Marks.the-variants as marks
 use Rattle.rpc.specs.Meaning.Auth.{opaque-auth, auth-unix}
 use Rattle.rpc.specs.Meaning.Reading.{Reading}
 use Rattle.rpc.specs.Meaning.Crate.{rpc-msg}
@@ -30,6 +33,7 @@ use Rattle.rpcwire.specs.Laws.Choice.{choice-promised}
 use Rattle.door.specs.Meaning.Copy.{Copy, viewCopied}
 use Rattle.door.specs.Meaning.Kinds.{kinds, CopiesOf}
 use Rattle.door.specs.Meaning.Exports.{codeOf, figures, RewriteCalled, judgedCode, judgedFigures, JudgeCalled, wroteCode, wroteFigure, FragmentCalled, chosenCode, chosenFigures, ChooseCalled, stateList, fedCode, fedState, fedFigures, FeedCalled}
+use Rattle.door.specs.Meaning.Marks.{marksFigures, MarksCalled}
 use Rattle.door.specs.declared.copy.Copied.{Copied}
 use Rattle.door.specs.declared.copy.Copied.the-variants.{Unknown, Unread, Unwritten, Done}
 use Rattle.door.specs.Meaning.Values.{readCode, readFigures, ValueCalled, PartCalled}
@@ -102,23 +106,34 @@ module _ (s t l o : List ℕ) (start : ℕ) (i : List ℕ) {r r′ : ℕ} {o′ 
       o i 4 diropargs3Given l c d
 
 -- `copy_kind`: its answer, and the buffer
+marks-told : (m m′ : Marks) → viewMarks m ≡ viewMarks m′ → m ≡ m′
+marks-told marks.None marks.None e = refl
+marks-told marks.None (marks.One a) e = cc
+marks-told marks.None (marks.Two a b) e = cc
+marks-told (marks.One a) marks.None e = cc
+marks-told (marks.One a) (marks.One a′) e = cc
+marks-told (marks.One a) (marks.Two a′ b′) e = cc
+marks-told (marks.Two a b) marks.None e = cc
+marks-told (marks.Two a b) (marks.One a′) e = cc
+marks-told (marks.Two a b) (marks.Two a′ b′) e = cc
+
 pub copied-told : Told viewCopied
 copied-told Unknown Unknown e = refl
 copied-told Unknown (Unread r) e = cc
-copied-told Unknown (Unwritten r n b) e = cc
-copied-told Unknown (Done n b k) e = cc
+copied-told Unknown (Unwritten r n b m) e = cc
+copied-told Unknown (Done n b m k) e = cc
 copied-told (Unread r) Unknown e = cc
 copied-told (Unread r) (Unread r′) e = cc
-copied-told (Unread r) (Unwritten r′ n′ b′) e = cc
-copied-told (Unread r) (Done n b k) e = cc
-copied-told (Unwritten r n b) Unknown e = cc
-copied-told (Unwritten r n b) (Unread r′) e = cc
-copied-told (Unwritten r n b) (Unwritten r′ n′ b′) e = cc
-copied-told (Unwritten r n b) (Done n′ b′ k) e = cc
-copied-told (Done n b k) Unknown e = cc
-copied-told (Done n b k) (Unread r) e = cc
-copied-told (Done n b k) (Unwritten r n′ b′) e = cc
-copied-told (Done n b k) (Done n′ b′ k′) e = cc
+copied-told (Unread r) (Unwritten r′ n′ b′ m′) e = cc
+copied-told (Unread r) (Done n b m k) e = cc
+copied-told (Unwritten r n b m) Unknown e = cc
+copied-told (Unwritten r n b m) (Unread r′) e = cc
+copied-told (Unwritten r n b m) (Unwritten r′ n′ b′ m′) e = let h : m ≡ m′ = marks-told m m′ (cc e) in cc (e, h)
+copied-told (Unwritten r n b m) (Done n′ b′ m′ k) e = cc
+copied-told (Done n b m k) Unknown e = cc
+copied-told (Done n b m k) (Unread r) e = cc
+copied-told (Done n b m k) (Unwritten r n′ b′ m′) e = cc
+copied-told (Done n b m k) (Done n′ b′ m′ k′) e = let h : m ≡ m′ = marks-told m m′ (cc e) in cc (e, h)
 
 copies-one : (l : List Branch) (k : ℕ) (s : List ℕ) (at start : ℕ) (o : List ℕ) {c d : Copy} {o′ p′ : List ℕ} → CopiesOf l k s at start o c o′
     → CopiesOf l k s at start o d p′ → (c ≡ d) × (o′ ≡ p′)
@@ -157,6 +172,19 @@ module _ (i : List ℕ) {r t : ℕ} {i′ j′ : List ℕ} where
           (x .number ∙ ap judgedCode (g .0) ∙ sym (y .number), x .list ∙ ap (λ a. sets i 0 (judgedFigures a)) (g .0) ∙ sym (y .list))
       by false e =
           let h = leb-false 3 (length i) e in
+          (c .short h .0 ∙ sym (d .short h .0), c .short h .1 ∙ sym (d .short h .1))
+
+  pub marks-one : (kind : ℕ) (s : List ℕ) (at : ℕ) → MarksCalled kind s at i r i′ → MarksCalled kind s at i t j′ → (r ≡ t) × (i′ ≡ j′)
+  marks-one kind s at c d = by (leb 5 (length i)) refl
+    where
+      by : (b : Bool) → leb 5 (length i) ≡ b → (r ≡ t) × (i′ ≡ j′)
+      by true e =
+          let x = c .room (leb-true 5 (length i) e) in
+          let y = d .room (leb-true 5 (length i) e) in
+          let g = copies-one kinds kind s at 0 [] (x .copies) (y .copies) in
+          (x .number ∙ ap judgedCode (g .0) ∙ sym (y .number), x .list ∙ ap (λ a. sets i 0 (marksFigures a)) (g .0) ∙ sym (y .list))
+      by false e =
+          let h = leb-false 5 (length i) e in
           (c .short h .0 ∙ sym (d .short h .0), c .short h .1 ∙ sym (d .short h .1))
 
   pub fragment-called-one : (m : List ℕ) (start : ℕ) (o : List ℕ) {o′ p′ : List ℕ} → FragmentCalled m start o i r o′ i′ → FragmentCalled m start o i t p′ j′

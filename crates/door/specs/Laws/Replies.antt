@@ -1,6 +1,7 @@
 -- What the proofs of the exported writers of replies and their parts cite: what is found of numbers, by what the code found of their parts. A
 -- `found` is what the code of a reading found, as its own type says it.
 -- Assumes nothing.
+use mathlib.Core.Bool.{true}
 use mathlib.Core.Path.{_≡_, refl, sym, ap, _∙_}
 use mathlib.Core.Logic.{inl, inr}
 use mathlib.Core.List.{List, []}
@@ -83,7 +84,7 @@ module _ {Stat Auth Accept Rejected Accepted Reply Body Msg : Type 0} (R : Readi
 
       pub all-found : (a : «auth_flavor») (d : Accept) (r₀ t₀ : FlavorFound) → foundFlavor r₀ ≡ among flavorNumber flavors v → r₀ ≡ t₀
           → foundFlavor t₀ ≡ means a [] → body t₃ ≡ some d
-          → some (R .reply .to (inl (R .accepted .to (record { flavor = a; body = record { at = p; count = n } }, d)))) ≡ acceptedOf R v p n st l h
+          → some (R .reply .to (inl (R .accepted .to (record { flavor = a; body = record { at = p; count = n; clean = true } }, d)))) ≡ acceptedOf R v p n st l h
       all-found a d r₀ t₀ e₀ f₀ k₀ k₃ = rw (← e₀, f₀, k₀, ← e, f, k, ← e₃, f₃, k₃)
 
   -- the figures from the tag on

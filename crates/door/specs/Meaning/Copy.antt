@@ -8,6 +8,7 @@ use lib.ListN.{length}
 use Rattle.xdr.specs.Meaning.Answer.{Answer, took, refused, opened, Written, done, unwritten}
 use Rattle.xdr.specs.Meaning.Format.{Format}
 use Rattle.xdr.specs.Meaning.Public.{writing, leaving}
+use Rattle.xdr.specs.Meaning.Views.{viewMarks}
 use Rattle.xdr.specs.declared.refusal.Refusal.{Refusal}
 use Rattle.door.specs.declared.copy.Copied.{Copied}
 use Rattle.door.specs.declared.copy.Copied.the-variants.{Unknown, Unread, Unwritten, Done}
@@ -16,28 +17,29 @@ use Rattle.door.specs.declared.copy.Copied.the-variants.{Unknown, Unread
 pub record Is {A B : Type 0} (f : A → B) (x : A) (y : B) : Type 0 where
   pub is : y ≡ f x
 
--- what is said: no such kind; the reading's refusal; the writing's refusal, with the reading's two figures; or the three figures
+-- what is said: no such kind; the reading's refusal; the writing's refusal, with what the reading tells; or that, and where the writing ends.
+-- A reading tells its next place, if it is plain, and its marks
 pub data Copy : Type 0 where
   unknown : Copy
   unread : Refusal → Copy
-  unmade : Refusal → ℕ → Bool → Copy
-  made : ℕ → Bool → ℕ → Copy
+  unmade : Refusal → ℕ → Bool → List Bool → Copy
+  made : ℕ → Bool → List Bool → ℕ → Copy
 
 abbrev pub viewCopied : Copied → Copy
 viewCopied Unknown = unknown
 viewCopied (Unread r) = unread r
-viewCopied (Unwritten r n b) = unmade r n b
-viewCopied (Done n b e) = made n b e
+viewCopied (Unwritten r n b m) = unmade r n b (viewMarks m)
+viewCopied (Done n b m e) = made n b (viewMarks m) e
 
 -- what is said of a reading that was taken, by what its writer says
-abbrev pub saidOf : ℕ → Bool → Written → Copy
-saidOf n b (done e) = made n b e
-saidOf n b (unwritten r) = unmade r n b
+abbrev pub saidOf : ℕ → Bool → List Bool → Written → Copy
+saidOf n b m (done e) = made n b m e
+saidOf n b m (unwritten r) = unmade r n b m
 
 module _ {M S : Type 0} (F : Format M S) (s : List ℕ) (start : ℕ) (o : List ℕ) where
   -- what is said of a reading, and what the other buffer then holds
   abbrev pub copySaid : Answer S → Copy
-  copySaid (took x n b) = saidOf n b (writing F s x start (length o))
+  copySaid (took x n b) = saidOf n b (F .held .marks s x) (writing F s x start (length o))
   copySaid (refused r) = unread r
 
   abbrev pub copyLeft : Answer S → List ℕ

@@ -24,14 +24,14 @@ use Rattle.door.specs.Meaning.Kinds.{kinds, CopiesOf}
 abbrev pub codeOf : Copy → ℕ
 codeOf unknown = 255
 codeOf (unread r) = numberOf r
-codeOf (unmade r n b) = numberOf r
-codeOf (made n b e) = 0
+codeOf (unmade r n b m) = numberOf r
+codeOf (made n b m e) = 0
 
 abbrev pub figures : Copy → List ℕ
 figures unknown = 0 ∷ 0 ∷ 0 ∷ []
 figures (unread r) = placeOf r ∷ wantingOf r ∷ 0 ∷ []
-figures (unmade r n b) = 0 ∷ 0 ∷ neededOf r ∷ []
-figures (made n b e) = n ∷ cond b 1 0 ∷ e ∷ []
+figures (unmade r n b m) = 0 ∷ 0 ∷ neededOf r ∷ []
+figures (made n b m e) = n ∷ cond b 1 0 ∷ e ∷ []
 
 -- `yugerzat_rewrite`, where its list has room for three figures: the copy to place 0
 pub record Told (kind : ℕ) (s : List ℕ) (at : ℕ) (o i : List ℕ) (r : ℕ) (o′ i′ : List ℕ) : Type 0 where
@@ -55,14 +55,14 @@ sizeFigures n b r = cond (eqb (numberOf r) 5) (n ∷ cond b 1 0 ∷ neededOf r �
 abbrev pub judgedCode : Copy → ℕ
 judgedCode unknown = 255
 judgedCode (unread r) = numberOf r
-judgedCode (unmade r n b) = sizeCode r
-judgedCode (made n b e) = 0
+judgedCode (unmade r n b m) = sizeCode r
+judgedCode (made n b m e) = 0
 
 abbrev pub judgedFigures : Copy → List ℕ
 judgedFigures unknown = 0 ∷ 0 ∷ 0 ∷ []
 judgedFigures (unread r) = placeOf r ∷ wantingOf r ∷ 0 ∷ []
-judgedFigures (unmade r n b) = sizeFigures n b r
-judgedFigures (made n b e) = n ∷ cond b 1 0 ∷ e ∷ []
+judgedFigures (unmade r n b m) = sizeFigures n b r
+judgedFigures (made n b m e) = n ∷ cond b 1 0 ∷ e ∷ []
 
 pub record JudgeTold (kind : ℕ) (s : List ℕ) (at : ℕ) (i : List ℕ) (r : ℕ) (i′ : List ℕ) : Type 0 where
   pub copy : Copy

@@ -113,7 +113,7 @@ WriteFattr3Called l o start i r o′ i′ =
 
 -- `yugerzat_write_diropargs3`: every number is a place or a count
 abbrev pub pieceOf : List ℕ → ℕ → ℕ → Piece
-pieceOf l p n = record { at = getD l p 0; count = getD l n 0 }
+pieceOf l p n = record { at = getD l p 0; count = getD l n 0; clean = true }
 
 abbrev pub diropargs3Given : List ℕ → Option diropargs3
 diropargs3Given l = some (record { dir = record { «data» = pieceOf l 0 1 }; name = pieceOf l 2 3 })

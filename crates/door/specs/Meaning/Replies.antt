@@ -2,7 +2,7 @@
 -- reply, from the xid on.
 -- Assumes nothing.
 use mathlib.Core.Logic.{inl, inr}
-use mathlib.Core.Bool.{cond, _&&_}
+use mathlib.Core.Bool.{true, cond, _&&_}
 use mathlib.Core.List.{List, [], _∷_}
 use mathlib.Core.Option.{Option, none, some}
 use Prim.Native.Nat.{ℕ, zero, suc}
@@ -129,7 +129,7 @@ module _ {Stat Auth Accept Rejected Accepted Reply Body Msg : Type 0} (R : Readi
   abbrev pub acceptedOf : (flavor at count stat low high : ℕ) → Option Reply
   acceptedOf f p n st l h =
       seenOr
-      (λ a. seenOr (λ s. thenSome (λ d. R .reply .to (inl (R .accepted .to (record { flavor = a; body = record { at = p; count = n } }, d)))) (acceptOf s l h)) (among (R .statNumber) (R .stats) st))
+      (λ a. seenOr (λ s. thenSome (λ d. R .reply .to (inl (R .accepted .to (record { flavor = a; body = record { at = p; count = n; clean = true } }, d)))) (acceptOf s l h)) (among (R .statNumber) (R .stats) st))
       (among flavorNumber flavors f)
 
   -- tag 2, denied by the version: two versions

@@ -1,7 +1,7 @@
 -- What the exported readers of single values answer: a number, and figures in a lent list.
 -- Assumes nothing.
 use mathlib.Core.Path.{_≡_}
-use mathlib.Core.Bool.{cond}
+use mathlib.Core.Bool.{true, cond}
 use mathlib.Core.Logic.{_⊎_, inl, inr}
 use mathlib.Core.List.{List, [], _∷_, _++_}
 use mathlib.Core.Option.{Option, none, some}
@@ -137,7 +137,7 @@ abbrev pub unixFigures : «auth_unix» → List ℕ
 unixFigures a = a .stamp ∷ a .machinename .at ∷ a .machinename .count ∷ a .uid ∷ a .gid ∷ pieceFigures (a .gids)
 
 abbrev pub UnixCalled : (s : List ℕ) (at count : ℕ) (i : List ℕ) (r : ℕ) (i′ : List ℕ) → Type 0
-UnixCalled s at count = ValueCalled (AnswersIn s (record { at = at; count = count })) unixFigures 7
+UnixCalled s at count = ValueCalled (AnswersIn s (record { at = at; count = count; clean = true })) unixFigures 7
 
 -- `yugerzat_part`: 0 and the piece where it lies inside; 4 and the empty piece at the start where it does not
 abbrev pub partCode : (s : List ℕ) (x : Piece) → ℕ

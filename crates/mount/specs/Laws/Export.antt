@@ -1,7 +1,7 @@
 -- How an export list is read: what the loop keeps, and what a walk says of a held list.
 -- Assumes nothing.
 use mathlib.Core.Path.{_≡_, refl, sym, ap, ap₂, subst, _∙_}
-use mathlib.Core.Bool.{Bool, true, false, _&&_}
+use mathlib.Core.Bool.{Bool, true, false, _&&_, and-true}
 use mathlib.Core.Option.{Option, none, some}
 use mathlib.Core.List.{List, [], _∷_}
 use Prim.Native.Nat.{ℕ, suc, _+_, _-_, _≤_, _<_}
@@ -17,7 +17,8 @@ use Rattle.xdr.specs.Meaning.Answer.{Answer, took, refused, most, Written, done
 use Rattle.xdr.specs.Meaning.Format.{Format, _⨟_, optional}
 use Rattle.xdr.specs.Meaning.Formats.{bytes, pieceHeld}
 use Rattle.xdr.specs.Meaning.Linked.{placedAt, elementsOf, hasCount}
-use Rattle.xdr.specs.Meaning.Lists.{linked}
+use Rattle.xdr.specs.Meaning.Lists.{linked, cleanList}
+use Rattle.xdr.specs.Meaning.Marks.{allClean}
 use Rattle.xdr.specs.Meaning.Pieces.{bytesIn}
 use Rattle.xdr.specs.Meaning.Views.{viewPiece, viewWrote}
 use Rattle.xdr.specs.Laws.Even.{Even, opaque-even, chain-even, named-even, list-even, even-within}
@@ -41,7 +42,7 @@ use Rattle.xdr.specs.declared.answer.Wrote.the-variants as wrote
 use borrow.Rule.Slice.PartMut.{midOf, putMid}
 use Rattle.xdr.specs.Laws.One.{Told}
 use Rattle.xdr.specs.Laws.Plans.{Planned, plan, at, Step, step, Loses, lost-at, optionally, _then_}
-use Rattle.xdr.specs.Laws.Walks.{by-names, by-names-refused, list-ends, list-goes, list-refused, step-inside, step-size}
+use Rattle.xdr.specs.Laws.Walks.{by-names, by-names-refused, clean-goes, clean-ends, list-ends, list-goes, list-refused, step-inside, step-size}
 use Rattle.xdr.specs.declared.answer.PieceRead.{PieceRead}
 use Rattle.xdr.specs.declared.answer.PieceRead.the-variants as Piece
 use Rattle.xdr.specs.declared.piece.Piece.{Piece}
@@ -49,7 +50,7 @@ use Rattle.xdr.specs.declared.refusal.Refusal.{Refusal}
 use Rattle.xdr.specs.declared.refusal.Refusal.the-variants.{LongPath}
 use Rattle.mount.specs.Meaning.Path.{mostPath, longPath}
 use Rattle.mount.specs.Meaning.Group.{groups}
-use Rattle.mount.specs.Meaning.Export.{Exportnode, nodeNames, node, nodes, farther, longEntry, firstLong, longList, exports, nextExportCases, next-node, next-export, viewNode, lostNode, viewNextExport, lostNextExport, finished, longAt, walked, orLong}
+use Rattle.mount.specs.Meaning.Export.{Exportnode, nodeNames, node, nodes, farther, longEntry, firstLong, longList, exports, nextExportCases, next-node, next-export, viewNode, lostNode, viewNextExport, lostNextExport, finished, longAt, walked, walkOf, WalkedWithin, orLong}
 use Rattle.mount.specs.Laws.Path.{piece-length, short-path, over-path}
 use Rattle.mount.specs.Laws.Group.{groups-even}
 use Rattle.mount.specs.declared.export.exportnode.{exportnode}
@@ -109,11 +110,11 @@ module _ (w : Long) (q n : ℕ) where
   pub or-over : w ≡ long.Nowhere → mostPath < n → long.At (q + 4) ≡ orLong w q n
   or-over e h = sym (rw (e, lt-leb n mostPath h))
 
-module _ (w : Long) (c n : ℕ) (b : Bool) where
-  pub finished-within : w ≡ long.Nowhere → walked·.Within c n b ≡ finished w c n b
+module _ (w : Long) (c n : ℕ) (b d : Bool) where
+  pub finished-within : w ≡ long.Nowhere → walked·.Within c n b d ≡ finished w c n b d
   finished-within e = sym (rw e)
 
-  pub finished-over : (k : ℕ) → w ≡ long.At k → walked·.Over c k ≡ finished w c n b
+  pub finished-over : (k : ℕ) → w ≡ long.At k → walked·.Over c k ≡ finished w c n b d
   finished-over k e = sym (rw e)
 
 abbrev pub orElse : Long → ℕ → Option ℕ → Long
@@ -141,27 +142,27 @@ entry-long long.Nowhere q n m l e = go (leb n mostPath) refl
     go true h = rw (same, h) (farther-on q size (longList l))
     go false h = rw (same, h)
 
--- what is read from `at` on, when `count` entries were read before the place q
-abbrev tallied : Long → ℕ → Bool → ℕ → Answer (List Exportnode) → Walked
-tallied w c b q (took l n b′) = finished (orElse w q (longList l)) (c + length l) n (b && b′)
-tallied w c b q (refused r) = walked·.Refused r
+-- what is read from `at` on, when `count` entries were read before the place q; d is the mark of them all
+abbrev tallied : Long → ℕ → Bool → Bool → ℕ → Answer (List Exportnode) → Walked
+tallied w c b d q (took l n b′) = finished (orElse w q (longList l)) (c + length l) n (b && b′) d
+tallied w c b d q (refused r) = walked·.Refused r
 
 and-assoc : (a b c : Bool) → (a && (b && c)) ≡ ((a && b) && c)
 and-assoc true b c = refl
 and-assoc false b c = refl
 
-unfoldable pub entriesOn : List ℕ → ℕ → ℕ → Bool → Long → Walked
-entriesOn s here count plain w = tallied w count plain here (linked node .kind .read s here)
+unfoldable pub entriesOn : List ℕ → ℕ → ℕ → Bool → Bool → Long → Walked
+entriesOn s here count plain clean w = tallied w count plain (clean && cleanList node s here) here (linked node .kind .read s here)
 
-tally-none : (p : ℕ) (z : Answer (List Exportnode)) → walked p z ≡ tallied long.Nowhere 0 true p z
-tally-none p (took l n b) = rw (zero-add (length l))
-tally-none p (refused r) = refl
+tally-none : (p : ℕ) (d : Bool) (z : Answer (List Exportnode)) → walked p d z ≡ tallied long.Nowhere 0 true d p z
+tally-none p d (took l n b) = rw (zero-add (length l))
+tally-none p d (refused r) = refl
 
 else-none : (w : Long) (q : ℕ) → orElse w q none ≡ w
 else-none (long.At k) q = refl
 else-none long.Nowhere q = refl
 
-module _ (s : List ℕ) (h : Bytes s) (w : Long) (c : ℕ) (b : Bool) (q : ℕ) where
+module _ (s : List ℕ) (h : Bytes s) (w : Long) (c : ℕ) (b d : Bool) (q : ℕ) where
   -- a path that was read has as many bytes as its piece counts
   dir-length : {y : exportnode} {n : ℕ} {b₁ : Bool} → optional node .held .read s q ≡ took (some y) n b₁
       → length (node .held .mean s y .«ex_dir») ≡ y .«ex_dir» .count
@@ -172,42 +173,50 @@ module _ (s : List ℕ) (h : Bytes s) (w : Long) (c : ℕ) (b : Bool) (q : ℕ) 
       left true z i = refl
       left false z i = i
 
-  tally-put : (m : Exportnode) (k n : ℕ) (b₁ : Bool) → length (m .«ex_dir») ≡ k → n ≡ q + length (optional node .codec .kind .write (some m))
+  tally-put : (m : Exportnode) (k n : ℕ) (b₁ d₁ : Bool) → length (m .«ex_dir») ≡ k → n ≡ q + length (optional node .codec .kind .write (some m))
       → (z : Answer (List Exportnode))
-      → tallied w c b q (put (optional node .codec) (optional-some node) m b₁ z) ≡ tallied (orLong w q k) (c + 1) (b && b₁) n z
-  tally-put m k n b₁ i j (took l n′ b₂) =
+      → tallied w c b d₁ q (put (optional node .codec) (optional-some node) m b₁ z) ≡ tallied (orLong w q k) (c + 1) (b && b₁) d₁ n z
+  tally-put m k n b₁ d₁ i j (took l n′ b₂) =
       let e : c + suc (length l) ≡ c + 1 + length l = omega arith in
       let f : orElse w q (longList (m ∷ l)) ≡ orElse (orLong w q k) n (longList l) =
       entry-long w q k m l i ∙ ap (λ z. orElse (orLong w q k) z (longList l)) (sym j) in
-      ap (λ x. finished x (c + suc (length l)) n′ (b && (b₁ && b₂))) f
-      ∙ ap₂ (λ x y. finished (orElse (orLong w q k) n (longList l)) x n′ y) e (and-assoc b b₁ b₂)
-  tally-put m k n b₁ i j (refused r) = refl
+      ap (λ x. finished x (c + suc (length l)) n′ (b && (b₁ && b₂)) d₁) f
+      ∙ ap₂ (λ x y. finished (orElse (orLong w q k) n (longList l)) x n′ y d₁) e (and-assoc b b₁ b₂)
+  tally-put m k n b₁ d₁ i j (refused r) = refl
 
   goes : {y : exportnode} {n : ℕ} {b₁ : Bool} → optional node .held .read s q ≡ took (some y) n b₁
-      → tallied w c b q (linked node .kind .read s q) ≡ tallied (orLong w q (y .«ex_dir» .count)) (c + 1) (b && b₁) n (linked node .kind .read s n)
+      → tallied w c b (d && cleanList node s q) q (linked node .kind .read s q)
+      ≡ tallied (orLong w q (y .«ex_dir» .count)) (c + 1) (b && b₁) ((d && allClean (node .held .marks s y)) && cleanList node s n) n (linked node .kind .read s n)
   goes {y} {n} {b₁} e =
-      ap (tallied w c b q) (list-goes node s h q e)
-      ∙ tally-put (node .held .mean s y) (y .«ex_dir» .count) n b₁ (dir-length e) (step-size node s h q e node-even) (linked node .kind .read s n)
+      let m = (d && allClean (node .held .marks s y)) && cleanList node s n in
+      ap (λ z. tallied w c b z q (linked node .kind .read s q)) (clean-goes node s h d q e)
+      ∙ ap (tallied w c b m q) (list-goes node s h q e)
+      ∙ tally-put (node .held .mean s y) (y .«ex_dir» .count) n b₁ m (dir-length e) (step-size node s h q e node-even) (linked node .kind .read s n)
 
-  ends : {n : ℕ} {b₁ : Bool} → optional node .held .read s q ≡ took none n b₁ → tallied w c b q (linked node .kind .read s q) ≡ finished w c n (b && b₁)
-  ends {n} {b₁} e = ap (tallied w c b q) (list-ends node s h q e) ∙ ap₂ (λ x y. finished x y n (b && b₁)) (else-none w q) (add-zero c)
+  ends : {n : ℕ} {b₁ : Bool} → optional node .held .read s q ≡ took none n b₁
+      → tallied w c b (d && cleanList node s q) q (linked node .kind .read s q) ≡ finished w c n (b && b₁) d
+  ends {n} {b₁} e =
+      ap (λ z. tallied w c b z q (linked node .kind .read s q)) (clean-ends node s h d q e)
+      ∙ ap (tallied w c b d q) (list-ends node s h q e)
+      ∙ ap₂ (λ x y. finished x y n (b && b₁) d) (else-none w q) (add-zero c)
 
-  refuses : {r : Refusal} → optional node .held .read s q ≡ refused r → tallied w c b q (linked node .kind .read s q) ≡ walked·.Refused r
-  refuses e = ap (tallied w c b q) (list-refused node s h q e)
+  refuses : {r : Refusal} → optional node .held .read s q ≡ refused r
+      → tallied w c b (d && cleanList node s q) q (linked node .kind .read s q) ≡ walked·.Refused r
+  refuses e = ap (tallied w c b (d && cleanList node s q) q) (list-refused node s h q e)
 
 -- in the shape of the loop's goals
 module _ (s : List ℕ) (at : ℕ) where
-  pub entries-start : walked at (nodes .codec .kind .read s at) ≡ entriesOn s at 0 true long.Nowhere
+  pub entries-start : walkOf s at ≡ entriesOn s at 0 true true long.Nowhere
   unfolding nodes entriesOn
-  entries-start = tally-none at (linked node .kind .read s at)
+  entries-start = tally-none at (cleanList node s at) (linked node .kind .read s at)
 
-  module _ (here count : ℕ) (plain : Bool) (w : Long) (inv : walked at (nodes .codec .kind .read s at) ≡ entriesOn s here count plain w) (a : NextExportRead)
+  module _ (here count : ℕ) (plain clean : Bool) (w : Long) (inv : walkOf s at ≡ entriesOn s here count plain clean w) (a : NextExportRead)
       (given : (i : ℕ) → Fits w8 (getD s i 0)) (e : viewNextExport a ≡ next-node .held .read s here) where
-    pub entries-refused : (r q : Refusal) → a ≡ NextExport·.Refused r → q ≡ lostNextExport a → walked·.Refused q ≡ walked at (nodes .codec .kind .read s at)
+    pub entries-refused : (r q : Refusal) → a ≡ NextExport·.Refused r → q ≡ lostNextExport a → walked·.Refused q ≡ walkOf s at
     unfolding entriesOn next-node
     entries-refused r q f j =
         let g = by-names-refused node nextExportCases s here (sym e ∙ ap viewNextExport f) in
-        rw (j, f) (sym (inv ∙ refuses s (known-bytes s given) w count plain here g))
+        rw (j, f) (sym (inv ∙ refuses s (known-bytes s given) w count plain clean here g))
 
     module _ (v : NextExport) (n : ℕ) (p : Bool) (f : a ≡ NextExport·.Took v n p) where
       taken : (x : Option exportnode) → v ≡ nextExportCases .to x → optional node .held .read s here ≡ took x n p
@@ -216,9 +225,9 @@ module _ (s : List ℕ) (at : ℕ) where
           by-names node nextExportCases s here (sym e ∙ ap viewNextExport f)
           ∙ ap (λ z. took z n p) (ap (nextExportCases .from) i ∙ nextExportCases .from-to x)
 
-      pub entries-end : v ≡ nextExportIs.End → (z : Walked) → z ≡ finished w count n (plain && p) → z ≡ walked at (nodes .codec .kind .read s at)
+      pub entries-end : v ≡ nextExportIs.End → (z : Walked) → z ≡ finished w count n (plain && p) clean → z ≡ walkOf s at
       unfolding entriesOn
-      entries-end i z k = k ∙ sym (inv ∙ ends s (known-bytes s given) w count plain here (taken none i))
+      entries-end i z k = k ∙ sym (inv ∙ ends s (known-bytes s given) w count plain clean here (taken none i))
 
       module _ (x : exportnode) (i : v ≡ nextExportIs.Export x) where
         entry-inside : (here + 4 ≤ n) × (n ≤ length s)
@@ -227,10 +236,22 @@ module _ (s : List ℕ) (at : ℕ) where
         pub entry-room : here + 4 ≤ n
         entry-room = entry-inside .0
 
-        pub entries-on : (y : Piece) (u : Long) → y ≡ x .«ex_dir» → u ≡ orLong w here (y .count)
-            → walked at (nodes .codec .kind .read s at) ≡ entriesOn s n (count + 1) (plain && p) u
+        -- the marks of an entry are its path's and its groups'
+        two-marks : (d : Bool) → (d && allClean (node .held .marks s x)) ≡ ((d && x .«ex_dir» .clean) && x .«ex_groups» .clean)
+        unfolding node pieceHeld groups
+        two-marks d =
+            ap (λ z. d && (x .«ex_dir» .clean && z)) (and-true (x .«ex_groups» .clean)) ∙ and-assoc d (x .«ex_dir» .clean) (x .«ex_groups» .clean)
+
+        pub entries-on : (y g : Piece) (u : Long) → y ≡ x .«ex_dir» → g ≡ x .«ex_groups» → u ≡ orLong w here (y .count)
+            → walkOf s at ≡ entriesOn s n (count + 1) (plain && p) ((clean && y .clean) && g .clean) u
         unfolding entriesOn
-        entries-on y u j k = rw (k, j) (inv ∙ goes s (known-bytes s given) w count plain here (taken (some x) i))
+        entries-on y g u j l k =
+            rw (k, j, l)
+            (inv
+            ∙ goes s (known-bytes s given) w count plain clean here (taken (some x) i)
+            ∙ ap
+            (λ z. tallied (orLong w here (x .«ex_dir» .count)) (count + 1) (plain && p) (z && cleanList node s n) n (linked node .kind .read s n))
+            (two-marks clean))
 
         pub entries-less : length s - n < length s - here
         entries-less = omega (arith, entry-inside)
@@ -245,22 +266,22 @@ module _ (s : List ℕ) (at : ℕ) where
 -- what a walk says of the reading under the bound
 abbrev pub saidOf : ℕ → Walked → Answer Piece
 saidOf p (walked·.Refused r) = refused r
-saidOf p (walked·.Within c n b) = took (record { at = p; count = c }) n b
+saidOf p (walked·.Within c n b d) = took (record { at = p; count = c; clean = d }) n b
 saidOf p (walked·.Over c k) = refused (LongPath k)
 
 module _ (s : List ℕ) (p : ℕ) where
   said-by : (l : List Exportnode) (n : ℕ) (b : Bool) (o : Option ℕ) → longList l ≡ o → linked node .kind .read s p ≡ took l n b
-      → exports .held .read s p ≡ saidOf p (walked p (took l n b))
+      → exports .held .read s p ≡ saidOf p (walked p (cleanList node s p) (took l n b))
   unfolding exports nodes
   said-by l n b none e f = rw (f, e, f, e)
   said-by l n b (some k) e f = rw (f, e, f, e)
 
-  said-of : (z : Answer (List Exportnode)) → linked node .kind .read s p ≡ z → exports .held .read s p ≡ saidOf p (walked p z)
+  said-of : (z : Answer (List Exportnode)) → linked node .kind .read s p ≡ z → exports .held .read s p ≡ saidOf p (walked p (cleanList node s p) z)
   unfolding exports nodes
   said-of (took l n b) f = said-by l n b (longList l) refl f
   said-of (refused r) f = rw f
 
-  module _ (z : Walked) (e : z ≡ walked p (nodes .codec .kind .read s p)) where
+  module _ (z : Walked) (e : z ≡ walkOf s p) where
     walk-said : saidOf p z ≡ exports .held .read s p
     unfolding nodes
     walk-said = sym (said-of (linked node .kind .read s p) refl ∙ ap (saidOf p) (sym e))
@@ -268,8 +289,9 @@ module _ (s : List ℕ) (p : ℕ) where
     pub said-refused : (r : Refusal) → z ≡ walked·.Refused r → viewPiece (Piece.Refused r) ≡ exports .held .read s p
     said-refused r f = ap (saidOf p) (sym f) ∙ walk-said
 
-    pub said-within : (c n : ℕ) (b : Bool) → z ≡ walked·.Within c n b → viewPiece (Piece.Took (record { at = p; count = c }) n b) ≡ exports .held .read s p
-    said-within c n b f = ap (saidOf p) (sym f) ∙ walk-said
+    pub said-within : (c n : ℕ) (b d : Bool) → z ≡ walked·.Within c n b d
+        → viewPiece (Piece.Took (record { at = p; count = c; clean = d }) n b) ≡ exports .held .read s p
+    said-within c n b d f = ap (saidOf p) (sym f) ∙ walk-said
 
     pub said-over : (c k : ℕ) → z ≡ walked·.Over c k → viewPiece (Piece.Refused (LongPath k)) ≡ exports .held .read s p
     said-over c k f = ap (saidOf p) (sym f) ∙ walk-said
@@ -297,7 +319,7 @@ module _ (s : List ℕ) (at : ℕ) (a : NextExportRead) (e : viewNextExport a �
       has = by-names node nextExportCases s at taken-is
 
       dir : length (node .held .mean s x .«ex_dir») ≡ x .«ex_dir» .count
-      dir = dir-length s (known-bytes s given) long.Nowhere 0 true at has
+      dir = dir-length s (known-bytes s given) long.Nowhere 0 true true at has
 
       module _ (y : Piece) (j : y ≡ x .«ex_dir») where
         pub next-kept : y .count ≤ mostPath → viewNextExport (NextExport·.Took (nextExportIs.Export x) n p) ≡ next-export .held .read s at
@@ -392,29 +414,29 @@ module _ (s : List ℕ) (x : Piece) where
   read-there = linked node .kind .read s (x .at)
 
   -- it does not read
-  gone : (a : Answer (List Exportnode)) → linked node .kind .read s (x .at) ≡ a → (r : Refusal) → walked·.Refused r ≡ walked (x .at) a
+  gone : (a : Answer (List Exportnode)) → linked node .kind .read s (x .at) ≡ a → (d : Bool) (r : Refusal) → walked·.Refused r ≡ walked (x .at) d a
       → nodes .held .inside s x ≡ false
   unfolding nodes
-  gone (took l n b) e r f = by (longAt (x .at) (longList l)) f
+  gone (took l n b) e d r f = by (longAt (x .at) (longList l)) f
     where
-      by : (w : Long) → walked·.Refused r ≡ finished w (length l) n b → nodes .held .inside s x ≡ false
+      by : (w : Long) → walked·.Refused r ≡ finished w (length l) n b d → nodes .held .inside s x ≡ false
       by long.Nowhere g = let z : _≡_ {A = ℕ} 0 1 = cc g in absurd (omega arith)
       by (long.At k) g = let z : _≡_ {A = ℕ} 0 1 = cc g in absurd (omega arith)
-  gone (refused q) e r f = ap (hasCount (x .count)) e
+  gone (refused q) e d r f = ap (hasCount (x .count)) e
 
   -- it has so many entries, and a path over the bound
-  over : (a : Answer (List Exportnode)) → linked node .kind .read s (x .at) ≡ a → (c k : ℕ) → walked·.Over c k ≡ walked (x .at) a
+  over : (a : Answer (List Exportnode)) → linked node .kind .read s (x .at) ≡ a → (d : Bool) (c k : ℕ) → walked·.Over c k ≡ walked (x .at) d a
       → (nodes .held .inside s x ≡ eqb c (x .count)) × (isWithin (longList (nodes .held .mean s x)) ≡ false)
   unfolding nodes
-  over (took l n b) e c k f = by (longList l) refl f
+  over (took l n b) e d c k f = by (longList l) refl f
     where
-      by : (o : Option ℕ) → longList l ≡ o → walked·.Over c k ≡ finished (longAt (x .at) o) (length l) n b
+      by : (o : Option ℕ) → longList l ≡ o → walked·.Over c k ≡ finished (longAt (x .at) o) (length l) n b d
           → (nodes .held .inside s x ≡ eqb c (x .count)) × (isWithin (longList (nodes .held .mean s x)) ≡ false)
       by none i g = let z : _≡_ {A = ℕ} 0 1 = cc g in absurd (omega arith)
       by (some j) i g =
           let h : c ≡ length l = cc g in
           (ap (hasCount (x .count)) e ∙ ap (λ m. eqb m (x .count)) (sym h), ap (λ z. isWithin (longList (elementsOf z))) e ∙ ap isWithin i)
-  over (refused q) e c k f = let z : _≡_ {A = ℕ} 0 1 = cc f in absurd (omega arith)
+  over (refused q) e d c k f = let z : _≡_ {A = ℕ} 0 1 = cc f in absurd (omega arith)
 
   -- it has so many entries, and is within the bound
   pub record Whole (c n : ℕ) (b : Bool) : Type 0 where
@@ -423,16 +445,17 @@ module _ (s : List ℕ) (x : Piece) where
     pub count : c ≡ length list
     pub short : longList list ≡ none
 
-  whole : (a : Answer (List Exportnode)) → linked node .kind .read s (x .at) ≡ a → (c n : ℕ) (b : Bool) → walked·.Within c n b ≡ walked (x .at) a → Whole c n b
-  whole (took l n′ b′) e c n b f = by (longList l) refl f
+  whole : (a : Answer (List Exportnode)) → linked node .kind .read s (x .at) ≡ a → (d₁ : Bool) (c n : ℕ) (b d : Bool)
+      → walked·.Within c n b d ≡ walked (x .at) d₁ a → Whole c n b
+  whole (took l n′ b′) e d₁ c n b d f = by (longList l) refl f
     where
-      by : (o : Option ℕ) → longList l ≡ o → walked·.Within c n b ≡ finished (longAt (x .at) o) (length l) n′ b′ → Whole c n b
+      by : (o : Option ℕ) → longList l ≡ o → walked·.Within c n b d ≡ finished (longAt (x .at) o) (length l) n′ b′ d₁ → Whole c n b
       by none i g =
           let h : n′ ≡ n = cc g in
           let j : b′ ≡ b = cc g in
           record { list = l; reads = e ∙ ap₂ (λ (n : ℕ) b. took l n b) h j; count = cc g; short = i }
       by (some k) i g = let z : _≡_ {A = ℕ} 0 1 = cc g in absurd (omega arith)
-  whole (refused q) e c n b f = let z : _≡_ {A = ℕ} 0 1 = cc f in absurd (omega arith)
+  whole (refused q) e d₁ c n b d f = let z : _≡_ {A = ℕ} 0 1 = cc f in absurd (omega arith)
 
   module _ (at : ℕ) (o : List ℕ) (w : Wrote) where
     over-writes : (i : Bool) → viewWrote w ≡ overBound (length s) i (length o) at → i ≡ nodes .held .inside s x
@@ -449,30 +472,29 @@ module _ (s : List ℕ) (x : Piece) where
             let k : placing (length s) i 0 (length o) at ≡ placing (length s) (nodes .held .inside s x) 0 (length o) at = ap (λ b. placing (length s) b 0 (length o) at) f in
             subst (λ v. WritesWithin nodes longList s x at o v o) (sym j) (over-refused nodes longList s x at o k g h)
 
-    module _ (z : Walked) (e : z ≡ walked (x .at) (nodes .codec .kind .read s (x .at))) where
+    module _ (z : Walked) (e : z ≡ walkOf s (x .at)) where
       pub list-gone : (r : Refusal) → z ≡ walked·.Refused r → viewWrote w ≡ overBound (length s) false (length o) at
           → WritesWithin nodes longList s x at o (viewWrote w) o
       unfolding nodes
       list-gone r f g =
-          let i = gone (linked node .kind .read s (x .at)) refl r (sym f ∙ e) in
+          let i = gone (linked node .kind .read s (x .at)) refl (cleanList node s (x .at)) r (sym f ∙ e) in
           over-writes false g (sym i) (λ t. let j : false ≡ true = sym i ∙ t in let v : _≡_ {A = ℕ} 0 1 = cc j in absurd (omega arith))
 
       pub list-over : (c k : ℕ) → z ≡ walked·.Over c k → viewWrote w ≡ overBound (length s) (eqb c (x .count)) (length o) at
           → WritesWithin nodes longList s x at o (viewWrote w) o
       unfolding nodes
       list-over c k f g =
-          let i = over (linked node .kind .read s (x .at)) refl c k (sym f ∙ e) in
+          let i = over (linked node .kind .read s (x .at)) refl (cleanList node s (x .at)) c k (sym f ∙ e) in
           over-writes (eqb c (x .count)) g (sym (i .0)) (λ t. i .1)
 
-  pub walk-is : (z : Walked) (c n : ℕ) (b : Bool) → z ≡ walked (x .at) (nodes .codec .kind .read s (x .at)) → z ≡ walked·.Within c n b
-      → walked·.Within c n b ≡ walked (x .at) (nodes .codec .kind .read s (x .at))
-  walk-is z c n b e f = sym f ∙ e
+  pub walk-is : (z : Walked) (c n : ℕ) (b d : Bool) → z ≡ walkOf s (x .at) → z ≡ walked·.Within c n b d → WalkedWithin s (x .at) c n
+  walk-is z c n b d e f = record { plain = b; clean = d; is = sym f ∙ e }
 
   -- writing a list that is within the bound
-  module _ (c n : ℕ) (b : Bool) (e : walked·.Within c n b ≡ walked (x .at) (nodes .codec .kind .read s (x .at))) where
-    its : Whole c n b
+  module _ (c n : ℕ) (e : WalkedWithin s (x .at) c n) where
+    its : Whole c n (e .plain)
     unfolding nodes
-    its = whole (linked node .kind .read s (x .at)) refl c n b e
+    its = whole (linked node .kind .read s (x .at)) refl (cleanList node s (x .at)) c n (e .plain) (e .clean) (e .is)
 
     list-inside : nodes .held .inside s x ≡ eqb c (x .count)
     unfolding nodes
@@ -483,7 +505,7 @@ module _ (s : List ℕ) (x : Piece) where
     list-short = ap (λ z. longList (elementsOf z)) (its .reads) ∙ its .short
 
     module _ (given : (i : ℕ) → Fits w8 (getD s i 0)) where
-      its-form : Found (linked node .kind) s (x .at) (its .list) n b
+      its-form : Found (linked node .kind) s (x .at) (its .list) n (e .plain)
       its-form = subst (Sound (linked node .kind) s (x .at)) (its .reads) (linked node .laws .sound s (x .at) (known-bytes s given))
 
       pub list-ahead : x .at ≤ n

@@ -1,7 +1,7 @@
 -- How a list of names is read: what the loop keeps.
 -- Assumes nothing.
 use mathlib.Core.Path.{_≡_, refl, sym, ap, _∙_}
-use mathlib.Core.Bool.{Bool, true, false, _&&_}
+use mathlib.Core.Bool.{Bool, true, false, _&&_, and-true}
 use mathlib.Core.Option.{none, some}
 use mathlib.Core.List.{List, []}
 use Prim.Native.Nat.{ℕ, suc, _+_, _-_, _≤_, _<_}
@@ -10,8 +10,7 @@ use lib.ListN.{length, getD}
 use mir.Syntax.{w8, w64}
 use mir.Val.{Fits}
 use Rattle.xdr.specs.Meaning.Answer.{Answer, took, refused}
-use Rattle.xdr.specs.Meaning.Formats.{bytes}
-use Rattle.xdr.specs.Meaning.Lists.{linked}
+use Rattle.xdr.specs.Meaning.Formats.{pieceHeld, bytes}
 use Rattle.xdr.specs.Meaning.Views.{viewPiece}
 use Rattle.xdr.specs.Laws.Lists.{known-bytes}
 use Rattle.xdr.specs.Laws.One.{Told}
@@ -22,7 +21,7 @@ use borrow.Rule.Slice.PartMut.{midOf, putMid}
 use Rattle.xdr.specs.Laws.Fields.{Lays}
 use Rattle.xdr.specs.Laws.Optional.{OptionalHeld}
 use Rattle.xdr.specs.Laws.Laying.{LaysFrom, Partly, partly-start, partly-refused, partly-short, partly-end, partly-on}
-use Rattle.xdr.specs.Laws.Walks.{by-names, by-names-refused, tally, tally-starts, tally-goes, tally-ends, tally-refused, step-inside}
+use Rattle.xdr.specs.Laws.Walks.{by-names, by-names-refused, onward, tally-starts, tally-goes, tally-ends, tally-refused, step-inside}
 use Rattle.xdr.specs.declared.answer.PieceRead.{PieceRead}
 use Rattle.xdr.specs.declared.answer.PieceRead.the-variants as Piece
 use Rattle.xdr.specs.declared.piece.Piece.{Piece}
@@ -47,36 +46,39 @@ pub groups-even : Even (groups .codec .kind)
 unfolding groups
 groups-even = list-even bytes opaque-even
 
--- what is read from `at` on, when `count` names were read before the place `here`, and `plain` says if nothing was loose in them
-unfoldable pub namesOn : List ℕ → ℕ → ℕ → ℕ → Bool → Answer Piece
-namesOn s at here count plain = tally at count plain (linked bytes .kind .read s here)
+-- what is read from `at` on, when `count` names were read before the place `here`, `plain` says if nothing was loose in them, and `clean` is
+-- their mark
+unfoldable pub namesOn : List ℕ → ℕ → ℕ → ℕ → Bool → Bool → Answer Piece
+namesOn s at here count plain clean = onward bytes s at count plain clean here
 
 module _ (s : List ℕ) (at : ℕ) where
-  pub names-start : groups .held .read s at ≡ namesOn s at at 0 true
+  pub names-start : groups .held .read s at ≡ namesOn s at at 0 true true
   unfolding groups namesOn
   names-start = tally-starts bytes s at
 
-  module _ (here count : ℕ) (plain : Bool) (inv : groups .held .read s at ≡ namesOn s at here count plain) (a : NextGroupRead)
+  module _ (here count : ℕ) (plain clean : Bool) (inv : groups .held .read s at ≡ namesOn s at here count plain clean) (a : NextGroupRead)
       (given : (i : ℕ) → Fits w8 (getD s i 0)) (e : viewNextGroup a ≡ next-group .held .read s here) where
     pub names-refused : (r q : Refusal) → a ≡ NextGroup·.Refused r → q ≡ lostNextGroup a → viewPiece (Piece.Refused q) ≡ groups .held .read s at
     unfolding namesOn next-group
     names-refused r q f j =
         let g = by-names-refused bytes nextGroupCases s here (sym e ∙ ap viewNextGroup f) in
-        rw (j, f) (sym (inv ∙ tally-refused bytes s (known-bytes s given) at count plain here g))
+        rw (j, f) (sym (inv ∙ tally-refused bytes s (known-bytes s given) at count plain clean here g))
 
     module _ (v : NextGroup) (n : ℕ) (p : Bool) (f : a ≡ NextGroup·.Took v n p) where
-      pub names-end : v ≡ nextGroupIs.End → viewPiece (Piece.Took (record { at = at; count = count }) n (plain && p)) ≡ groups .held .read s at
+      pub names-end : v ≡ nextGroupIs.End → viewPiece (Piece.Took (record { at = at; count = count; clean = clean }) n (plain && p)) ≡ groups .held .read s at
       unfolding namesOn next-group
       names-end i =
           let g = by-names bytes nextGroupCases s here (sym e ∙ ap viewNextGroup f ∙ ap (λ v. took v n p) i) in
-          sym (inv ∙ tally-ends bytes s (known-bytes s given) at count plain here g)
+          sym (inv ∙ tally-ends bytes s (known-bytes s given) at count plain clean here g)
 
       module _ (x : Piece) (i : v ≡ nextGroupIs.Name x) where
-        pub names-on : groups .held .read s at ≡ namesOn s at n (count + 1) (plain && p)
-        unfolding namesOn next-group
+        pub names-on : groups .held .read s at ≡ namesOn s at n (count + 1) (plain && p) (clean && x .clean)
+        unfolding namesOn next-group pieceHeld
         names-on =
             let g = by-names bytes nextGroupCases s here (sym e ∙ ap viewNextGroup f ∙ ap (λ v. took v n p) i) in
-            inv ∙ tally-goes bytes s (known-bytes s given) at count plain here g
+            inv
+            ∙ tally-goes bytes s (known-bytes s given) at count plain clean here g
+            ∙ ap (λ z. onward bytes s at (count + 1) (plain && p) (clean && z) n) (and-true (x .clean))
 
         pub name-inside : (here + 4 ≤ n) × (n ≤ length s)
         unfolding next-group

@@ -3,7 +3,7 @@
 -- Assumes nothing.
 use mathlib.Core.Path.{_≡_, ap, refl, ap₂}
 use mathlib.Core.Bool.{true, Bool, _&&_}
-use mathlib.Core.List.{List, []}
+use mathlib.Core.List.{List, [], _∷_}
 use Prim.Native.Nat.{ℕ, _≤_}
 use native.Mathlib.Omega.{arith}
 use lib.ListN.{length}
@@ -15,6 +15,7 @@ use Rattle.xdr.specs.Meaning.Formats.{bytes, wordList, pieceHeld, wordsHeld}
 use Rattle.xdr.specs.Meaning.Status.{Arms, Result}
 use Rattle.xdr.specs.Meaning.Pieces.{isInside, areInside}
 use Rattle.xdr.specs.Meaning.Public.{Writes, output}
+use Rattle.xdr.specs.Meaning.Marks.{Marked, MarksAre}
 use Rattle.xdr.specs.Laws.Padding.{size-small, words-small}
 use Rattle.xdr.specs.Laws.Closed.{by-number}
 use Rattle.xdr.specs.Laws.Fixed.{Fixed, seen-fixed, word-fixed}
@@ -25,6 +26,8 @@ use Rattle.xdr.specs.Laws.Write.{Ready}
 use Rattle.xdr.specs.Laws.Writers.{Writer, bytes-writer, words-writer}
 use Rattle.xdr.specs.Laws.Fields.{pair-writer, named-sized, Lays, lays-named, codec-writer}
 use Rattle.xdr.specs.Laws.Status.{OnStatus, status-lost, armBy, status-took, status-within, resultSize, status-sized}
+use Rattle.xdr.specs.Laws.Unpadded.{Unpadded, closed-unpadded, void-unpadded}
+use Rattle.xdr.specs.Laws.Marked.{named-marked, pair-marked, bytes-marked, words-marked, status-marked, plain-marked}
 use Rattle.xdr.specs.declared.refusal.Refusal.{Refusal}
 use Rattle.mount.specs.Meaning.Mnt.{viewMountstat3, lostMountstat3, mountstat, mountstatNumber, mountstatAll, each-mountstat, mountstatOr, mountres-ok, viewMountres3Ok, lostMountres3Ok, mountresOkNames, mountresArms, mountres, viewMountres3, lostMountres3, mountresFrom}
 use Rattle.mount.specs.declared.mnt.Mountstat3Read.{Mountstat3Read}
@@ -53,6 +56,10 @@ mountstat3-told (Mountstat3.Refused r) (Mountstat3.Refused r′) e = cc
 pub mountstat-within : Within 0 (mountstat .kind)
 unfolding mountstat
 mountstat-within = closed-within mountstatNumber mountstatAll each-mountstat
+
+pub mountstat-unpadded : Unpadded (mountstat .kind)
+unfolding mountstat
+mountstat-unpadded = closed-unpadded mountstatNumber mountstatAll each-mountstat
 
 pub mountstat-fixed : Fixed 4 mountstat
 unfolding mountstat
@@ -95,6 +102,14 @@ mountres3-ok-told (Mountres3Ok.Refused r) (Mountres3Ok.Refused r′) e = cc
 pub mountres-ok-within : Within 0 (mountres-ok .codec .kind)
 unfolding mountres-ok
 mountres-ok-within = view-within _ _ ((bytes ⨟ wordList) .codec .laws) (pair-within opaque-within words-within) (λ x m l u w e s f. no-default s)
+
+pub mountres-ok-marked : Marked (mountres-ok .held)
+unfolding mountres-ok
+mountres-ok-marked = named-marked (bytes ⨟ wordList) mountresOkNames (pair-marked bytes-marked words-marked)
+
+pub mountres-ok-marks : (x : «mountres3_ok») → MarksAre mountres-ok x (x .fhandle .clean ∷ x .«auth_flavors» .clean ∷ [])
+unfolding mountres-ok pieceHeld wordsHeld
+mountres-ok-marks x = record { are = λ s. refl }
 
 abbrev pub mountres-ok-1 : Writer (bytes ⨟ wordList)
 mountres-ok-1 = pair-writer bytes-writer words-writer
@@ -139,6 +154,10 @@ mountres3-told (Mountres3.Took v n p) (Mountres3.Took v′ n′ p′) e = cc
 mountres3-told (Mountres3.Took v n p) (Mountres3.Refused r) e = cc
 mountres3-told (Mountres3.Refused r) (Mountres3.Took v n p) e = cc
 mountres3-told (Mountres3.Refused r) (Mountres3.Refused r′) e = cc
+
+pub mountres-marked : Marked (mountres .held)
+unfolding mountres
+mountres-marked = status-marked mountstat mountstatOr mountres-ok (exactly void) mountresArms mountstat-unpadded mountres-ok-marked (plain-marked void-unpadded)
 
 pub mountres-within : Within 0 (mountres .codec .kind)
 unfolding mountres

@@ -14,6 +14,7 @@ use Rattle.xdr.specs.Laws.Records.{ByPlan, fields, one}
 use Rattle.xdr.specs.Laws.Lengths.{Within, mapped-within, pair-within, word-within}
 use Rattle.xdr.specs.Laws.Writers.{Writer}
 use Rattle.xdr.specs.Laws.Fields.{pair-writer, fixed-writer, Lays}
+use Rattle.xdr.specs.Laws.Unpadded.{Unpadded, view-unpadded, pair-unpadded, word-unpadded}
 use Rattle.mount.specs.Meaning.Portmap.{port-mapping, viewMapping, lostMapping}
 use Rattle.mount.specs.declared.portmap.mapping.{mapping}
 use Rattle.mount.specs.declared.portmap.MappingRead.the-variants as Mapping
@@ -38,6 +39,10 @@ mapping-told (Mapping.Refused r) (Mapping.Refused r′) e = cc
 pub port-mapping-within : Within 0 (port-mapping .kind)
 unfolding port-mapping
 port-mapping-within = mapped-within (word ⨾ word ⨾ word ⨾ word) _ _ _ _ (pair-within word-within (pair-within word-within (pair-within word-within word-within)))
+
+pub port-mapping-unpadded : Unpadded (port-mapping .kind)
+unfolding port-mapping
+port-mapping-unpadded = view-unpadded (λ x. refl) (pair-unpadded word-unpadded (pair-unpadded word-unpadded (pair-unpadded word-unpadded word-unpadded)))
 
 pub port-mapping-fixed : Fixed 16 port-mapping
 unfolding port-mapping

@@ -21,7 +21,7 @@ use Rattle.xdr.specs.Meaning.Format.{optional}
 use Rattle.xdr.specs.Meaning.Formats.{bytes, pieceHeld}
 use Rattle.xdr.specs.Meaning.Kind.{Found, Sound}
 use Rattle.xdr.specs.Meaning.Linked.{elementsOf, hasCount}
-use Rattle.xdr.specs.Meaning.Lists.{linked, listOf}
+use Rattle.xdr.specs.Meaning.Lists.{linked, cleanList, listOf}
 use Rattle.xdr.specs.Meaning.Pieces.{bytesIn}
 use Rattle.xdr.specs.Meaning.Promise.{Reading}
 use Rattle.xdr.specs.Meaning.Public.{output}
@@ -34,7 +34,7 @@ use Rattle.xdr.specs.declared.piece.Piece.{Piece}
 use Rattle.xdr.specs.declared.refusal.Refusal.{Refusal}
 use Rattle.xdr.specs.declared.refusal.Refusal.the-variants.{TooLong, Outside, LongPath}
 use Rattle.mount.specs.Meaning.Group.{groups, nextGroupCases, next-group, viewNextGroup}
-use Rattle.mount.specs.Meaning.Export.{Exportnode, node, nodes, longList, nextExportCases, next-node, viewNextExport, finished, longAt, walked}
+use Rattle.mount.specs.Meaning.Export.{Exportnode, node, nodes, longList, nextExportCases, next-node, viewNextExport, finished, longAt, walked, walkOf}
 use Rattle.mount.specs.Meaning.Same.{Alike, withCount, standingBy, standingOf, worse, isHeld, isShort, objection, Says, Compares}
 use Rattle.mount.specs.Laws.Path.{piece-length}
 use Rattle.mount.specs.Laws.Pairs.{isTook, untrue, counted, Steps}
@@ -184,27 +184,27 @@ module _ (c n : ℕ) (u : Standing) where
 
 abbrev standOf : ℕ → Walked → Standing
 standOf n (walked·.Refused r) = standing.Outside
-standOf n (walked·.Within c m b) = withCount c n standing.Within
+standOf n (walked·.Within c m b d) = withCount c n standing.Within
 standOf n (walked·.Over c k) = withCount c n standing.Long
 
-stand-long : (p c n m : ℕ) (b : Bool) (o : Option ℕ) → standOf n (finished (longAt p o) c m b) ≡ standingBy (eqb c n) (isWithin o)
-stand-long p c n m b none = refl
-stand-long p c n m b (some k) = refl
+stand-long : (p c n m : ℕ) (b d : Bool) (o : Option ℕ) → standOf n (finished (longAt p o) c m b d) ≡ standingBy (eqb c n) (isWithin o)
+stand-long p c n m b d none = refl
+stand-long p c n m b d (some k) = refl
 
-stand-walked : (p n : ℕ) (z : Answer (List Exportnode)) → standOf n (walked p z) ≡ standingBy (hasCount n z) (isWithin (longList (elementsOf z)))
-stand-walked p n (took l m b) = stand-long p (length l) n m b (longList l)
-stand-walked p n (refused r) = refl
+stand-walked : (p n : ℕ) (d : Bool) (z : Answer (List Exportnode)) → standOf n (walked p d z) ≡ standingBy (hasCount n z) (isWithin (longList (elementsOf z)))
+stand-walked p n d (took l m b) = stand-long p (length l) n m b d (longList l)
+stand-walked p n d (refused r) = refl
 
-module _ (s : List ℕ) (x : Piece) (z : Walked) (e : z ≡ walked (x .at) (nodes .codec .kind .read s (x .at))) where
+module _ (s : List ℕ) (x : Piece) (z : Walked) (e : z ≡ walkOf s (x .at)) where
   stand-is : standOf (x .count) z ≡ standingOf s x
   unfolding nodes
-  stand-is = ap (standOf (x .count)) e ∙ stand-walked (x .at) (x .count) (linked node .kind .read s (x .at))
+  stand-is = ap (standOf (x .count)) e ∙ stand-walked (x .at) (x .count) (cleanList node s (x .at)) (linked node .kind .read s (x .at))
 
   pub stands-refused : (r : Refusal) → z ≡ walked·.Refused r → standing.Outside ≡ standingOf s x
   stands-refused r f = ap (standOf (x .count)) (sym f) ∙ stand-is
 
-  pub stands-within : (c m : ℕ) (b : Bool) (u : Standing) → z ≡ walked·.Within c m b → u ≡ withCount c (x .count) standing.Within → u ≡ standingOf s x
-  stands-within c m b u f i = i ∙ ap (standOf (x .count)) (sym f) ∙ stand-is
+  pub stands-within : (c m : ℕ) (b d : Bool) (u : Standing) → z ≡ walked·.Within c m b d → u ≡ withCount c (x .count) standing.Within → u ≡ standingOf s x
+  stands-within c m b d u f i = i ∙ ap (standOf (x .count)) (sym f) ∙ stand-is
 
   pub stands-over : (c k : ℕ) (u : Standing) → z ≡ walked·.Over c k → u ≡ withCount c (x .count) standing.Long → u ≡ standingOf s x
   stands-over c k u f i = i ∙ ap (standOf (x .count)) (sym f) ∙ stand-is

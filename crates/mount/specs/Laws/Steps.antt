@@ -34,8 +34,8 @@ module _ {M S : Type 0} (F : Format M S) (s : List ℕ) (h : Bytes s) (x : Piece
     pub next : ℕ
     pub plain : Bool
     pub reads : optional F .held .read s (x .at) ≡ took (some element) next plain
-    pub inside : listOf F .held .inside s (record { at = next; count = c }) ≡ true
-    pub mean : listOf F .held .mean s x ≡ F .held .mean s element ∷ listOf F .held .mean s (record { at = next; count = c })
+    pub inside : listOf F .held .inside s (record { at = next; count = c; clean = true }) ≡ true
+    pub mean : listOf F .held .mean s x ≡ F .held .mean s element ∷ listOf F .held .mean s (record { at = next; count = c; clean = true })
 
   pub record End : Type 0 where
     pub next : ℕ
@@ -96,7 +96,7 @@ module _ (s : List ℕ) (h : Bytes s) (x : Piece) (i : groups .held .inside s x 
     pub next : ℕ
     pub plain : Bool
     pub reads : next-group .held .read s (x .at) ≡ took (nextGroupIs.Name name) next plain
-    pub inside : groups .held .inside s (record { at = next; count = c }) ≡ true
+    pub inside : groups .held .inside s (record { at = next; count = c; clean = true }) ≡ true
 
   pub walk-name : (c : ℕ) → x .count ≡ suc c → Name c
   unfolding groups next-group
@@ -128,16 +128,16 @@ module _ (s : List ℕ) (h : Bytes s) (x : Piece) (i : exports .held .inside s x
     pub next : ℕ
     pub plain : Bool
     pub reads : next-export .held .read s (x .at) ≡ took (nextExportIs.Export entry) next plain
-    pub inside : exports .held .inside s (record { at = next; count = c }) ≡ true
-    pub within : longList (exports .held .mean s (record { at = next; count = c })) ≡ none
-    pub mean : exports .held .mean s x ≡ node .held .mean s entry ∷ exports .held .mean s (record { at = next; count = c })
+    pub inside : exports .held .inside s (record { at = next; count = c; clean = true }) ≡ true
+    pub within : longList (exports .held .mean s (record { at = next; count = c; clean = true })) ≡ none
+    pub mean : exports .held .mean s x ≡ node .held .mean s entry ∷ exports .held .mean s (record { at = next; count = c; clean = true })
 
   pub walk-entry : (c : ℕ) → x .count ≡ suc c → Entry c
   unfolding exports nodes next-node next-export
   walk-entry c e =
       let d = step node s h x c e i in
       let m = node .held .mean s (d .element) in
-      let l = listOf node .held .mean s (record { at = d .next; count = c }) in
+      let l = listOf node .held .mean s (record { at = d .next; count = c; clean = true }) in
       let k : longList (m ∷ l) ≡ none = ap longList (sym (d .mean)) ∙ w in
       let a : longEntry (some m) ≡ none = entry-kept (longEntry (some m)) _ k in
       record {

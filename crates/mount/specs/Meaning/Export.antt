@@ -11,7 +11,7 @@ use Rattle.xdr.specs.Meaning.Answer.{Answer, took, refused}
 use Rattle.xdr.specs.Meaning.Format.{Format, Renaming, named, _⨟_, optional}
 use Rattle.xdr.specs.Meaning.Formats.{bytes}
 use Rattle.xdr.specs.Meaning.Cases.{Cases, maybeHeld}
-use Rattle.xdr.specs.Meaning.Lists.{listOf, bounded}
+use Rattle.xdr.specs.Meaning.Lists.{cleanList, listOf, bounded}
 use Rattle.xdr.specs.declared.piece.Piece.{Piece}
 use Rattle.xdr.specs.declared.refusal.Refusal.{Refusal}
 use Rattle.xdr.specs.declared.refusal.Refusal.the-variants.{PastEnd}
@@ -120,18 +120,27 @@ abbrev pub lostNextExport : NextExportRead → Refusal
 lostNextExport (NextExport·.Refused r) = r
 lostNextExport (NextExport·.Took v n p) = PastEnd
 
--- what a walk finds: how many entries, and where the list ends, or where its first path over the bound stands
-abbrev pub finished : Long → ℕ → ℕ → Bool → Walked
-finished long.Nowhere c n b = walked·.Within c n b
-finished (long.At k) c n b = walked·.Over c k
+-- what a walk finds: how many entries, and where the list ends, with its mark, or where its first path over the bound stands
+abbrev pub finished : Long → ℕ → ℕ → Bool → Bool → Walked
+finished long.Nowhere c n b d = walked·.Within c n b d
+finished (long.At k) c n b d = walked·.Over c k
 
 abbrev pub longAt : ℕ → Option ℕ → Long
 longAt p none = long.Nowhere
 longAt p (some k) = long.At (p + k)
 
-abbrev pub walked : ℕ → Answer (List Exportnode) → Walked
-walked p (took l n b) = finished (longAt p (longList l)) (length l) n b
-walked p (refused r) = walked·.Refused r
+abbrev pub walked : ℕ → Bool → Answer (List Exportnode) → Walked
+walked p d (took l n b) = finished (longAt p (longList l)) (length l) n b d
+walked p d (refused r) = walked·.Refused r
+
+abbrev pub walkOf : List ℕ → ℕ → Walked
+walkOf s p = walked p (cleanList node s p) (nodes .codec .kind .read s p)
+
+-- a list is within the bound, and the walk finds its count and its end
+pub record WalkedWithin (s : List ℕ) (p c n : ℕ) : Type 0 where
+  pub plain : Bool
+  pub clean : Bool
+  pub is : walked·.Within c n plain clean ≡ walkOf s p
 
 -- the first so far, or else a path of n bytes in an entry whose flag stands at q
 abbrev pub orLong : Long → ℕ → ℕ → Long

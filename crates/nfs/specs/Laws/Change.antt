@@ -13,6 +13,7 @@ use Rattle.xdr.specs.Laws.Plans.{Step, step, Loses, lost-at}
 use Rattle.xdr.specs.Laws.Records.{ByPlan}
 use Rattle.xdr.specs.Laws.Lengths.{Within, word-within, hyper-within}
 use Rattle.xdr.specs.Laws.Optional.{maybe-plan, maybe-within, Optional, Between, maybe-between}
+use Rattle.xdr.specs.Laws.Unpadded.{Unpadded, view-unpadded, option-unpadded, word-unpadded, hyper-unpadded}
 use Rattle.nfs.specs.Meaning.Change.{set-mode, setModeCases, viewSetMode3, lostSetMode3, set-uid, setUidCases, viewSetUid3, lostSetUid3, set-gid, setGidCases, viewSetGid3, lostSetGid3, set-size, setSizeCases, viewSetSize3, lostSetSize3}
 use Rattle.nfs.specs.declared.change.set_gid3.{«set_gid3»}
 use Rattle.nfs.specs.declared.change.set_mode3.{«set_mode3»}
@@ -55,6 +56,10 @@ set-mode-between v = maybe-between word setModeCases word-fixed v
 pub set-mode-small : (v : «set_mode3») → length (set-mode .kind .write v) ≤ most
 set-mode-small v = omega (arith, set-mode-between v)
 
+pub set-mode-unpadded : Unpadded (set-mode .kind)
+unfolding set-mode
+set-mode-unpadded = view-unpadded (λ x. refl) (option-unpadded word word-unpadded)
+
 -- set_uid3
 abbrev pub set-uid-plan : ByPlan set-uid
 unfolding set-uid
@@ -86,6 +91,10 @@ set-uid-between v = maybe-between word setUidCases word-fixed v
 
 pub set-uid-small : (v : «set_uid3») → length (set-uid .kind .write v) ≤ most
 set-uid-small v = omega (arith, set-uid-between v)
+
+pub set-uid-unpadded : Unpadded (set-uid .kind)
+unfolding set-uid
+set-uid-unpadded = view-unpadded (λ x. refl) (option-unpadded word word-unpadded)
 
 -- set_gid3
 abbrev pub set-gid-plan : ByPlan set-gid
@@ -119,6 +128,10 @@ set-gid-between v = maybe-between word setGidCases word-fixed v
 pub set-gid-small : (v : «set_gid3») → length (set-gid .kind .write v) ≤ most
 set-gid-small v = omega (arith, set-gid-between v)
 
+pub set-gid-unpadded : Unpadded (set-gid .kind)
+unfolding set-gid
+set-gid-unpadded = view-unpadded (λ x. refl) (option-unpadded word word-unpadded)
+
 -- set_size3
 abbrev pub set-size-plan : ByPlan set-size
 unfolding set-size
@@ -150,3 +163,7 @@ set-size-between v = maybe-between hyper setSizeCases hyper-fixed v
 
 pub set-size-small : (v : «set_size3») → length (set-size .kind .write v) ≤ most
 set-size-small v = omega (arith, set-size-between v)
+
+pub set-size-unpadded : Unpadded (set-size .kind)
+unfolding set-size
+set-size-unpadded = view-unpadded (λ x. refl) (option-unpadded hyper hyper-unpadded)

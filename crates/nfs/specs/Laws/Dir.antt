@@ -1,9 +1,9 @@
 -- made by tools/generate from crates/nfs/rfc/dir.x
 -- What follows for the kinds of dir: how they are read, how many bytes they have, and what is laid of them.
 -- Assumes nothing.
-use mathlib.Core.Path.{_≡_, refl, ap₂}
+use mathlib.Core.Path.{refl, _≡_, ap₂}
 use mathlib.Core.Bool.{Bool, _&&_}
-use mathlib.Core.List.{List}
+use mathlib.Core.List.{_∷_, [], List}
 use Prim.Native.Nat.{ℕ, _≤_}
 use native.Mathlib.Omega.{arith}
 use lib.ListN.{length}
@@ -11,6 +11,7 @@ use Rattle.xdr.specs.Meaning.Format.{_⨟_, exactly}
 use Rattle.xdr.specs.Meaning.Formats.{bytes, pieceHeld}
 use Rattle.xdr.specs.Meaning.Pieces.{isInside}
 use Rattle.xdr.specs.Meaning.Public.{output, laidOf}
+use Rattle.xdr.specs.Meaning.Marks.{Marked, MarksAre}
 use Rattle.xdr.specs.Laws.Padding.{size-small}
 use Rattle.xdr.specs.Laws.One.{Told}
 use Rattle.xdr.specs.Laws.Plans.{Planned, plan, at, Step, step, Loses, lost-at, optionally, _then_}
@@ -19,8 +20,10 @@ use Rattle.xdr.specs.Laws.Write.{Ready}
 use Rattle.xdr.specs.Laws.Writers.{bytes-writer, Writer}
 use Rattle.xdr.specs.Laws.Fields.{named-sized, pair-writer, Lays, lays-named, codec-writer}
 use Rattle.xdr.specs.Laws.Optional.{held-within, OptionalHeld, optionSize, held-sized}
+use Rattle.xdr.specs.Laws.Marked.{named-marked, bytes-marked, maybe-marked, pair-marked, plain-marked}
 use Rattle.nfs.specs.Laws.Bytes.{sattr-between}
 use Rattle.nfs.specs.Laws.Lengths.{sattr-within}
+use Rattle.nfs.specs.Laws.Unpadded.{sattr-unpadded}
 use Rattle.nfs.specs.Meaning.Dir.{nfs-fh, viewNfsFh3, lostNfsFh3, nfsFhNames, post-op-fh, viewPostOpFh3, lostPostOpFh3, postOpFhCases, postOpFhFrom, diropargs, viewDiropargs3, lostDiropargs3, diropargsNames, symlinkdata, viewSymlinkdata3, lostSymlinkdata3, symlinkdataNames}
 use Rattle.nfs.specs.Meaning.Set.{sattr}
 use Rattle.nfs.specs.declared.dir.diropargs3.{diropargs3}
@@ -53,6 +56,14 @@ nfs-fh3-told (NfsFh3.Refused r) (NfsFh3.Refused r′) e = cc
 pub nfs-fh-within : Within 0 (nfs-fh .codec .kind)
 unfolding nfs-fh
 nfs-fh-within = view-within _ _ (bytes .codec .laws) opaque-within (λ x m l u w e s f. no-default s)
+
+pub nfs-fh-marked : Marked (nfs-fh .held)
+unfolding nfs-fh
+nfs-fh-marked = named-marked bytes nfsFhNames bytes-marked
+
+pub nfs-fh-marks : (x : «nfs_fh3») → MarksAre nfs-fh x (x .«data» .clean ∷ [])
+unfolding nfs-fh pieceHeld
+nfs-fh-marks x = record { are = λ s. refl }
 
 abbrev pub nfsFhSize : «nfs_fh3» → ℕ
 nfsFhSize x = bytes-writer .size (x .«data»)
@@ -116,6 +127,10 @@ post-op-fh-bound (postOpFhIs.handle f) = omega (arith, nfs-fh-bound f)
 pub post-op-fh-most : (n : ℕ) (x : «post_op_fh3») → n ≡ postOpFhSize x → n ≤ 4294967296
 post-op-fh-most n x e = omega (arith, post-op-fh-bound x)
 
+pub post-op-fh-marked : Marked (post-op-fh .held)
+unfolding post-op-fh
+post-op-fh-marked = maybe-marked nfs-fh nfs-fh-marked postOpFhCases
+
 -- diropargs3
 abbrev pub diropargs-plan : Planned (diropargs .held .read)
 unfolding diropargs
@@ -136,6 +151,14 @@ diropargs3-told (Diropargs3.Refused r) (Diropargs3.Refused r′) e = cc
 pub diropargs-within : Within 0 (diropargs .codec .kind)
 unfolding diropargs
 diropargs-within = view-within _ _ ((nfs-fh ⨟ bytes) .codec .laws) (pair-within nfs-fh-within opaque-within) (λ x m l u w e s f. no-default s)
+
+pub diropargs-marked : Marked (diropargs .held)
+unfolding diropargs
+diropargs-marked = named-marked (nfs-fh ⨟ bytes) diropargsNames (pair-marked nfs-fh-marked bytes-marked)
+
+pub diropargs-marks : (x : diropargs3) → MarksAre diropargs x (x .dir .«data» .clean ∷ x .name .clean ∷ [])
+unfolding diropargs nfs-fh pieceHeld
+diropargs-marks x = record { are = λ s. refl }
 
 abbrev pub diropargs-1 : Writer (nfs-fh ⨟ bytes)
 diropargs-1 = pair-writer nfs-fh-writer bytes-writer
@@ -184,6 +207,14 @@ symlinkdata3-told (Symlinkdata3.Refused r) (Symlinkdata3.Refused r′) e = cc
 pub symlinkdata-within : Within 0 (symlinkdata .codec .kind)
 unfolding symlinkdata
 symlinkdata-within = view-within _ _ ((exactly sattr ⨟ bytes) .codec .laws) (pair-within sattr-within opaque-within) (λ x m l u w e s f. no-default s)
+
+pub symlinkdata-marked : Marked (symlinkdata .held)
+unfolding symlinkdata
+symlinkdata-marked = named-marked (exactly sattr ⨟ bytes) symlinkdataNames (pair-marked (plain-marked sattr-unpadded) bytes-marked)
+
+pub symlinkdata-marks : (x : symlinkdata3) → MarksAre symlinkdata x (x .«symlink_data» .clean ∷ [])
+unfolding symlinkdata pieceHeld
+symlinkdata-marks x = record { are = λ s. refl }
 
 abbrev pub symlinkdata-1 : Writer (exactly sattr ⨟ bytes)
 symlinkdata-1 = pair-writer (codec-writer sattr) bytes-writer

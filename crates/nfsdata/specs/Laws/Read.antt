@@ -1,9 +1,9 @@
 -- made by tools/generate from crates/nfsdata/rfc/read.x
 -- What follows for the kinds of read: how they are read, how many bytes they have, and what is laid of them.
 -- Assumes nothing.
-use mathlib.Core.Path.{_≡_, _∙_, sym, refl}
+use mathlib.Core.Path.{refl, _≡_, _∙_, sym}
 use mathlib.Core.Bool.{Bool, and-true}
-use mathlib.Core.List.{List, []}
+use mathlib.Core.List.{_∷_, [], List}
 use Prim.Native.Nat.{ℕ, _≤_}
 use native.Mathlib.Omega.{arith}
 use lib.ListN.{length}
@@ -13,6 +13,7 @@ use Rattle.xdr.specs.Meaning.Format.{exactly, _⨟_}
 use Rattle.xdr.specs.Meaning.Formats.{pieceHeld, bytes}
 use Rattle.xdr.specs.Meaning.Pieces.{isInside}
 use Rattle.xdr.specs.Meaning.Public.{output, laid}
+use Rattle.xdr.specs.Meaning.Marks.{Marked, MarksAre}
 use Rattle.xdr.specs.Laws.Padding.{size-small}
 use Rattle.xdr.specs.Laws.Fixed.{hyper-fixed, word-fixed, flag-fixed}
 use Rattle.xdr.specs.Laws.One.{Told}
@@ -24,11 +25,14 @@ use Rattle.xdr.specs.Laws.Writers.{Writer, bytes-writer}
 use Rattle.xdr.specs.Laws.Fields.{pair-writer, fixed-writer, named-sized, Lays, lays-named, codec-writer}
 use Rattle.xdr.specs.Laws.Optional.{Between}
 use Rattle.xdr.specs.Laws.Status.{OnStatus, status-within, resultSize, status-sized}
-use Rattle.nfs.specs.Laws.Dir.{nfs-fh-within, nfs-fh-writer, nfs-fh-bound}
+use Rattle.xdr.specs.Laws.Unpadded.{hyper-unpadded, word-unpadded, flag-unpadded, Unpadded, view-unpadded}
+use Rattle.xdr.specs.Laws.Marked.{named-marked, pair-marked, plain-marked, bytes-marked, status-marked}
+use Rattle.nfs.specs.Laws.Dir.{nfs-fh-within, nfs-fh-marked, nfs-fh-writer, nfs-fh-bound}
 use Rattle.nfs.specs.Meaning.Dir.{nfs-fh}
 use Rattle.nfsattr.specs.Laws.Bytes.{post-op-attr-between}
 use Rattle.nfsattr.specs.Laws.Lengths.{post-op-attr-within, nfsstat-within}
 use Rattle.nfsattr.specs.Laws.Sizes.{nfsstat-fixed}
+use Rattle.nfsattr.specs.Laws.Unpadded.{post-op-attr-unpadded, nfsstat-unpadded}
 use Rattle.nfsattr.specs.Meaning.Attr.{post-op-attr}
 use Rattle.nfsattr.specs.Meaning.Stat.{nfsstat, successOr}
 use Rattle.nfsdata.specs.Meaning.Read.{read-args, viewRead3args, lostRead3args, readArgsNames, read-resok, viewRead3resok, lostRead3resok, readResokNames, read-resfail, viewRead3resfail, lostRead3resfail, readResArms, read-res, viewRead3res, lostRead3res, readResFrom}
@@ -62,6 +66,14 @@ read3args-told (Read3args.Refused r) (Read3args.Refused r′) e = cc
 pub read-args-within : Within 0 (read-args .codec .kind)
 unfolding read-args
 read-args-within = view-within _ _ ((nfs-fh ⨟ exactly hyper ⨟ exactly word) .codec .laws) (pair-within nfs-fh-within (pair-within hyper-within word-within)) (λ x m l u w e s f. no-default s)
+
+pub read-args-marked : Marked (read-args .held)
+unfolding read-args
+read-args-marked = named-marked (nfs-fh ⨟ exactly hyper ⨟ exactly word) readArgsNames (pair-marked nfs-fh-marked (pair-marked (plain-marked hyper-unpadded) (plain-marked word-unpadded)))
+
+pub read-args-marks : (x : READ3args) → MarksAre read-args x (x .file .«data» .clean ∷ [])
+unfolding read-args nfs-fh pieceHeld
+read-args-marks x = record { are = λ s. refl }
 
 abbrev pub read-args-2 : Writer (exactly hyper ⨟ exactly word)
 read-args-2 = pair-writer (fixed-writer hyper-fixed) (fixed-writer word-fixed)
@@ -113,6 +125,14 @@ read3resok-told (Read3resok.Refused r) (Read3resok.Refused r′) e = cc
 pub read-resok-within : Within 0 (read-resok .codec .kind)
 unfolding read-resok
 read-resok-within = view-within _ _ ((exactly post-op-attr ⨟ exactly word ⨟ exactly flag ⨟ bytes) .codec .laws) (pair-within post-op-attr-within (pair-within word-within (pair-within flag-within opaque-within))) (λ x m l u w e s f. no-default s)
+
+pub read-resok-marked : Marked (read-resok .held)
+unfolding read-resok
+read-resok-marked = named-marked (exactly post-op-attr ⨟ exactly word ⨟ exactly flag ⨟ bytes) readResokNames (pair-marked (plain-marked post-op-attr-unpadded) (pair-marked (plain-marked word-unpadded) (pair-marked (plain-marked flag-unpadded) bytes-marked)))
+
+pub read-resok-marks : (x : READ3resok) → MarksAre read-resok x (x .«data» .clean ∷ [])
+unfolding read-resok pieceHeld
+read-resok-marks x = record { are = λ s. refl }
 
 abbrev pub read-resok-3 : Writer (exactly flag ⨟ bytes)
 read-resok-3 = pair-writer (fixed-writer flag-fixed) bytes-writer
@@ -168,6 +188,10 @@ pub read-resfail-within : Within 0 (read-resfail .kind)
 unfolding read-resfail
 read-resfail-within = mapped-within (post-op-attr) _ _ _ _ post-op-attr-within
 
+pub read-resfail-unpadded : Unpadded (read-resfail .kind)
+unfolding read-resfail
+read-resfail-unpadded = view-unpadded (λ x. refl) post-op-attr-unpadded
+
 pub read-resfail-sized : (v : READ3resfail) → length (read-resfail .kind .write v) ≡ (codec-writer post-op-attr) .size (v .«file_attributes»)
 unfolding read-resfail
 read-resfail-sized v = (codec-writer post-op-attr) .sized [] (v .«file_attributes») (record { short = omega arith; inside = refl })
@@ -201,6 +225,10 @@ read3res-told (Read3res.Took v n p) (Read3res.Took v′ n′ p′) e = cc
 read3res-told (Read3res.Took v n p) (Read3res.Refused r) e = cc
 read3res-told (Read3res.Refused r) (Read3res.Took v n p) e = cc
 read3res-told (Read3res.Refused r) (Read3res.Refused r′) e = cc
+
+pub read-res-marked : Marked (read-res .held)
+unfolding read-res
+read-res-marked = status-marked nfsstat successOr read-resok (exactly read-resfail) readResArms nfsstat-unpadded read-resok-marked (plain-marked read-resfail-unpadded)
 
 pub read-res-within : Within 0 (read-res .codec .kind)
 unfolding read-res

@@ -1,9 +1,9 @@
 -- made by tools/generate from crates/nfsdata/rfc/write.x
 -- What follows for the kinds of write: how they are read, how many bytes they have, and what is laid of them.
 -- Assumes nothing.
-use mathlib.Core.Path.{_≡_, ap, ap₂, refl}
+use mathlib.Core.Path.{_≡_, ap, refl, ap₂}
 use mathlib.Core.Bool.{Bool, _&&_}
-use mathlib.Core.List.{List, []}
+use mathlib.Core.List.{List, [], _∷_}
 use Prim.Native.Nat.{ℕ, _≤_, _+_}
 use native.Mathlib.Omega.{arith}
 use lib.ListN.{length}
@@ -14,6 +14,7 @@ use Rattle.xdr.specs.Meaning.Format.{exactly, _⨟_}
 use Rattle.xdr.specs.Meaning.Formats.{bytes, pieceHeld}
 use Rattle.xdr.specs.Meaning.Pieces.{isInside}
 use Rattle.xdr.specs.Meaning.Public.{Writes, output, laid}
+use Rattle.xdr.specs.Meaning.Marks.{Marked, MarksAre}
 use Rattle.xdr.specs.Laws.Padding.{size-small}
 use Rattle.xdr.specs.Laws.Closed.{by-number}
 use Rattle.xdr.specs.Laws.Fixed.{Fixed, seen-fixed, word-fixed, hyper-fixed}
@@ -26,11 +27,14 @@ use Rattle.xdr.specs.Laws.Writers.{Writer, bytes-writer}
 use Rattle.xdr.specs.Laws.Fields.{pair-writer, fixed-writer, named-sized, Lays, lays-named, codec-writer}
 use Rattle.xdr.specs.Laws.Optional.{Between}
 use Rattle.xdr.specs.Laws.Status.{OnStatus, status-within, resultSize, status-sized}
-use Rattle.nfs.specs.Laws.Dir.{nfs-fh-within, nfs-fh-writer, nfs-fh-bound}
+use Rattle.xdr.specs.Laws.Unpadded.{Unpadded, closed-unpadded, hyper-unpadded, word-unpadded, view-unpadded, pair-unpadded}
+use Rattle.xdr.specs.Laws.Marked.{named-marked, pair-marked, plain-marked, bytes-marked, status-marked}
+use Rattle.nfs.specs.Laws.Dir.{nfs-fh-within, nfs-fh-marked, nfs-fh-writer, nfs-fh-bound}
 use Rattle.nfs.specs.Meaning.Dir.{nfs-fh}
 use Rattle.nfsattr.specs.Laws.Bytes.{wcc-data-between}
 use Rattle.nfsattr.specs.Laws.Lengths.{wcc-data-within, nfsstat-within}
 use Rattle.nfsattr.specs.Laws.Sizes.{nfsstat-fixed}
+use Rattle.nfsattr.specs.Laws.Unpadded.{wcc-data-unpadded, nfsstat-unpadded}
 use Rattle.nfsattr.specs.Meaning.Attr.{wcc-data}
 use Rattle.nfsattr.specs.Meaning.Stat.{nfsstat, successOr}
 use Rattle.nfsdata.specs.Meaning.Write.{viewStableHow, lostStableHow, stable-how, stableHowNumber, stableHowAll, each-stable-how, write-args, viewWrite3args, lostWrite3args, writeArgsNames, write-resok, viewWrite3resok, lostWrite3resok, write-resfail, viewWrite3resfail, lostWrite3resfail, writeResArms, write-res, viewWrite3res, lostWrite3res, writeResFrom}
@@ -62,6 +66,10 @@ stable-how-told (StableHow.Refused r) (StableHow.Refused r′) e = cc
 pub stable-how-within : Within 0 (stable-how .kind)
 unfolding stable-how
 stable-how-within = closed-within stableHowNumber stableHowAll each-stable-how
+
+pub stable-how-unpadded : Unpadded (stable-how .kind)
+unfolding stable-how
+stable-how-unpadded = closed-unpadded stableHowNumber stableHowAll each-stable-how
 
 pub stable-how-fixed : Fixed 4 stable-how
 unfolding stable-how
@@ -96,6 +104,14 @@ write3args-told (Write3args.Refused r) (Write3args.Refused r′) e = cc
 pub write-args-within : Within 0 (write-args .codec .kind)
 unfolding write-args
 write-args-within = view-within _ _ ((nfs-fh ⨟ exactly hyper ⨟ exactly word ⨟ exactly stable-how ⨟ bytes) .codec .laws) (pair-within nfs-fh-within (pair-within hyper-within (pair-within word-within (pair-within stable-how-within opaque-within)))) (λ x m l u w e s f. no-default s)
+
+pub write-args-marked : Marked (write-args .held)
+unfolding write-args
+write-args-marked = named-marked (nfs-fh ⨟ exactly hyper ⨟ exactly word ⨟ exactly stable-how ⨟ bytes) writeArgsNames (pair-marked nfs-fh-marked (pair-marked (plain-marked hyper-unpadded) (pair-marked (plain-marked word-unpadded) (pair-marked (plain-marked stable-how-unpadded) bytes-marked))))
+
+pub write-args-marks : (x : WRITE3args) → MarksAre write-args x (x .file .«data» .clean ∷ x .«data» .clean ∷ [])
+unfolding write-args nfs-fh pieceHeld
+write-args-marks x = record { are = λ s. refl }
 
 abbrev pub write-args-4 : Writer (exactly stable-how ⨟ bytes)
 write-args-4 = pair-writer (fixed-writer stable-how-fixed) bytes-writer
@@ -154,6 +170,10 @@ pub write-resok-within : Within 0 (write-resok .kind)
 unfolding write-resok
 write-resok-within = mapped-within (wcc-data ⨾ word ⨾ stable-how ⨾ hyper) _ _ _ _ (pair-within wcc-data-within (pair-within word-within (pair-within stable-how-within hyper-within)))
 
+pub write-resok-unpadded : Unpadded (write-resok .kind)
+unfolding write-resok
+write-resok-unpadded = view-unpadded (λ x. refl) (pair-unpadded wcc-data-unpadded (pair-unpadded word-unpadded (pair-unpadded stable-how-unpadded hyper-unpadded)))
+
 abbrev pub write-resok-3 : Writer (exactly stable-how ⨟ exactly hyper)
 write-resok-3 = pair-writer (fixed-writer stable-how-fixed) (fixed-writer hyper-fixed)
 
@@ -201,6 +221,10 @@ pub write-resfail-within : Within 0 (write-resfail .kind)
 unfolding write-resfail
 write-resfail-within = mapped-within (wcc-data) _ _ _ _ wcc-data-within
 
+pub write-resfail-unpadded : Unpadded (write-resfail .kind)
+unfolding write-resfail
+write-resfail-unpadded = view-unpadded (λ x. refl) wcc-data-unpadded
+
 pub write-resfail-sized : (v : WRITE3resfail) → length (write-resfail .kind .write v) ≡ (codec-writer wcc-data) .size (v .«file_wcc»)
 unfolding write-resfail
 write-resfail-sized v = (codec-writer wcc-data) .sized [] (v .«file_wcc») (record { short = omega arith; inside = refl })
@@ -234,6 +258,10 @@ write3res-told (Write3res.Took v n p) (Write3res.Took v′ n′ p′) e = cc
 write3res-told (Write3res.Took v n p) (Write3res.Refused r) e = cc
 write3res-told (Write3res.Refused r) (Write3res.Took v n p) e = cc
 write3res-told (Write3res.Refused r) (Write3res.Refused r′) e = cc
+
+pub write-res-marked : Marked (write-res .held)
+unfolding write-res
+write-res-marked = status-marked nfsstat successOr (exactly write-resok) (exactly write-resfail) writeResArms nfsstat-unpadded (plain-marked write-resok-unpadded) (plain-marked write-resfail-unpadded)
 
 pub write-res-within : Within 0 (write-res .codec .kind)
 unfolding write-res

@@ -1,9 +1,9 @@
 -- made by tools/generate from crates/nfsfile/rfc/getattr.x
 -- What follows for the kinds of getattr: how they are read, how many bytes they have, and what is laid of them.
 -- Assumes nothing.
-use mathlib.Core.Path.{_≡_, refl}
+use mathlib.Core.Path.{refl, _≡_}
 use mathlib.Core.Bool.{Bool}
-use mathlib.Core.List.{List}
+use mathlib.Core.List.{_∷_, [], List}
 use Prim.Native.Nat.{ℕ, _≤_}
 use native.Mathlib.Omega.{arith}
 use lib.ListN.{length}
@@ -11,6 +11,7 @@ use Rattle.xdr.specs.Meaning.Codecs.{void}
 use Rattle.xdr.specs.Meaning.Format.{exactly}
 use Rattle.xdr.specs.Meaning.Formats.{pieceHeld}
 use Rattle.xdr.specs.Meaning.Public.{output, laidOf, laid}
+use Rattle.xdr.specs.Meaning.Marks.{Marked, MarksAre}
 use Rattle.xdr.specs.Laws.Fixed.{Fixed, seen-fixed}
 use Rattle.xdr.specs.Laws.One.{Told}
 use Rattle.xdr.specs.Laws.Plans.{Planned, plan, at, Step, step, Loses, lost-at}
@@ -20,10 +21,13 @@ use Rattle.xdr.specs.Laws.Write.{Ready}
 use Rattle.xdr.specs.Laws.Writers.{Writer}
 use Rattle.xdr.specs.Laws.Fields.{named-sized, fixed-writer, codec-writer}
 use Rattle.xdr.specs.Laws.Status.{OnStatus, status-within, resultSize, status-sized}
-use Rattle.nfs.specs.Laws.Dir.{nfs-fh-within, nfs-fh-writer, nfs-fh-bound}
+use Rattle.xdr.specs.Laws.Unpadded.{Unpadded, view-unpadded, void-unpadded}
+use Rattle.xdr.specs.Laws.Marked.{named-marked, status-marked, plain-marked}
+use Rattle.nfs.specs.Laws.Dir.{nfs-fh-within, nfs-fh-marked, nfs-fh-writer, nfs-fh-bound}
 use Rattle.nfs.specs.Meaning.Dir.{nfs-fh}
 use Rattle.nfsattr.specs.Laws.Lengths.{fattr-within, nfsstat-within}
 use Rattle.nfsattr.specs.Laws.Sizes.{fattr-fixed, nfsstat-fixed}
+use Rattle.nfsattr.specs.Laws.Unpadded.{fattr-unpadded, nfsstat-unpadded}
 use Rattle.nfsattr.specs.Meaning.Attr.{fattr}
 use Rattle.nfsattr.specs.Meaning.Stat.{nfsstat, successOr}
 use Rattle.nfsfile.specs.Meaning.Getattr.{getattr-args, viewGetattr3args, lostGetattr3args, getattrArgsNames, getattr-resok, viewGetattr3resok, lostGetattr3resok, getattrResArms, getattr-res, viewGetattr3res, lostGetattr3res, getattrResFrom}
@@ -55,6 +59,14 @@ getattr3args-told (Getattr3args.Refused r) (Getattr3args.Refused r′) e = cc
 pub getattr-args-within : Within 0 (getattr-args .codec .kind)
 unfolding getattr-args
 getattr-args-within = view-within _ _ (nfs-fh .codec .laws) nfs-fh-within (λ x m l u w e s f. no-default s)
+
+pub getattr-args-marked : Marked (getattr-args .held)
+unfolding getattr-args
+getattr-args-marked = named-marked nfs-fh getattrArgsNames nfs-fh-marked
+
+pub getattr-args-marks : (x : GETATTR3args) → MarksAre getattr-args x (x .object .«data» .clean ∷ [])
+unfolding getattr-args nfs-fh pieceHeld
+getattr-args-marks x = record { are = λ s. refl }
 
 abbrev pub getattrArgsSize : GETATTR3args → ℕ
 getattrArgsSize x = nfs-fh-writer .size (x .object)
@@ -101,6 +113,10 @@ pub getattr-resok-within : Within 0 (getattr-resok .kind)
 unfolding getattr-resok
 getattr-resok-within = mapped-within (fattr) _ _ _ _ fattr-within
 
+pub getattr-resok-unpadded : Unpadded (getattr-resok .kind)
+unfolding getattr-resok
+getattr-resok-unpadded = view-unpadded (λ x. refl) fattr-unpadded
+
 pub getattr-resok-fixed : Fixed 84 getattr-resok
 unfolding getattr-resok
 getattr-resok-fixed = seen-fixed fattr-fixed _ _ _ _
@@ -125,6 +141,10 @@ getattr3res-told (Getattr3res.Took v n) (Getattr3res.Took v′ n′) e = cc
 getattr3res-told (Getattr3res.Took v n) (Getattr3res.Refused r) e = cc
 getattr3res-told (Getattr3res.Refused r) (Getattr3res.Took v n) e = cc
 getattr3res-told (Getattr3res.Refused r) (Getattr3res.Refused r′) e = cc
+
+pub getattr-res-marked : Marked (getattr-res .held)
+unfolding getattr-res
+getattr-res-marked = status-marked nfsstat successOr (exactly getattr-resok) (exactly void) getattrResArms nfsstat-unpadded (plain-marked getattr-resok-unpadded) (plain-marked void-unpadded)
 
 pub getattr-res-within : Within 0 (getattr-res .codec .kind)
 unfolding getattr-res

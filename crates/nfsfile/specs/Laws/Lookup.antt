@@ -1,9 +1,9 @@
 -- made by tools/generate from crates/nfsfile/rfc/lookup.x
 -- What follows for the kinds of lookup: how they are read, how many bytes they have, and what is laid of them.
 -- Assumes nothing.
-use mathlib.Core.Path.{_≡_, _∙_, sym, refl}
+use mathlib.Core.Path.{refl, _≡_, _∙_, sym}
 use mathlib.Core.Bool.{Bool, and-true}
-use mathlib.Core.List.{List, []}
+use mathlib.Core.List.{_∷_, [], List}
 use Prim.Native.Nat.{ℕ, _≤_}
 use native.Mathlib.Omega.{arith}
 use lib.ListN.{length}
@@ -11,6 +11,7 @@ use Rattle.xdr.specs.Meaning.Answer.{most}
 use Rattle.xdr.specs.Meaning.Format.{exactly, _⨟_}
 use Rattle.xdr.specs.Meaning.Formats.{pieceHeld}
 use Rattle.xdr.specs.Meaning.Public.{output, laidOf, laid}
+use Rattle.xdr.specs.Meaning.Marks.{Marked, MarksAre}
 use Rattle.xdr.specs.Laws.One.{Told}
 use Rattle.xdr.specs.Laws.Plans.{Planned, plan, at, Step, step, Loses, lost-at, _then_}
 use Rattle.xdr.specs.Laws.Records.{ByPlan, fields, one}
@@ -20,11 +21,14 @@ use Rattle.xdr.specs.Laws.Writers.{Writer}
 use Rattle.xdr.specs.Laws.Fields.{named-sized, pair-writer, codec-writer, Lays, lays-named}
 use Rattle.xdr.specs.Laws.Optional.{Between}
 use Rattle.xdr.specs.Laws.Status.{OnStatus, status-within, resultSize, status-sized}
-use Rattle.nfs.specs.Laws.Dir.{diropargs-within, diropargs-writer, diropargs-bound, nfs-fh-within, nfs-fh-writer, nfs-fh-bound}
+use Rattle.xdr.specs.Laws.Unpadded.{Unpadded, view-unpadded}
+use Rattle.xdr.specs.Laws.Marked.{named-marked, pair-marked, plain-marked, status-marked}
+use Rattle.nfs.specs.Laws.Dir.{diropargs-within, diropargs-marked, diropargs-writer, diropargs-bound, nfs-fh-within, nfs-fh-marked, nfs-fh-writer, nfs-fh-bound}
 use Rattle.nfs.specs.Meaning.Dir.{diropargs, nfs-fh}
 use Rattle.nfsattr.specs.Laws.Bytes.{post-op-attr-between}
 use Rattle.nfsattr.specs.Laws.Lengths.{post-op-attr-within, nfsstat-within}
 use Rattle.nfsattr.specs.Laws.Sizes.{nfsstat-fixed}
+use Rattle.nfsattr.specs.Laws.Unpadded.{post-op-attr-unpadded, nfsstat-unpadded}
 use Rattle.nfsattr.specs.Meaning.Attr.{post-op-attr}
 use Rattle.nfsattr.specs.Meaning.Stat.{nfsstat, successOr}
 use Rattle.nfsfile.specs.Meaning.Lookup.{lookup-args, viewLookup3args, lostLookup3args, lookupArgsNames, lookup-resok, viewLookup3resok, lostLookup3resok, lookupResokNames, lookup-resfail, viewLookup3resfail, lostLookup3resfail, lookupResArms, lookup-res, viewLookup3res, lostLookup3res, lookupResFrom}
@@ -58,6 +62,14 @@ lookup3args-told (Lookup3args.Refused r) (Lookup3args.Refused r′) e = cc
 pub lookup-args-within : Within 0 (lookup-args .codec .kind)
 unfolding lookup-args
 lookup-args-within = view-within _ _ (diropargs .codec .laws) diropargs-within (λ x m l u w e s f. no-default s)
+
+pub lookup-args-marked : Marked (lookup-args .held)
+unfolding lookup-args
+lookup-args-marked = named-marked diropargs lookupArgsNames diropargs-marked
+
+pub lookup-args-marks : (x : LOOKUP3args) → MarksAre lookup-args x (x .what .dir .«data» .clean ∷ x .what .name .clean ∷ [])
+unfolding lookup-args diropargs nfs-fh pieceHeld
+lookup-args-marks x = record { are = λ s. refl }
 
 abbrev pub lookupArgsSize : LOOKUP3args → ℕ
 lookupArgsSize x = diropargs-writer .size (x .what)
@@ -103,6 +115,14 @@ lookup3resok-told (Lookup3resok.Refused r) (Lookup3resok.Refused r′) e = cc
 pub lookup-resok-within : Within 0 (lookup-resok .codec .kind)
 unfolding lookup-resok
 lookup-resok-within = view-within _ _ ((nfs-fh ⨟ exactly post-op-attr ⨟ exactly post-op-attr) .codec .laws) (pair-within nfs-fh-within (pair-within post-op-attr-within post-op-attr-within)) (λ x m l u w e s f. no-default s)
+
+pub lookup-resok-marked : Marked (lookup-resok .held)
+unfolding lookup-resok
+lookup-resok-marked = named-marked (nfs-fh ⨟ exactly post-op-attr ⨟ exactly post-op-attr) lookupResokNames (pair-marked nfs-fh-marked (pair-marked (plain-marked post-op-attr-unpadded) (plain-marked post-op-attr-unpadded)))
+
+pub lookup-resok-marks : (x : LOOKUP3resok) → MarksAre lookup-resok x (x .object .«data» .clean ∷ [])
+unfolding lookup-resok nfs-fh pieceHeld
+lookup-resok-marks x = record { are = λ s. refl }
 
 abbrev pub lookup-resok-2 : Writer (exactly post-op-attr ⨟ exactly post-op-attr)
 lookup-resok-2 = pair-writer (codec-writer post-op-attr) (codec-writer post-op-attr)
@@ -155,6 +175,10 @@ pub lookup-resfail-within : Within 0 (lookup-resfail .kind)
 unfolding lookup-resfail
 lookup-resfail-within = mapped-within (post-op-attr) _ _ _ _ post-op-attr-within
 
+pub lookup-resfail-unpadded : Unpadded (lookup-resfail .kind)
+unfolding lookup-resfail
+lookup-resfail-unpadded = view-unpadded (λ x. refl) post-op-attr-unpadded
+
 pub lookup-resfail-sized : (v : LOOKUP3resfail) → length (lookup-resfail .kind .write v) ≡ (codec-writer post-op-attr) .size (v .«dir_attributes»)
 unfolding lookup-resfail
 lookup-resfail-sized v = (codec-writer post-op-attr) .sized [] (v .«dir_attributes») (record { short = omega arith; inside = refl })
@@ -188,6 +212,10 @@ lookup3res-told (Lookup3res.Took v n p) (Lookup3res.Took v′ n′ p′) e = cc
 lookup3res-told (Lookup3res.Took v n p) (Lookup3res.Refused r) e = cc
 lookup3res-told (Lookup3res.Refused r) (Lookup3res.Took v n p) e = cc
 lookup3res-told (Lookup3res.Refused r) (Lookup3res.Refused r′) e = cc
+
+pub lookup-res-marked : Marked (lookup-res .held)
+unfolding lookup-res
+lookup-res-marked = status-marked nfsstat successOr lookup-resok (exactly lookup-resfail) lookupResArms nfsstat-unpadded lookup-resok-marked (plain-marked lookup-resfail-unpadded)
 
 pub lookup-res-within : Within 0 (lookup-res .codec .kind)
 unfolding lookup-res

@@ -3,7 +3,7 @@
 -- Assumes nothing.
 use mathlib.Core.Path.{refl, _≡_, _∙_, sym}
 use mathlib.Core.Bool.{Bool, and-true}
-use mathlib.Core.List.{List, []}
+use mathlib.Core.List.{_∷_, [], List}
 use Prim.Native.Nat.{_≤_, ℕ}
 use native.Mathlib.Omega.{arith}
 use lib.ListN.{length}
@@ -11,6 +11,7 @@ use Rattle.xdr.specs.Meaning.Answer.{most}
 use Rattle.xdr.specs.Meaning.Format.{exactly, _⨟_}
 use Rattle.xdr.specs.Meaning.Formats.{pieceHeld}
 use Rattle.xdr.specs.Meaning.Public.{output, laid}
+use Rattle.xdr.specs.Meaning.Marks.{Marked, MarksAre}
 use Rattle.xdr.specs.Laws.One.{Told}
 use Rattle.xdr.specs.Laws.Plans.{Step, step, Loses, lost-at, Planned, plan, at, _then_}
 use Rattle.xdr.specs.Laws.Records.{ByPlan, fields, one}
@@ -20,14 +21,18 @@ use Rattle.xdr.specs.Laws.Writers.{Writer}
 use Rattle.xdr.specs.Laws.Fields.{pair-writer, codec-writer, named-sized, Lays, lays-named}
 use Rattle.xdr.specs.Laws.Optional.{maybe-plan, maybe-within, Optional, Between, maybe-between}
 use Rattle.xdr.specs.Laws.Status.{OnStatus, status-within, resultSize, status-sized}
+use Rattle.xdr.specs.Laws.Unpadded.{Unpadded, view-unpadded, option-unpadded}
+use Rattle.xdr.specs.Laws.Marked.{named-marked, pair-marked, plain-marked, status-marked}
 use Rattle.nfs.specs.Laws.Bytes.{sattr-between}
-use Rattle.nfs.specs.Laws.Dir.{nfs-fh-within, nfs-fh-writer, nfs-fh-bound}
+use Rattle.nfs.specs.Laws.Dir.{nfs-fh-within, nfs-fh-marked, nfs-fh-writer, nfs-fh-bound}
 use Rattle.nfs.specs.Laws.Lengths.{sattr-within}
+use Rattle.nfs.specs.Laws.Unpadded.{sattr-unpadded}
 use Rattle.nfs.specs.Meaning.Dir.{nfs-fh}
 use Rattle.nfs.specs.Meaning.Set.{sattr}
 use Rattle.nfsattr.specs.Laws.Bytes.{wcc-data-between}
 use Rattle.nfsattr.specs.Laws.Lengths.{nfstime-within, wcc-data-within, nfsstat-within}
 use Rattle.nfsattr.specs.Laws.Sizes.{nfstime-fixed, nfsstat-fixed}
+use Rattle.nfsattr.specs.Laws.Unpadded.{nfstime-unpadded, wcc-data-unpadded, nfsstat-unpadded}
 use Rattle.nfsattr.specs.Meaning.Attr.{nfstime, wcc-data}
 use Rattle.nfsattr.specs.Meaning.Stat.{nfsstat, successOr}
 use Rattle.nfsfile.specs.Meaning.Setattr.{sattrguard, sattrguardCases, viewSattrguard3, lostSattrguard3, setattr-args, viewSetattr3args, lostSetattr3args, setattrArgsNames, setattr-resok, viewSetattr3resok, lostSetattr3resok, setattr-resfail, viewSetattr3resfail, lostSetattr3resfail, setattrResArms, setattr-res, viewSetattr3res, lostSetattr3res, setattrResFrom}
@@ -75,6 +80,10 @@ sattrguard-between v = maybe-between nfstime sattrguardCases nfstime-fixed v
 pub sattrguard-small : (v : sattrguard3) → length (sattrguard .kind .write v) ≤ most
 sattrguard-small v = omega (arith, sattrguard-between v)
 
+pub sattrguard-unpadded : Unpadded (sattrguard .kind)
+unfolding sattrguard
+sattrguard-unpadded = view-unpadded (λ x. refl) (option-unpadded nfstime nfstime-unpadded)
+
 -- SETATTR3args
 abbrev pub setattr-args-plan : Planned (setattr-args .held .read)
 unfolding setattr-args
@@ -95,6 +104,14 @@ setattr3args-told (Setattr3args.Refused r) (Setattr3args.Refused r′) e = cc
 pub setattr-args-within : Within 0 (setattr-args .codec .kind)
 unfolding setattr-args
 setattr-args-within = view-within _ _ ((nfs-fh ⨟ exactly sattr ⨟ exactly sattrguard) .codec .laws) (pair-within nfs-fh-within (pair-within sattr-within sattrguard-within)) (λ x m l u w e s f. no-default s)
+
+pub setattr-args-marked : Marked (setattr-args .held)
+unfolding setattr-args
+setattr-args-marked = named-marked (nfs-fh ⨟ exactly sattr ⨟ exactly sattrguard) setattrArgsNames (pair-marked nfs-fh-marked (pair-marked (plain-marked sattr-unpadded) (plain-marked sattrguard-unpadded)))
+
+pub setattr-args-marks : (x : SETATTR3args) → MarksAre setattr-args x (x .object .«data» .clean ∷ [])
+unfolding setattr-args nfs-fh pieceHeld
+setattr-args-marks x = record { are = λ s. refl }
 
 abbrev pub setattr-args-2 : Writer (exactly sattr ⨟ exactly sattrguard)
 setattr-args-2 = pair-writer (codec-writer sattr) (codec-writer sattrguard)
@@ -147,6 +164,10 @@ pub setattr-resok-within : Within 0 (setattr-resok .kind)
 unfolding setattr-resok
 setattr-resok-within = mapped-within (wcc-data) _ _ _ _ wcc-data-within
 
+pub setattr-resok-unpadded : Unpadded (setattr-resok .kind)
+unfolding setattr-resok
+setattr-resok-unpadded = view-unpadded (λ x. refl) wcc-data-unpadded
+
 pub setattr-resok-sized : (v : SETATTR3resok) → length (setattr-resok .kind .write v) ≡ (codec-writer wcc-data) .size (v .«obj_wcc»)
 unfolding setattr-resok
 setattr-resok-sized v = (codec-writer wcc-data) .sized [] (v .«obj_wcc») (record { short = omega arith; inside = refl })
@@ -185,6 +206,10 @@ pub setattr-resfail-within : Within 0 (setattr-resfail .kind)
 unfolding setattr-resfail
 setattr-resfail-within = mapped-within (wcc-data) _ _ _ _ wcc-data-within
 
+pub setattr-resfail-unpadded : Unpadded (setattr-resfail .kind)
+unfolding setattr-resfail
+setattr-resfail-unpadded = view-unpadded (λ x. refl) wcc-data-unpadded
+
 pub setattr-resfail-sized : (v : SETATTR3resfail) → length (setattr-resfail .kind .write v) ≡ (codec-writer wcc-data) .size (v .«obj_wcc»)
 unfolding setattr-resfail
 setattr-resfail-sized v = (codec-writer wcc-data) .sized [] (v .«obj_wcc») (record { short = omega arith; inside = refl })
@@ -218,6 +243,10 @@ setattr3res-told (Setattr3res.Took v n p) (Setattr3res.Took v′ n′ p′) e = 
 setattr3res-told (Setattr3res.Took v n p) (Setattr3res.Refused r) e = cc
 setattr3res-told (Setattr3res.Refused r) (Setattr3res.Took v n p) e = cc
 setattr3res-told (Setattr3res.Refused r) (Setattr3res.Refused r′) e = cc
+
+pub setattr-res-marked : Marked (setattr-res .held)
+unfolding setattr-res
+setattr-res-marked = status-marked nfsstat successOr (exactly setattr-resok) (exactly setattr-resfail) setattrResArms nfsstat-unpadded (plain-marked setattr-resok-unpadded) (plain-marked setattr-resfail-unpadded)
 
 pub setattr-res-within : Within 0 (setattr-res .codec .kind)
 unfolding setattr-res

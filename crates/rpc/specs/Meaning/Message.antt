@@ -78,8 +78,15 @@ module _ {Stat Auth Accept Rejected Accepted Reply Body Msg : Type 0} (R : Readi
   abbrev pub insideBody : List ℕ → Body → Bool
   insideBody s m = insideBodyBy s (R .body .from m)
 
+  abbrev pub marksBodyBy : List ℕ → «call_body» ⊎ Reply → List Bool
+  marksBodyBy s (inl c) = call-body .held .marks s c
+  marksBodyBy s (inr r) = reply-body-of R .held .marks s r
+
+  abbrev pub marksBody : List ℕ → Body → List Bool
+  marksBody s m = marksBodyBy s (R .body .from m)
+
   abbrev pub bodyChoice : Choice word bodyBranches (RpcBody Accept Rejected) Body
-  bodyChoice = record { see = seeBody; to = fromBody; hold = holdBody; mean = meanBody; inside = insideBody }
+  bodyChoice = record { see = seeBody; to = fromBody; hold = holdBody; mean = meanBody; inside = insideBody; marks = marksBody }
 
   pub body-laws : Lawfully word bodyBranches bodyChoice
   unfolding word number opaque pieceHeld auth-flavor opaque-auth call-body

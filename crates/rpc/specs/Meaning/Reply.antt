@@ -137,8 +137,15 @@ module _ {Stat Auth Accept Rejected Accepted Reply Body Msg : Type 0} (R : Readi
   abbrev pub insideReply : List ℕ → Reply → Bool
   insideReply s m = insideReplyBy s (R .reply .from m)
 
+  abbrev pub marksReplyBy : List ℕ → Accepted ⊎ Rejected → List Bool
+  marksReplyBy s (inl a) = accepted-reply-of .held .marks s a
+  marksReplyBy s (inr r) = []
+
+  abbrev pub marksReply : List ℕ → Reply → List Bool
+  marksReply s m = marksReplyBy s (R .reply .from m)
+
   abbrev pub replyChoice : Choice word replyBranches (ReplyBody Accept Rejected) Reply
-  replyChoice = record { see = seeReply; to = fromReply; hold = holdReply; mean = meanReply; inside = insideReply }
+  replyChoice = record { see = seeReply; to = fromReply; hold = holdReply; mean = meanReply; inside = insideReply; marks = marksReply }
 
   pub success-good : accept-body-of .kind .Good (R .success)
   unfolding word number accept-body-of

@@ -200,7 +200,7 @@ module _ (s : List ℕ) (p : ℕ) where
       rw (← w .1, le-leb 4 (length s - p) g, lt-leb (4 + v * 4) (length s - p) k)
 
   pub words-took : {v n : ℕ} {b : Bool} → word .kind .read s p ≡ took v n b → v * 4 ≤ length s - n
-      → took (record { at = n; count = v }) (n + v * 4) true ≡ wordsHeld .read s p
+      → took (record { at = n; count = v; clean = true }) (n + v * 4) true ≡ wordsHeld .read s p
   unfolding wordsHeld
   words-took {v} {n} f h =
       let w = word-within f in

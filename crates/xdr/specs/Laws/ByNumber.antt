@@ -56,7 +56,7 @@ module _ (s : List ℕ) (p : ℕ) (r : U32Read) (v n : ℕ) (e : viewU32 r ≡ w
   pub by-words-short : (q : Refusal) → length s - n < v * 4 → q ≡ cutShort (4 + v * 4) s p → refused q ≡ wordsHeld .read s p
   by-words-short q g h = ap refused h ∙ words-short s p (on viewU32 e f) g
 
-  pub by-words : v * 4 ≤ length s - n → took (record { at = n; count = v }) (n + v * 4) true ≡ wordsHeld .read s p
+  pub by-words : v * 4 ≤ length s - n → took (record { at = n; count = v; clean = true }) (n + v * 4) true ≡ wordsHeld .read s p
   by-words g = words-took s p (on viewU32 e f) g
 
 -- the hyper is taken
@@ -72,5 +72,5 @@ module _ (s : List ℕ) (p n : ℕ) (h : p + 4 ≤ length s) where
       ap refused f ∙ ap (λ (k : ℕ). refused (cutShort k s p)) e ∙ body-short s p n (omega (arith, padded n))
 
   pub body-on : (w : ℕ) (b : Bool) → ((i : ℕ) → Fits w8 (getD s i 0)) → (n + 3) / 4 * 4 ≤ length s - p - 4 → w ≡ numberAt 4 s (p + (n + 3) / 4 * 4)
-      → b ≡ lastZeros w ((n + 3) / 4 * 4 - n) → took (record { at = p + 4; count = n }) (p + 4 + (n + 3) / 4 * 4) b ≡ pieceAnswer s p n
+      → b ≡ lastZeros w ((n + 3) / 4 * 4 - n) → took (record { at = p + 4; count = n; clean = b }) (p + 4 + (n + 3) / 4 * 4) b ≡ pieceAnswer s p n
   body-on w b given r e f = body-took s (λ i. omega (arith, given i)) p n _ refl (omega arith) e f

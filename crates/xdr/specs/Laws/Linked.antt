@@ -290,19 +290,19 @@ module _ {M S : Type 0} (F : Format M S) (o : Option M) (w : List Loose) (e : Li
   pub optional-some : 0 < length e
   optional-some = omega (arith, optional-four)
 
--- a list that is held as a place and a count: what is read there is what it means, and lies inside
-module _ {M : Type 0} (C : Codec (List M)) (s : List ℕ) (p : ℕ) where
-  agree : (x : Answer (List M)) → C .kind .read s p ≡ x → x ≡ mapAnswer (λ y. elementsOf (C .kind .read s (y .at))) (mapAnswer (placedAt p) x)
+-- a list that is held as a place and a count, whatever its mark: what is read there is what it means, and lies inside
+module _ {M : Type 0} (C : Codec (List M)) (s : List ℕ) (p : ℕ) (c : Bool) where
+  agree : (x : Answer (List M)) → C .kind .read s p ≡ x → x ≡ mapAnswer (λ y. elementsOf (C .kind .read s (y .at))) (mapAnswer (placedAt p c) x)
   agree (took l n b) e = ap (λ z. took (elementsOf z) n b) (sym e)
   agree (refused r) e = refl
 
-  pub placed-agrees : C .kind .read s p ≡ mapAnswer (λ y. elementsOf (C .kind .read s (y .at))) (mapAnswer (placedAt p) (C .kind .read s p))
+  pub placed-agrees : C .kind .read s p ≡ mapAnswer (λ y. elementsOf (C .kind .read s (y .at))) (mapAnswer (placedAt p c) (C .kind .read s p))
   placed-agrees = agree (C .kind .read s p) refl
 
   keep : (x : Answer (List M)) → C .kind .read s p ≡ x
-      → Taken (λ y. hasCount (y .count) (C .kind .read s (y .at)) ≡ true) (mapAnswer (placedAt p) x)
+      → Taken (λ y. hasCount (y .count) (C .kind .read s (y .at)) ≡ true) (mapAnswer (placedAt p c) x)
   keep (took l n b) e = ap (hasCount (length l)) e ∙ eq-eqb (length l) (length l) refl
   keep (refused r) e = tt
 
-  pub placed-kept : Taken (λ y. hasCount (y .count) (C .kind .read s (y .at)) ≡ true) (mapAnswer (placedAt p) (C .kind .read s p))
+  pub placed-kept : Taken (λ y. hasCount (y .count) (C .kind .read s (y .at)) ≡ true) (mapAnswer (placedAt p c) (C .kind .read s p))
   placed-kept = keep (C .kind .read s p) refl

@@ -13,6 +13,7 @@ use Rattle.xdr.specs.Meaning.Items.{word, hyper, word-pair, flag, option
 use Rattle.xdr.specs.Meaning.Format.{Format, exactly, _⨟_, flagged, ifFormat, optional}
 use Rattle.xdr.specs.Meaning.Cases.{Cases, maybe, maybeHeld}
 use Rattle.xdr.specs.Meaning.Public.{output, laid}
+use Rattle.xdr.specs.Meaning.Marks.{MarksAre}
 use Rattle.xdr.specs.Laws.Padding.{flag-length}
 use Rattle.xdr.specs.Laws.Fixed.{Fixed}
 use Rattle.xdr.specs.Laws.Lengths.{Within, void-within, chain-within, view-within, mapped-within, option-within, flag-within, no-default}
@@ -156,6 +157,17 @@ module _ {M S T : Type 0} {F : Format M S} {U : Cases S T} {G : Format (Option M
               λ r h. let g = a .put (record { short = r .short; inside = i ∙ r .inside }) (omega (arith, ap length f)) in
               record { is = g .is ∙ ap (λ b. b ++ drop (length b) o) f; long = refl };
         }
+
+-- its marks: none, or those of the value
+module _ {M S T : Type 0} {F : Format M S} {U : Cases S T} {G : Format (Option M) T} (O : OptionalHeld F U G) (x : T) where
+  is-marks : (s : List ℕ) (y : Option S) → x ≡ U .to y → optional F .held .marks s y ≡ G .held .marks s x
+  is-marks s y e = rw (O .is) (ap (optional F .held .marks s) (sym (ap (U .from) e ∙ U .from-to y)))
+
+  pub void-marks : x ≡ U .to none → MarksAre G x []
+  void-marks e = record { are = λ s. is-marks s none e }
+
+  pub value-marks : (y : S) (l : List Bool) → x ≡ U .to (some y) → MarksAre F y l → MarksAre G x l
+  value-marks y l e f = record { are = λ s. f .are s ∙ is-marks s (some y) e }
 
 module _ {M S T : Type 0} {F : Format M S} {U : Cases S T} {G : Format (Option M) T} (O : OptionalHeld F U G) (A : Writer F) where
   pub held-sized : (s : List ℕ) (x : T) → Ready G s x → length (output G s x) ≡ optionSize A (U .from x)

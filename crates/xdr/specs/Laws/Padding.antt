@@ -81,7 +81,7 @@ module _ (s : List ℕ) (given : (i : ℕ) → getD s i 0 < 256) where
 
   -- an opaque's body, by the room for it; its padding is the end of the last word
   pub body-took : (p n m : ℕ) {w : ℕ} {b : Bool} → m ≡ (n + 3) / 4 * 4 → p + 4 + m ≤ length s → w ≡ numberAt 4 s (p + m) → b ≡ lastZeros w (m - n)
-      → took (record { at = p + 4; count = n }) (p + 4 + m) b ≡ pieceAnswer s p n
+      → took (record { at = p + 4; count = n; clean = b }) (p + 4 + m) b ≡ pieceAnswer s p n
   body-took p n m {w} {b} em room ew eb =
       let k : m ≡ n + padding n = em ∙ padded n in
       let h : 4 + n + padding n ≤ length s - p = omega arith in

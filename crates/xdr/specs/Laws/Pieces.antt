@@ -14,7 +14,7 @@ use Rattle.xdr.specs.Meaning.Bytes.{Bytes, numberAt, padding, zeros}
 use Rattle.xdr.specs.Meaning.Refusal.{cutShort}
 use Rattle.xdr.specs.Meaning.Answer.{took, refused, mapAnswer, Taken, most}
 use Rattle.xdr.specs.Meaning.Items.{number, word, opaque}
-use Rattle.xdr.specs.Meaning.Pieces.{bytesIn, isInside, partOf, partPlace, Part, pieceAt, nothing}
+use Rattle.xdr.specs.Meaning.Pieces.{bytesIn, isInside, partOf, partPlace, Part, padZero, pieceAt, nothing}
 use Rattle.xdr.specs.Laws.Lists.{bytes-take, bytes-drop}
 use Rattle.xdr.specs.Laws.Reading.{opaque-read}
 use Rattle.xdr.specs.declared.piece.Piece.{Piece}
@@ -26,7 +26,7 @@ module _ (s : List ℕ) (p : ℕ) where
       (refused (cutShort 4 s p))
       ≡ mapAnswer (bytesIn s)
       (cond t
-      (cond u (took (record { at = p + 4; count = n }) (p + 4 + n + padding n) (zeros (take (padding n) (drop (p + 4 + n) s)))) (refused (cutShort (4 + n + padding n) s p)))
+      (cond u (took (record { at = p + 4; count = n; clean = padZero s p n }) (p + 4 + n + padding n) (padZero s p n)) (refused (cutShort (4 + n + padding n) s p)))
       (refused (cutShort 4 s p)))
   agree true true n = refl
   agree true false n = refl
@@ -35,7 +35,7 @@ module _ (s : List ℕ) (p : ℕ) where
   keeps : (n : ℕ) (t u : Bool) → leb (4 + n + padding n) (length s - p) ≡ u
       → Taken (λ x. isInside s x ≡ true)
       (cond t
-      (cond u (took (record { at = p + 4; count = n }) (p + 4 + n + padding n) (zeros (take (padding n) (drop (p + 4 + n) s)))) (refused (cutShort (4 + n + padding n) s p)))
+      (cond u (took (record { at = p + 4; count = n; clean = padZero s p n }) (p + 4 + n + padding n) (padZero s p n)) (refused (cutShort (4 + n + padding n) s p)))
       (refused (cutShort 4 s p)))
   unfolding isInside
   keeps n false u e = tt

@@ -14,9 +14,11 @@ use Rattle.xdr.specs.Meaning.Format.{Format, exactly, plain, _⨟_, tagg
 use Rattle.xdr.specs.Meaning.Combinators.{means}
 use Rattle.xdr.specs.Meaning.Held.{lookAt, thenFirst, thenSecond}
 use Rattle.xdr.specs.Meaning.Public.{output, laid}
+use Rattle.xdr.specs.Meaning.Marks.{MarksAre}
 use Rattle.xdr.specs.Meaning.Status.{Status, Result, ok, failed, Arms, armOf, toHeld, fromHeld, statusOf, onStatus}
 use Rattle.xdr.specs.Laws.Answers.{on, off}
 use Rattle.xdr.specs.Laws.Fixed.{Fixed}
+use Rattle.xdr.specs.Laws.Unpadded.{no-marks}
 use Rattle.xdr.specs.Laws.Lengths.{Within, chain-within, view-within, mapped-within, no-default}
 use Rattle.xdr.specs.Laws.Plans.{Prog, ask, give, follow, run}
 use Rattle.xdr.specs.Laws.Write.{Ready, put-laid}
@@ -119,7 +121,20 @@ module _ {A Fail M N S T R : Type 0} {C : Codec A} {U : Status A Fail} {F : Form
               record { is = g .is ∙ ap (λ b. b ++ drop (length b) o) f; long = refl };
         }
 
+-- its marks: those of the arm
+module _ {A Fail M N S T R : Type 0} {C : Codec A} {U : Status A Fail} {F : Format M S} {G : Format N T} {W : Arms Fail S T R} {D : Format (Result Fail M N) R}
+    (X : OnStatus C U F G W D) (x : R) where
+  pub ok-marks : (y : S) (l : List Bool) → x ≡ W .to (ok y) → MarksAre F y l → MarksAre D x l
+  ok-marks y l e f = record { are = λ s. f .are s ∙ sym (rw (X .is, arm-of X s x (ok y) e)) }
+
+  pub failed-marks : (f : Fail) (y : T) (l : List Bool) → x ≡ W .to (failed f y) → MarksAre G y l → MarksAre D x l
+  failed-marks f y l e g = record { are = λ s. g .are s ∙ sym (rw (X .is, arm-of X s x (failed f y) e)) }
+
 -- a failure that nothing follows
+pub alone-marks : {A Fail M S R : Type 0} {C : Codec A} {U : Status A Fail} {F : Format M S} {W : Arms Fail S (Unit {0}) R} {D : Format (Result Fail M (Unit {0})) R}
+    (X : OnStatus C U F (exactly void) W D) (x : R) (f : Fail) → x ≡ W .to (failed f tt) → MarksAre D x []
+alone-marks X x f e = failed-marks X x f tt [] e (no-marks void tt)
+
 module _ {A Fail M S R : Type 0} {C : Codec A} {U : Status A Fail} {F : Format M S} {W : Arms Fail S (Unit {0}) R} {D : Format (Result Fail M (Unit {0})) R}
     (X : OnStatus C U F (exactly void) W D) (s : List ℕ) (x : R) (f : Fail) where
   pub alone-inside : x ≡ W .to (failed f tt) → true ≡ D .held .inside s x

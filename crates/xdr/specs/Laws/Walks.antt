@@ -1,10 +1,10 @@
 -- Walking along a linked list: what a step finds, and what a loop that reads keeps.
 -- Assumes nothing.
 use mathlib.Core.Path.{_≡_, refl, sym, ap, ap₂, subst, _∙_}
-use mathlib.Core.Bool.{Bool, true, false, _&&_}
+use mathlib.Core.Bool.{Bool, true, false, _&&_, and-true}
 use mathlib.Core.Option.{Option, none, some}
 use mathlib.Core.List.{List, [], _∷_}
-use Prim.Native.Nat.{ℕ, suc, _+_, _-_, _≤_, _<_}
+use Prim.Native.Nat.{ℕ, zero, suc, _+_, _-_, _≤_, _<_}
 use native.Mathlib.Nat.{add-zero, zero-add}
 use native.Mathlib.Omega.{arith}
 use lib.Dec.{eqb}
@@ -20,7 +20,8 @@ use Rattle.xdr.specs.Meaning.Held.{lookAt}
 use Rattle.xdr.specs.Meaning.Format.{Format, optional}
 use Rattle.xdr.specs.Meaning.Cases.{Cases, maybeHeld}
 use Rattle.xdr.specs.Meaning.Linked.{linkedKind, placedAt, elementsOf, hasCount}
-use Rattle.xdr.specs.Meaning.Lists.{linked, placed, listOf}
+use Rattle.xdr.specs.Meaning.Marks.{allClean}
+use Rattle.xdr.specs.Meaning.Lists.{linked, cleanStep, cleanTo, cleanList, listOf}
 use Rattle.xdr.specs.Laws.Lists.{room, known-bytes}
 use Rattle.xdr.specs.Laws.Held.{taken-means, refused-means}
 use Rattle.xdr.specs.Laws.Linked.{put, follow, linked-step, optional-four, optional-some}
@@ -85,42 +86,85 @@ module _ {M S : Type 0} (F : Format M S) (s : List ℕ) (h : Bytes s) (p : ℕ) 
     pub step-size : Even (F .codec .kind) → n ≡ p + length (optional F .codec .kind .write (optional F .held .mean s o))
     step-size i = let f = step-found in f .next ∙ ap (λ k. p + k) (optional-even F i .of _ (f .loose) (f .used) (f .form))
 
--- what a reader's loop keeps: c elements of a list that begins at p were read, b says if nothing was loose in them, and the rest is read
-abbrev pub tally : {M : Type 0} → ℕ → ℕ → Bool → Answer (List M) → Answer Piece
-tally p c b (took l n b′) = took (record { at = p; count = c + length l }) n (b && b′)
-tally p c b (refused r) = refused r
+-- the mark of a list, element by element
+module _ {M S : Type 0} (F : Format M S) (s : List ℕ) (h : Bytes s) where
+  clean-more : (more more′ : ℕ → Bool) (p : ℕ) → ((n : ℕ) → p + 4 ≤ n → n ≤ length s → more n ≡ more′ n) → (a : Answer (Option S))
+      → optional F .held .read s p ≡ a → cleanStep F more s a ≡ cleanStep F more′ s a
+  clean-more more more′ p g (took none n b) e = refl
+  clean-more more more′ p g (took (some y) n b) e =
+      let i = step-inside F s h p e in
+      ap (λ v. allClean (F .held .marks s y) && v) (g n (i .0) (i .1))
+  clean-more more more′ p g (refused r) e = refl
+
+  -- a bound that the bytes do not reach is not seen
+  clean-bound : (k j p : ℕ) → length s - p < k → length s - p < j → cleanTo F k s p ≡ cleanTo F j s p
+  clean-bound zero j p i l = absurd (omega arith)
+  clean-bound (suc k) zero p i l = absurd (omega arith)
+  clean-bound (suc k) (suc j) p i l =
+      clean-more (cleanTo F k s) (cleanTo F j s) p (λ n a b. clean-bound k j n (omega arith) (omega arith)) (optional F .held .read s p) refl
+
+  pub clean-step : (p : ℕ) → cleanList F s p ≡ cleanStep F (cleanList F s) s (optional F .held .read s p)
+  clean-step p =
+      clean-more (cleanTo F (length s) s) (cleanList F s) p (λ n a b. clean-bound (length s) (suc (length s)) n (omega arith) (omega arith))
+      (optional F .held .read s p) refl
 
 and-assoc : (a b c : Bool) → (a && (b && c)) ≡ ((a && b) && c)
 and-assoc true b c = refl
 and-assoc false b c = refl
 
+-- d is the mark of the elements before q: with those from q on, it is the mark of one more and those behind it; at the end it is that of all
+module _ {M S : Type 0} (F : Format M S) (s : List ℕ) (h : Bytes s) (d : Bool) (q : ℕ) where
+  pub clean-goes : {y : S} {n : ℕ} {b : Bool} → optional F .held .read s q ≡ took (some y) n b
+      → (d && cleanList F s q) ≡ ((d && allClean (F .held .marks s y)) && cleanList F s n)
+  clean-goes {y} {n} e =
+      ap (λ z. d && z) (clean-step F s h q ∙ ap (cleanStep F (cleanList F s) s) e) ∙ and-assoc d (allClean (F .held .marks s y)) (cleanList F s n)
+
+  pub clean-ends : {n : ℕ} {b : Bool} → optional F .held .read s q ≡ took none n b → (d && cleanList F s q) ≡ d
+  clean-ends e = ap (λ z. d && z) (clean-step F s h q ∙ ap (cleanStep F (cleanList F s) s) e) ∙ and-true d
+
+-- what a reader's loop keeps: c elements of a list that begins at p were read, b says if nothing was loose in them, and the rest is read. d is
+-- the mark of them all
+abbrev pub tally : {M : Type 0} → ℕ → ℕ → Bool → Bool → Answer (List M) → Answer Piece
+tally p c b d (took l n b′) = took (record { at = p; count = c + length l; clean = d }) n (b && b′)
+tally p c b d (refused r) = refused r
+
 module _ {M S : Type 0} (F : Format M S) (s : List ℕ) where
-  tally-none : (p : ℕ) (z : Answer (List M)) → mapAnswer (placedAt p) z ≡ tally p 0 true z
-  tally-none p (took l n b) = rw (zero-add (length l))
-  tally-none p (refused r) = refl
+  tally-none : (p : ℕ) (d : Bool) (z : Answer (List M)) → mapAnswer (placedAt p d) z ≡ tally p 0 true d z
+  tally-none p d (took l n b) = rw (zero-add (length l))
+  tally-none p d (refused r) = refl
 
   -- before the first flag
-  pub tally-starts : (p : ℕ) → listOf F .held .read s p ≡ tally p 0 true (linked F .kind .read s p)
-  tally-starts p = tally-none p (linked F .kind .read s p)
+  pub tally-starts : (p : ℕ) → listOf F .held .read s p ≡ tally p 0 true (cleanList F s p) (linked F .kind .read s p)
+  tally-starts p = tally-none p (cleanList F s p) (linked F .kind .read s p)
 
-  module _ (h : Bytes s) (p c : ℕ) (b : Bool) (q : ℕ) where
-    tally-put : (m : M) (b₁ : Bool) (z : Answer (List M))
-        → tally p c b (put (optional F .codec) (optional-some F) m b₁ z) ≡ tally p (c + 1) (b && b₁) z
-    tally-put m b₁ (took l n b₂) =
+  -- from q on: c elements were read before, in which b says if nothing was loose, and d is the mark of these
+  abbrev pub onward : ℕ → ℕ → Bool → Bool → ℕ → Answer Piece
+  onward p c b d q = tally p c b (d && cleanList F s q) (linked F .kind .read s q)
+
+  module _ (h : Bytes s) (p c : ℕ) (b d : Bool) (q : ℕ) where
+    tally-put : (m : M) (b₁ d₁ : Bool) (z : Answer (List M))
+        → tally p c b d₁ (put (optional F .codec) (optional-some F) m b₁ z) ≡ tally p (c + 1) (b && b₁) d₁ z
+    tally-put m b₁ d₁ (took l n b₂) =
         let e : c + suc (length l) ≡ c + 1 + length l = omega arith in
         rw (e, and-assoc b b₁ b₂)
-    tally-put m b₁ (refused r) = refl
+    tally-put m b₁ d₁ (refused r) = refl
 
     -- one more element
     pub tally-goes : {y : S} {n : ℕ} {b₁ : Bool} → optional F .held .read s q ≡ took (some y) n b₁
-        → tally p c b (linked F .kind .read s q) ≡ tally p (c + 1) (b && b₁) (linked F .kind .read s n)
-    tally-goes {y} {n} {b₁} e = ap (tally p c b) (list-goes F s h q e) ∙ tally-put (F .held .mean s y) b₁ (linked F .kind .read s n)
+        → onward p c b d q ≡ onward p (c + 1) (b && b₁) (d && allClean (F .held .marks s y)) n
+    tally-goes {y} {n} {b₁} e =
+        let m = allClean (F .held .marks s y) in
+        ap (λ z. tally p c b z (linked F .kind .read s q)) (clean-goes F s h d q e)
+        ∙ ap (tally p c b ((d && m) && cleanList F s n)) (list-goes F s h q e)
+        ∙ tally-put (F .held .mean s y) b₁ ((d && m) && cleanList F s n) (linked F .kind .read s n)
 
     -- the end, and a refusal
     pub tally-ends : {n : ℕ} {b₁ : Bool} → optional F .held .read s q ≡ took none n b₁
-        → tally p c b (linked F .kind .read s q) ≡ took (record { at = p; count = c }) n (b && b₁)
+        → onward p c b d q ≡ took (record { at = p; count = c; clean = d }) n (b && b₁)
     tally-ends {n} {b₁} e =
-        ap (tally p c b) (list-ends F s h q e) ∙ ap (λ (k : ℕ). took (record { at = p; count = k }) n (b && b₁)) (add-zero c)
+        ap (λ z. tally p c b z (linked F .kind .read s q)) (clean-ends F s h d q e)
+        ∙ ap (tally p c b d) (list-ends F s h q e)
+        ∙ ap (λ (k : ℕ). took (record { at = p; count = k; clean = d }) n (b && b₁)) (add-zero c)
 
-    pub tally-refused : {r : Refusal} → optional F .held .read s q ≡ refused r → tally p c b (linked F .kind .read s q) ≡ refused r
-    tally-refused e = ap (tally p c b) (list-refused F s h q e)
+    pub tally-refused : {r : Refusal} → optional F .held .read s q ≡ refused r → onward p c b d q ≡ refused r
+    tally-refused e = ap (tally p c b (d && cleanList F s q)) (list-refused F s h q e)

@@ -52,7 +52,7 @@ times-took (suc n) s q h =
 module _ (s : List ℕ) (p : ℕ) where
   counted : (n : ℕ) → numberAt 4 s p ≡ n → 4 ≤ length s - p → (t : Bool) → leb (4 + n * 4) (length s - p) ≡ t
       → words .kind .read s p
-      ≡ mapAnswer (wordsIn s) (cond t (took (record { at = p + 4; count = n }) (p + 4 + n * 4) true) (refused (cutShort (4 + n * 4) s p)))
+      ≡ mapAnswer (wordsIn s) (cond t (took (record { at = p + 4; count = n; clean = true }) (p + 4 + n * 4) true) (refused (cutShort (4 + n * 4) s p)))
   unfolding words
   counted n c h true e =
       let k : 4 + n * 4 ≤ length s - p = leb-true (4 + n * 4) (length s - p) e in
@@ -74,7 +74,7 @@ module _ (s : List ℕ) (p : ℕ) where
 
   keeps : (n : ℕ) (t u : Bool) → leb (4 + n * 4) (length s - p) ≡ u
       → Taken (λ x. areInside s x ≡ true)
-      (cond t (cond u (took (record { at = p + 4; count = n }) (p + 4 + n * 4) true) (refused (cutShort (4 + n * 4) s p))) (refused (cutShort 4 s p)))
+      (cond t (cond u (took (record { at = p + 4; count = n; clean = true }) (p + 4 + n * 4) true) (refused (cutShort (4 + n * 4) s p))) (refused (cutShort 4 s p)))
   unfolding areInside
   keeps n false u e = tt
   keeps n true false e = tt

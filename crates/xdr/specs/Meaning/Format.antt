@@ -9,7 +9,7 @@ use Rattle.xdr.specs.Meaning.Kind.{Codec}
 use Rattle.xdr.specs.Meaning.Combinators.{Seen, means, View}
 use Rattle.xdr.specs.Meaning.Codecs.{void, chain, view, seen, exactView}
 use Rattle.xdr.specs.Meaning.Items.{flag}
-use Rattle.xdr.specs.Meaning.Held.{Held, thenFirst, thenMean, thenInside, Holds, lookAt, mapSeen, Meant}
+use Rattle.xdr.specs.Meaning.Held.{Held, thenFirst, thenMean, thenInside, thenMarks, Holds, lookAt, mapSeen, Meant}
 use Rattle.xdr.specs.Meaning.Combinators.{Exact}
 use Rattle.xdr.specs.Meaning.Shapes.{If, toOption, fromOption}
 use Rattle.xdr.specs.Laws.Made.{from-to, to-from}
@@ -22,7 +22,7 @@ pub record Format (M S : Type 0) : Type 1 where
 -- no pieces: the code holds the message
 abbrev pub plain : {M : Type 0} (C : Codec M) → Held C M
 plain C =
-    record { read = C .kind .read; mean = λ s m. m; inside = λ s m. true; agrees = plain-agrees C; kept = plain-kept C }
+    record { read = C .kind .read; mean = λ s m. m; inside = λ s m. true; marks = λ s m. []; agrees = plain-agrees C; kept = plain-kept C }
 
 abbrev pub exactly : {M : Type 0} → Codec M → Format M M
 exactly C = record { codec = C; held = plain C }
@@ -35,6 +35,7 @@ heldChain B H G =
       read = λ s p. thenFirst B H G s (H .read s p);
       mean = thenMean B H G;
       inside = thenInside B H G;
+      marks = thenMarks B H G;
       agrees = then-agrees B H G;
       kept = then-kept B H G;
     }
@@ -51,6 +52,7 @@ heldView W H U =
       read = λ s p. lookAt (U .holds) p (H .read s p);
       mean = U .mean;
       inside = U .inside;
+      marks = U .marks;
       agrees = view-agrees W H U;
       kept = view-kept W H U;
     }
@@ -86,6 +88,7 @@ module _ {M N S T : Type 0} (F : Format M S) (R : Renaming M N S T) where
               holds = λ y. means (R .hold y) [];
               mean = λ s y. R .to (F .held .mean s (R .pieces y));
               inside = λ s y. F .held .inside s (R .pieces y);
+              marks = λ s y. F .held .marks s (R .pieces y);
               square = named-square;
               within = named-within;
             });
@@ -155,6 +158,7 @@ module _ {A : Type 0} (tags : Codec A) (branches : A → Branch) where
     pub hold : (tag : A) → branches tag .Has → Seen T
     pub mean : List ℕ → T → N
     pub inside : List ℕ → T → Bool
+    pub marks : List ℕ → T → List Bool
 
   module _ {N T : Type 0} (U : Choice N T) where
     -- the laws of a choice, each by cases on the tag or the message
@@ -177,6 +181,7 @@ module _ {A : Type 0} (tags : Codec A) (branches : A → Branch) where
                 holds = λ y. U .hold (y .0) (y .1);
                 mean = U .mean;
                 inside = U .inside;
+                marks = U .marks;
                 square = λ s y. L .square s (y .0) (y .1);
                 within = λ s y h. L .within s (y .0) (y .1) h;
               });

@@ -1,20 +1,22 @@
--- What the code holds of a message: of bytes a piece, which is a place and a count in the source. The link of a codec to what is held.
+-- What the code holds of a message: of bytes a piece, which is a place and a count in the source, with a mark. The link of a codec to what is held.
 -- Assumes nothing.
 use mathlib.Core.Path.{_≡_}
 use mathlib.Core.Bool.{Bool, true, _&&_}
-use mathlib.Core.List.{List}
+use mathlib.Core.List.{List, _++_}
 use Prim.Native.Nat.{ℕ}
 use Rattle.xdr.specs.Meaning.Answer.{Answer, took, refused, mapAnswer, Taken, clean}
 use Rattle.xdr.specs.Meaning.Kind.{Codec}
 use Rattle.xdr.specs.Meaning.Combinators.{Seen, means, undeclared}
 use Rattle.xdr.specs.declared.refusal.Refusal.the-variants.{Undeclared}
 
--- `read`: the reading, with places. `mean s x`: the message that x is in the source s. `inside s x`: x's pieces lie inside s.
+-- `read`: the reading, with places. `mean s x`: the message that x is in the source s. `inside s x`: x's pieces lie inside s. `marks s x`: the
+-- marks of x's pieces, in the order of its fields; no other part of `Held` knows of them.
 -- To read and then to mean is the codec's reading; and what is read lies inside
 pub record Held {M : Type 0} (C : Codec M) (S : Type 0) : Type 0 where
   pub read : List ℕ → ℕ → Answer S
   pub mean : List ℕ → S → M
   pub inside : List ℕ → S → Bool
+  pub marks : List ℕ → S → List Bool
   pub agrees : (s : List ℕ) (p : ℕ) → C .kind .read s p ≡ mapAnswer (mean s) (read s p)
   pub kept : (s : List ℕ) (p : ℕ) → Taken (λ x. inside s x ≡ true) (read s p)
 
@@ -34,6 +36,9 @@ module _ {M S : Type 0} {N : M → Type 0} {T : S → Type 0} {A : Codec M} (B :
 
   abbrev pub thenInside : List ℕ → (x : S) × T x → Bool
   thenInside s z = H .inside s (z .0) && G s (z .0) .inside s (z .1)
+
+  abbrev pub thenMarks : List ℕ → (x : S) × T x → List Bool
+  thenMarks s z = H .marks s (z .0) ++ G s (z .0) .marks s (z .1)
 
 -- seen as another
 abbrev pub mapSeen : {A B : Type 0} → (A → B) → Seen A → Seen B
@@ -57,5 +62,6 @@ pub record Holds {M S N : Type 0} {C : Codec M} (H : Held C S) (see : M → Seen
   pub holds : S → Seen T
   pub mean : List ℕ → T → N
   pub inside : List ℕ → T → Bool
+  pub marks : List ℕ → T → List Bool
   pub square : (s : List ℕ) (x : S) → see (H .mean s x) ≡ mapSeen (mean s) (holds x)
   pub within : (s : List ℕ) (x : S) → H .inside s x ≡ true → Meant (λ y. inside s y ≡ true) (holds x)

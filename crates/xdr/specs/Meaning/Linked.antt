@@ -55,10 +55,10 @@ module _ {M : Type 0} (O : Codec (Option M)) where
         write = λ l. fewer (suc (length l)) .kind .write l;
       }
 
--- a list is held as its place and a count: the elements that are read there, and whether they are so many
+-- a list is held as its place and a count, with one mark over all its elements: the elements that are read there, and whether they are so many
 module _ {M : Type 0} where
-  abbrev pub placedAt : ℕ → List M → Piece
-  placedAt p l = record { at = p; count = length l }
+  abbrev pub placedAt : ℕ → Bool → List M → Piece
+  placedAt p c l = record { at = p; count = length l; clean = c }
 
   abbrev pub elementsOf : Answer (List M) → List M
   elementsOf (took l n b) = l

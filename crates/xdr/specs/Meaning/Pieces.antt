@@ -59,27 +59,31 @@ unfoldable pub wordOf : List ℕ → Piece → ℕ → Option ℕ
 unfolding areInside
 wordOf s x i = cond (areInside s x) (cond (leb (suc i) (x .count)) (some (numberAt 4 s (x .at + i * 4))) none) none
 
--- an opaque that begins at p, whose length word is n, and then whatever its length word is
+-- an opaque that begins at p and has n bytes: whether its padding is all zero
+abbrev pub padZero : List ℕ → ℕ → ℕ → Bool
+padZero s p n = zeros (take (padding n) (drop (p + 4 + n) s))
+
+-- an opaque that begins at p, whose length word is n, and then whatever its length word is. Its mark is clean if its padding is zero
 abbrev pub pieceAnswer : List ℕ → ℕ → ℕ → Answer Piece
 pieceAnswer s p n =
     cond (leb (4 + n + padding n) (length s - p))
-    (took (record { at = p + 4; count = n }) (p + 4 + n + padding n) (zeros (take (padding n) (drop (p + 4 + n) s))))
+    (took (record { at = p + 4; count = n; clean = padZero s p n }) (p + 4 + n + padding n) (padZero s p n))
     (refused (cutShort (4 + n + padding n) s p))
 
 abbrev pub pieceAt : List ℕ → ℕ → Answer Piece
 pieceAt s p = cond (leb 4 (length s - p)) (pieceAnswer s p (numberAt 4 s p)) (refused (cutShort 4 s p))
 
--- the same of a word list
+-- the same of a word list, which has no padding
 abbrev pub wordsAnswer : List ℕ → ℕ → ℕ → Answer Piece
 wordsAnswer s p n =
-    cond (leb (4 + n * 4) (length s - p)) (took (record { at = p + 4; count = n }) (p + 4 + n * 4) true) (refused (cutShort (4 + n * 4) s p))
+    cond (leb (4 + n * 4) (length s - p)) (took (record { at = p + 4; count = n; clean = true }) (p + 4 + n * 4) true) (refused (cutShort (4 + n * 4) s p))
 
 abbrev pub wordPieceAt : List ℕ → ℕ → Answer Piece
 wordPieceAt s p = cond (leb 4 (length s - p)) (wordsAnswer s p (numberAt 4 s p)) (refused (cutShort 4 s p))
 
 -- the empty piece at place 0, which stands for the empty bytes of a default
 abbrev pub nothing : Piece
-nothing = record { at = 0; count = 0 }
+nothing = record { at = 0; count = 0; clean = true }
 
 -- how many bytes an opaque of n bytes takes
 abbrev pub opaqueSize : ℕ → ℕ

@@ -2,12 +2,15 @@
 -- Assumes nothing.
 use mathlib.Core.Bool.{Bool, true}
 use mathlib.Core.Option.{Option, none, some}
+use mathlib.Core.List.{List, [], _∷_}
 use Prim.Native.Nat.{ℕ}
 use lib.IntN.{ℤ}
 use Rattle.xdr.specs.Meaning.Answer.{Answer, took, refused, Written, done, unwritten}
 use Rattle.xdr.specs.declared.refusal.Refusal.{Refusal}
 use Rattle.xdr.specs.declared.refusal.Refusal.the-variants.{PastEnd}
 use Rattle.xdr.specs.declared.piece.Piece.{Piece}
+use Rattle.xdr.specs.declared.piece.Marks.{Marks}
+use Rattle.xdr.specs.declared.piece.Marks.the-variants as marks
 use Rattle.xdr.specs.declared.piece.WordFound.{WordFound}
 use Rattle.xdr.specs.declared.piece.WordFound.the-variants as word-found
 use Rattle.xdr.specs.declared.answer.U32Read.{U32Read}
@@ -102,6 +105,11 @@ viewWrote (wrote.Done n) = done n
 abbrev pub lostWrote : Wrote → Refusal
 lostWrote (wrote.Refused r) = r
 lostWrote (wrote.Done n) = PastEnd
+
+abbrev pub viewMarks : Marks → List Bool
+viewMarks marks.None = []
+viewMarks (marks.One a) = a ∷ []
+viewMarks (marks.Two a b) = a ∷ b ∷ []
 
 abbrev pub viewWord : WordFound → Option ℕ
 viewWord word-found.None = none

@@ -7,4 +7,4 @@ use Rattle.door.proofs.messages.copy_current_accepted_reply.Statement.{
 use Rattle.door.proofs.messages.copy_current_accepted_reply.Tie as tie
 
 pub copy-current-accepted-reply-spec : {M : Type 1} → statement M
-copy-current-accepted-reply-spec = tie.close (tie.spec (search needs) (search needs) (search needs) (search needs) (search needs) (λ c. search (not-read current-accepted-reply viewCurrentAcceptedReply)) (search needs) (λ c. search (was-read current-accepted-reply viewCurrentAcceptedReply)))
+copy-current-accepted-reply-spec = tie.close (tie.spec (search needs) (search needs) (search needs) (search needs) (search needs) (search needs) (λ c. search (not-read current-accepted-reply viewCurrentAcceptedReply)) (search needs) (λ c. search (was-read current-accepted-reply viewCurrentAcceptedReply)))

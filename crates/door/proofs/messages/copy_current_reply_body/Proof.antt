@@ -7,4 +7,4 @@ use Rattle.door.proofs.messages.copy_current_reply_body.Statement.{stat
 use Rattle.door.proofs.messages.copy_current_reply_body.Tie as tie
 
 pub copy-current-reply-body-spec : {M : Type 1} → statement M
-copy-current-reply-body-spec = tie.close (tie.spec (search needs) (search needs) (search needs) (search needs) (search needs) (λ c. search (not-read current-reply-body viewCurrentReplyBody)) (search needs) (λ c. search (was-read current-reply-body viewCurrentReplyBody)))
+copy-current-reply-body-spec = tie.close (tie.spec (search needs) (search needs) (search needs) (search needs) (search needs) (search needs) (λ c. search (not-read current-reply-body viewCurrentReplyBody)) (search needs) (λ c. search (was-read current-reply-body viewCurrentReplyBody)))

@@ -7,4 +7,4 @@ use Rattle.door.proofs.messages.copy_current_rpc_body.Statement.{statem
 use Rattle.door.proofs.messages.copy_current_rpc_body.Tie as tie
 
 pub copy-current-rpc-body-spec : {M : Type 1} → statement M
-copy-current-rpc-body-spec = tie.close (tie.spec (search needs) (search needs) (search needs) (search needs) (search needs) (λ c. search (not-read current-rpc-body viewCurrentRpcBody)) (search needs) (λ c. search (was-read current-rpc-body viewCurrentRpcBody)))
+copy-current-rpc-body-spec = tie.close (tie.spec (search needs) (search needs) (search needs) (search needs) (search needs) (search needs) (λ c. search (not-read current-rpc-body viewCurrentRpcBody)) (search needs) (λ c. search (was-read current-rpc-body viewCurrentRpcBody)))

@@ -7,4 +7,4 @@ use Rattle.door.proofs.messages.copy_current_rpc_msg.Statement.{stateme
 use Rattle.door.proofs.messages.copy_current_rpc_msg.Tie as tie
 
 pub copy-current-rpc-msg-spec : {M : Type 1} → statement M
-copy-current-rpc-msg-spec = tie.close (tie.spec (search needs) (search needs) (search needs) (search needs) (search needs) (λ c. search (not-read current-rpc-msg viewCurrentRpcMsg)) (search needs) (λ c. search (was-read current-rpc-msg viewCurrentRpcMsg)))
+copy-current-rpc-msg-spec = tie.close (tie.spec (search needs) (search needs) (search needs) (search needs) (search needs) (search needs) (λ c. search (not-read current-rpc-msg viewCurrentRpcMsg)) (search needs) (λ c. search (was-read current-rpc-msg viewCurrentRpcMsg)))

@@ -7,4 +7,4 @@ use Rattle.door.proofs.mounts.copy_mountres3.Statement.{statement}
 use Rattle.door.proofs.mounts.copy_mountres3.Tie as tie
 
 pub copy-mountres3-spec : {M : Type 1} → statement M
-copy-mountres3-spec = tie.close (tie.spec (search needs) (search needs) (search needs) (search needs) (search needs) (λ c. search (not-read mountres viewMountres3)) (search needs) (λ c. search (was-read mountres viewMountres3)))
+copy-mountres3-spec = tie.close (tie.spec (search needs) (search needs) (search needs) (search needs) (search needs) (search needs) (λ c. search (not-read mountres viewMountres3)) (search needs) (λ c. search (was-read mountres viewMountres3)))

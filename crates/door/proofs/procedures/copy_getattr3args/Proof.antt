@@ -7,4 +7,4 @@ use Rattle.door.proofs.procedures.copy_getattr3args.Statement.{statemen
 use Rattle.door.proofs.procedures.copy_getattr3args.Tie as tie
 
 pub copy-getattr3args-spec : {M : Type 1} → statement M
-copy-getattr3args-spec = tie.close (tie.spec (search needs) (search needs) (search needs) (search needs) (search needs) (λ c. search (not-read getattr-args viewGetattr3args)) (search needs) (λ c. search (was-read getattr-args viewGetattr3args)))
+copy-getattr3args-spec = tie.close (tie.spec (search needs) (search needs) (search needs) (search needs) (search needs) (search needs) (λ c. search (not-read getattr-args viewGetattr3args)) (search needs) (λ c. search (was-read getattr-args viewGetattr3args)))

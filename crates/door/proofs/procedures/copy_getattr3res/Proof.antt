@@ -7,4 +7,4 @@ use Rattle.door.proofs.procedures.copy_getattr3res.Statement.{statement
 use Rattle.door.proofs.procedures.copy_getattr3res.Tie as tie
 
 pub copy-getattr3res-spec : {M : Type 1} → statement M
-copy-getattr3res-spec = tie.close (tie.spec (search needs) (search needs) (search needs) (search needs) (search needs) (λ c. search (not-read getattr-res viewGetattr3res)) (search needs) (λ c. search (was-read getattr-res viewGetattr3res)))
+copy-getattr3res-spec = tie.close (tie.spec (search needs) (search needs) (search needs) (search needs) (search needs) (search needs) (λ c. search (not-read getattr-res viewGetattr3res)) (search needs) (λ c. search (was-read getattr-res viewGetattr3res)))

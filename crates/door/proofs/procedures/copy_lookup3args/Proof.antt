@@ -7,4 +7,4 @@ use Rattle.door.proofs.procedures.copy_lookup3args.Statement.{statement
 use Rattle.door.proofs.procedures.copy_lookup3args.Tie as tie
 
 pub copy-lookup3args-spec : {M : Type 1} → statement M
-copy-lookup3args-spec = tie.close (tie.spec (search needs) (search needs) (search needs) (search needs) (search needs) (λ c. search (not-read lookup-args viewLookup3args)) (search needs) (λ c. search (was-read lookup-args viewLookup3args)))
+copy-lookup3args-spec = tie.close (tie.spec (search needs) (search needs) (search needs) (search needs) (search needs) (search needs) (λ c. search (not-read lookup-args viewLookup3args)) (search needs) (λ c. search (was-read lookup-args viewLookup3args)))

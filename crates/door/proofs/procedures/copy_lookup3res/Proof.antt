@@ -7,4 +7,4 @@ use Rattle.door.proofs.procedures.copy_lookup3res.Statement.{statement}
 use Rattle.door.proofs.procedures.copy_lookup3res.Tie as tie
 
 pub copy-lookup3res-spec : {M : Type 1} → statement M
-copy-lookup3res-spec = tie.close (tie.spec (search needs) (search needs) (search needs) (search needs) (search needs) (λ c. search (not-read lookup-res viewLookup3res)) (search needs) (λ c. search (was-read lookup-res viewLookup3res)))
+copy-lookup3res-spec = tie.close (tie.spec (search needs) (search needs) (search needs) (search needs) (search needs) (search needs) (λ c. search (not-read lookup-res viewLookup3res)) (search needs) (λ c. search (was-read lookup-res viewLookup3res)))

@@ -7,4 +7,4 @@ use Rattle.door.proofs.procedures.copy_read3args.Statement.{statement}
 use Rattle.door.proofs.procedures.copy_read3args.Tie as tie
 
 pub copy-read3args-spec : {M : Type 1} → statement M
-copy-read3args-spec = tie.close (tie.spec (search needs) (search needs) (search needs) (search needs) (search needs) (λ c. search (not-read read-args viewRead3args)) (search needs) (λ c. search (was-read read-args viewRead3args)))
+copy-read3args-spec = tie.close (tie.spec (search needs) (search needs) (search needs) (search needs) (search needs) (search needs) (λ c. search (not-read read-args viewRead3args)) (search needs) (λ c. search (was-read read-args viewRead3args)))

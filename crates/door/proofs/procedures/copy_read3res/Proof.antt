@@ -7,4 +7,4 @@ use Rattle.door.proofs.procedures.copy_read3res.Statement.{statement}
 use Rattle.door.proofs.procedures.copy_read3res.Tie as tie
 
 pub copy-read3res-spec : {M : Type 1} → statement M
-copy-read3res-spec = tie.close (tie.spec (search needs) (search needs) (search needs) (search needs) (search needs) (λ c. search (not-read read-res viewRead3res)) (search needs) (λ c. search (was-read read-res viewRead3res)))
+copy-read3res-spec = tie.close (tie.spec (search needs) (search needs) (search needs) (search needs) (search needs) (search needs) (λ c. search (not-read read-res viewRead3res)) (search needs) (λ c. search (was-read read-res viewRead3res)))

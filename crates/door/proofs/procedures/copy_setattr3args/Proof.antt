@@ -7,4 +7,4 @@ use Rattle.door.proofs.procedures.copy_setattr3args.Statement.{statemen
 use Rattle.door.proofs.procedures.copy_setattr3args.Tie as tie
 
 pub copy-setattr3args-spec : {M : Type 1} → statement M
-copy-setattr3args-spec = tie.close (tie.spec (search needs) (search needs) (search needs) (search needs) (search needs) (λ c. search (not-read setattr-args viewSetattr3args)) (search needs) (λ c. search (was-read setattr-args viewSetattr3args)))
+copy-setattr3args-spec = tie.close (tie.spec (search needs) (search needs) (search needs) (search needs) (search needs) (search needs) (λ c. search (not-read setattr-args viewSetattr3args)) (search needs) (λ c. search (was-read setattr-args viewSetattr3args)))

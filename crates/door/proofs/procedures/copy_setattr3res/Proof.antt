@@ -7,4 +7,4 @@ use Rattle.door.proofs.procedures.copy_setattr3res.Statement.{statement
 use Rattle.door.proofs.procedures.copy_setattr3res.Tie as tie
 
 pub copy-setattr3res-spec : {M : Type 1} → statement M
-copy-setattr3res-spec = tie.close (tie.spec (search needs) (search needs) (search needs) (search needs) (search needs) (λ c. search (not-read setattr-res viewSetattr3res)) (search needs) (λ c. search (was-read setattr-res viewSetattr3res)))
+copy-setattr3res-spec = tie.close (tie.spec (search needs) (search needs) (search needs) (search needs) (search needs) (search needs) (λ c. search (not-read setattr-res viewSetattr3res)) (search needs) (λ c. search (was-read setattr-res viewSetattr3res)))

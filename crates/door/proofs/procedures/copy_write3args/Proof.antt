@@ -7,4 +7,4 @@ use Rattle.door.proofs.procedures.copy_write3args.Statement.{statement}
 use Rattle.door.proofs.procedures.copy_write3args.Tie as tie
 
 pub copy-write3args-spec : {M : Type 1} → statement M
-copy-write3args-spec = tie.close (tie.spec (search needs) (search needs) (search needs) (search needs) (search needs) (λ c. search (not-read write-args viewWrite3args)) (search needs) (λ c. search (was-read write-args viewWrite3args)))
+copy-write3args-spec = tie.close (tie.spec (search needs) (search needs) (search needs) (search needs) (search needs) (search needs) (λ c. search (not-read write-args viewWrite3args)) (search needs) (λ c. search (was-read write-args viewWrite3args)))

@@ -7,4 +7,4 @@ use Rattle.door.proofs.procedures.copy_write3res.Statement.{statement}
 use Rattle.door.proofs.procedures.copy_write3res.Tie as tie
 
 pub copy-write3res-spec : {M : Type 1} → statement M
-copy-write3res-spec = tie.close (tie.spec (search needs) (search needs) (search needs) (search needs) (search needs) (λ c. search (not-read write-res viewWrite3res)) (search needs) (λ c. search (was-read write-res viewWrite3res)))
+copy-write3res-spec = tie.close (tie.spec (search needs) (search needs) (search needs) (search needs) (search needs) (search needs) (λ c. search (not-read write-res viewWrite3res)) (search needs) (λ c. search (was-read write-res viewWrite3res)))

@@ -3,16 +3,16 @@ use native.Mathlib.Omega.{arith}
 use mathlib.Core.Path.{_≡_}
 use Prim.Native.Nat.{_+_, _-_, _≤_}
 use lib.ListN.{length}
-use Rattle.mount.specs.Meaning.Export.{nodes, walked}
+use Rattle.mount.specs.Meaning.Export.{walkOf}
 use Rattle.mount.specs.Laws.Export.{entriesOn, entries-start, entries-refused, entries-end, entries-on, entry-room, entries-less, entries-further, entries-fit}
 use Rattle.mount.proofs.export.walk.Statement.{statement}
 use Rattle.mount.proofs.export.walk.Tie as tie
 
 abbrev Inv-loop : tie.InvT-loop
-Inv-loop src at here₀ count₀ plain₀ long₀ here count plain long = (walked at (nodes .codec .kind .read src at) ≡ entriesOn src here count plain long) × (at + count ≤ here)
+Inv-loop src at here₀ count₀ plain₀ clean₀ long₀ here count plain clean long = (walkOf src at ≡ entriesOn src here count plain clean long) × (at + count ≤ here)
 
 abbrev μ-loop : tie.MeasureT-loop
-μ-loop src at here₀ count₀ plain₀ long₀ here count plain long = length src - here
+μ-loop src at here₀ count₀ plain₀ clean₀ long₀ here count plain clean long = length src - here
 
 ruleset entries = (needs, entries-start, entries-refused, entries-end, entries-on, entry-room, entries-less, entries-further, entries-fit)
 

@@ -9,10 +9,10 @@ use Rattle.mount.proofs.group.groups_at.Statement.{statement}
 use Rattle.mount.proofs.group.groups_at.Tie as tie
 
 abbrev Inv-loop : tie.InvT-loop
-Inv-loop src at here₀ count₀ plain₀ here count plain = (groups .held .read src at ≡ namesOn src at here count plain) × (at + count ≤ here)
+Inv-loop src at here₀ count₀ plain₀ clean₀ here count plain clean = (groups .held .read src at ≡ namesOn src at here count plain clean) × (at + count ≤ here)
 
 abbrev μ-loop : tie.MeasureT-loop
-μ-loop src at here₀ count₀ plain₀ here count plain = length src - here
+μ-loop src at here₀ count₀ plain₀ clean₀ here count plain clean = length src - here
 
 ruleset names = (needs, names-start, names-refused, names-end, names-on, names-less, names-further, names-fit)
 

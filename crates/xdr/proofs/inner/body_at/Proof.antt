@@ -1,4 +1,5 @@
 use borrow.Author.Needs.{needs}
+use denote.Ref.{now}
 use Rattle.xdr.specs.Laws.ByNumber.{body-off, body-on}
 use Rattle.xdr.proofs.inner.body_at.Statement.{statement}
 use Rattle.xdr.proofs.inner.body_at.Tie as tie
@@ -8,4 +9,5 @@ body-at-spec =
     tie.close
     (tie.spec
     (search needs) (search needs) (search needs) (search needs) (search needs) (search needs) (λ c. search body-off) (search needs) (search needs) (search needs)
-    (search needs) (search needs) (search needs) (search needs) (λ c. search (needs, body-on)))
+    (search needs) (search needs) (search needs) (search needs) (λ c. let a = c .before .before .before .before .args in
+    body-on (now (a .src)) (a .at) (a .n) (search needs) (c .before .word-here .result) (c .low-zeros .result) (search needs) (search needs) (c .before .word-here .ensures) (c .low-zeros .ensures)))
