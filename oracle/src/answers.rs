@@ -49,6 +49,24 @@ pub struct Took {
     pub length: usize,
 }
 
+/// The marks of a message's pieces, in the order of its fields: whether the padding behind each was all zero.
+#[derive(Clone, Copy, Debug, Default, PartialEq, Eq)]
+pub struct Marks {
+    pub pieces: usize,
+    pub clean: [bool; 2],
+}
+
+impl Marks {
+    pub fn push(&mut self, clean: bool) {
+        self.clean[self.pieces] = clean;
+        self.pieces += 1;
+    }
+
+    pub fn each(&self) -> &[bool] {
+        &self.clean[..self.pieces]
+    }
+}
+
 /// A part of a message: the place of its first byte, and a count (of bytes, or of words of four bytes).
 #[derive(Clone, Copy, Debug, PartialEq, Eq)]
 pub struct Piece {
@@ -228,6 +246,7 @@ pub const UNKNOWN_KIND: u32 = 255;
 
 /// How many figures each function has that is no reader of a `Value`. (Rewriting and judging have the same.)
 pub const READ_FIGURES: usize = 3;
+pub const MARKS_FIGURES: usize = 5;
 pub const CHOOSE_FIGURES: usize = 12;
 pub const FEED_FIGURES: usize = 2;
 pub const STATE_FIGURES: usize = 7;
@@ -278,9 +297,20 @@ impl Told {
         }
     }
 
-    /// What both tell where there is no such kind.
-    pub fn unknown_kind() -> Told {
-        Told { answer: UNKNOWN_KIND, figures: vec![0; READ_FIGURES] }
+    /// What marking it tells.
+    pub fn marked(answer: &Result<Took, Refusal>, marks: &Marks) -> Told {
+        match answer {
+            Ok(took) => {
+                let [first, second] = marks.clean.map(u64::from);
+                Told::done(vec![took.next as u64, u64::from(took.plain), marks.pieces as u64, first, second])
+            },
+            Err(refusal) => Told::refused(refusal, MARKS_FIGURES),
+        }
+    }
+
+    /// What a function of any kind with so many figures tells where there is no such kind.
+    pub fn unknown_kind(figures: usize) -> Told {
+        Told { answer: UNKNOWN_KIND, figures: vec![0; figures] }
     }
 
     pub fn chose(choice: &Choice) -> Told {

@@ -2,8 +2,8 @@
 use std::fmt::{self, Display, Formatter};
 
 use crate::answers::{
-    Fed, Piece, Refusal, State, Told, Took, ASK_FIGURES, CHOOSE_FIGURES, COMPLETE, DONE, FEED_FIGURES, MORE, PART_FIGURES,
-    READ_FIGURES, REPLY, SAME_FIGURES, STATE_FIGURES, UNKNOWN_KIND, WRITE_FIGURES,
+    Fed, Piece, Refusal, State, Told, Took, ASK_FIGURES, CHOOSE_FIGURES, COMPLETE, DONE, FEED_FIGURES, MARKS_FIGURES, MORE,
+    PART_FIGURES, READ_FIGURES, REPLY, SAME_FIGURES, STATE_FIGURES, UNKNOWN_KIND, WRITE_FIGURES,
 };
 use crate::cases::{bare_call, call_with, Case, Cut, Lending, Question, Room, BODY};
 use crate::lent::{bytes, list, Left};
@@ -90,7 +90,7 @@ impl Sides {
         let mut due = Left::new(room, lending.info.length(READ_FIGURES));
         let mut got = due.clone();
         if due.info.get().len() >= READ_FIGURES {
-            due.tell(&expected.map_or_else(Told::unknown_kind, |answer| Told::rewritten(&answer, room)));
+            due.tell(&expected.map_or_else(|| Told::unknown_kind(READ_FIGURES), |answer| Told::rewritten(&answer, room)));
             if let (Some(Ok(took)), 0) = (expected, due.answer) {
                 self.tally.took(took.plain);
                 due.out.slice()[..took.length].copy_from_slice(&self.truth.rewriting);
@@ -111,10 +111,34 @@ impl Sides {
         let mut due = Left::new(0, lending.info.length(READ_FIGURES));
         let mut got = due.clone();
         if due.info.get().len() >= READ_FIGURES {
-            due.tell(&expected.map_or_else(Told::unknown_kind, |answer| Told::judged(&answer)));
+            due.tell(&expected.map_or_else(|| Told::unknown_kind(READ_FIGURES), |answer| Told::judged(&answer)));
         }
         got.answer = self.proved.judge(kind, message, at, got.info.slice());
-        self.same("judge", &got, &due)
+        self.same("judge", &got, &due).or_else(|| self.marks(kind, at, message, expected, lending))
+    }
+
+    /// The crate has no marks: the model alone has them.
+    fn marks(
+        &mut self,
+        kind: u32,
+        at: usize,
+        message: &[u8],
+        expected: Option<Result<Took, Refusal>>,
+        lending: &Lending,
+    ) -> Option<Difference> {
+        let mut due = Left::new(0, lending.info.length(MARKS_FIGURES));
+        let mut got = due.clone();
+        if due.info.get().len() >= MARKS_FIGURES {
+            due.tell(
+                &expected
+                    .map_or_else(|| Told::unknown_kind(MARKS_FIGURES), |answer| Told::marked(&answer, &self.truth.marks)),
+            );
+            if expected.is_some_and(|answer| answer.is_ok()) {
+                self.tally.marks(&self.truth.marks);
+            }
+        }
+        got.answer = self.proved.marks(kind, message, at, got.info.slice());
+        self.same("marks", &got, &due)
     }
 
     /// The reader of the value; and, so that all readers of its kind are seen to agree, rewriting and judging of the same.

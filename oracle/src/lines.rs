@@ -1,7 +1,7 @@
 //! The lines of the program `answers`: cases and answers as text.
 use std::fmt::Write;
 
-use crate::answers::{Asked, Call, Choice, Fed, Piece, Refusal, State, Took, Wrote, LONG_PATH};
+use crate::answers::{Asked, Call, Choice, Fed, Marks, Piece, Refusal, State, Took, Wrote, LONG_PATH};
 use crate::cases::{Cut, Question};
 use crate::shapes::KINDS;
 use crate::yielded::Yielded;
@@ -34,6 +34,18 @@ pub fn refusal(refusal: &Refusal) -> String {
 pub fn reading(answer: &Result<Took, Refusal>, rewriting: &[u8]) -> String {
     match answer {
         Ok(took) => format!("took {} {} {}", took.next, if took.plain { "plain" } else { "loose" }, hex(rewriting)),
+        Err(refused) => refusal(refused),
+    }
+}
+
+/// A reading with its marks: a letter for each piece.
+pub fn marking(answer: &Result<Took, Refusal>, marks: &Marks) -> String {
+    match answer {
+        Ok(took) => {
+            let letters: String = marks.each().iter().map(|clean| if *clean { 'c' } else { 'd' }).collect();
+            let letters = if letters.is_empty() { "-" } else { &letters };
+            format!("took {} {} {letters}", took.next, if took.plain { "plain" } else { "loose" })
+        },
         Err(refused) => refusal(refused),
     }
 }

@@ -55,6 +55,8 @@ pub fn lines(captures: &Path) -> io::Result<Vec<String>> {
     cut_everywhere(&mut list);
     list.extend(mounted::lines());
     list.extend(captured::lines(captures)?);
+    list.extend(MARKS.iter().map(|line| String::from(*line)));
+    list.extend(marked(&list));
     let mut met = HashSet::new();
     list.retain(|line| met.insert(line.clone()));
     Ok(list)
@@ -182,6 +184,34 @@ const BOTH_READINGS: &[&str] = &[
     "choose 0 24 0000002A0000000100000001000000010000000F",
     "current_choose 0 24 0000002A0000000100000001000000010000000F",
 ];
+
+/// Which field was dirty: the examples, and what is easily misread.
+const MARKS: &[&str] = &[
+    "marks diropargs3 0 00000001AA00000000000001BB0000CC",
+    "marks diropargs3 0 00000001AA01000000000001BB000000",
+    "marks bool 0 00000100",
+    "marks rpc_msg 0 0000002A00000002",
+    "marks reply_body 0 00000002",
+    "marks words 0 0000000100000007",
+    "marks mountres3 0 0000000000000001AA0000FF0000000100000001",
+    "marks exports 0 FFFFFFFF000000012F0000000000000000000000",
+    "marks exports 0 00000001000000012F000000000000010000000162000001000000000000000000000000",
+    "marks",
+    "marks bool 0",
+    "marks boolean 0 00000000",
+    "marks bool x 00000000",
+    "marks bool 0 00000000 0",
+];
+
+/// Every third reading of a kind with pieces, asked for its marks.
+fn marked(list: &[String]) -> Vec<String> {
+    let has_pieces = |line: &str| {
+        let name = line.split(' ').nth(1).unwrap_or_default();
+        KINDS.iter().any(|(kind, shape)| *kind == name && shape.has_pieces())
+    };
+    let readings = list.iter().filter_map(|line| line.strip_prefix("read ").map(|rest| format!("marks {rest}")));
+    readings.filter(|line| has_pieces(line)).step_by(3).collect()
+}
 
 /// Lines that have not the form of any, for every reason but two: no line here is too long, and none can spell too many
 /// bytes.

@@ -22,6 +22,7 @@ mod side {
             infos: usize,
         ) -> u32;
         fn yugerzat_judge(kind: u32, source: *const u8, length: usize, at: usize, info: *mut u64, infos: usize) -> u32;
+        fn yugerzat_marks(kind: u32, source: *const u8, length: usize, at: usize, info: *mut u64, infos: usize) -> u32;
         fn yugerzat_read_rpc_msg(message: *const u8, length: usize, at: usize, info: *mut u64, infos: usize) -> u32;
         fn yugerzat_read_current_rpc_msg(message: *const u8, length: usize, at: usize, info: *mut u64, infos: usize) -> u32;
         #[rustfmt::skip]
@@ -237,6 +238,11 @@ mod side {
             unsafe { yugerzat_judge(kind, source.as_ptr(), source.len(), at, info.as_mut_ptr(), info.len()) }
         }
 
+        pub fn marks(&self, kind: u32, source: &[u8], at: usize, info: &mut [u64]) -> u32 {
+            // SAFETY: as above.
+            unsafe { yugerzat_marks(kind, source.as_ptr(), source.len(), at, info.as_mut_ptr(), info.len()) }
+        }
+
         /// The reader of a value at a place of a message.
         pub fn value(&self, value: Value, message: &[u8], at: usize, info: &mut [u64]) -> u32 {
             let reader = match value {
@@ -385,6 +391,10 @@ mod side {
 
         pub fn judge(&self, kind: u32, source: &[u8], at: usize, info: &mut [u64]) -> u32 {
             self.0.exported_judge(kind, source, at, info)
+        }
+
+        pub fn marks(&self, kind: u32, source: &[u8], at: usize, info: &mut [u64]) -> u32 {
+            self.0.exported_marks(kind, source, at, info)
         }
 
         pub fn value(&self, value: Value, message: &[u8], at: usize, info: &mut [u64]) -> u32 {

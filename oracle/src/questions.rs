@@ -28,6 +28,12 @@ fn try_answer(truth: &mut Truth, line: &[u8]) -> Result<String, String> {
             let answer = truth.read(kind, &bytes, at);
             Ok(lines::reading(&answer, &truth.rewriting))
         },
+        b"marks" => {
+            let (kind, at, bytes) = (words.kind()?, words.number()?, words.bytes()?);
+            words.end()?;
+            let answer = truth.read(kind, &bytes, at);
+            Ok(lines::marking(&answer, &truth.marks))
+        },
         b"write" => {
             let (kind, at, bytes) = (words.kind()?, words.number()?, words.bytes()?);
             let (room, start) = (words.number()?, words.number()?);

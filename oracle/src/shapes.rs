@@ -48,6 +48,17 @@ impl Shape {
     }
 }
 
+impl Shape {
+    /// How many pieces a message of it has that has no further case to choose.
+    pub fn pieces(&self) -> usize {
+        match self {
+            Shape::Opaque | Shape::WordList | Shape::Path | Shape::Chain(_) => 1,
+            Shape::Record(fields) => fields.iter().map(|field| field.pieces()).sum(),
+            _ => 0,
+        }
+    }
+}
+
 /// What a tag without an arm is.
 pub enum Undeclared {
     /// Refusal 2.

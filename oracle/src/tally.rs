@@ -3,6 +3,8 @@ use std::collections::{BTreeMap, BTreeSet};
 use std::fmt::{Display, Formatter, Result};
 use std::ops::AddAssign;
 
+use crate::answers::Marks;
+
 /// Who judged the messages that were read or chosen for.
 #[derive(Clone, Copy, Default)]
 pub struct Judged {
@@ -28,6 +30,9 @@ pub struct Tally {
     /// Streams that were fed in two cuttings, and how many of them stopped.
     streams: u64,
     stopped: u64,
+    /// Pieces of messages that were taken: those that are clean, and the others.
+    clean: u64,
+    dirty: u64,
     /// Export lists that were compared: those that are the same, and the others.
     same: u64,
     other: u64,
@@ -55,6 +60,13 @@ impl Tally {
         self.stopped += u64::from(is_stopped);
     }
 
+    /// A message was taken that has these pieces.
+    pub fn marks(&mut self, marks: &Marks) {
+        for clean in marks.each() {
+            *(if *clean { &mut self.clean } else { &mut self.dirty }) += 1;
+        }
+    }
+
     /// Two export lists were compared.
     pub fn compared(&mut self, is_same: bool) {
         *(if is_same { &mut self.same } else { &mut self.other }) += 1;
@@ -76,6 +88,8 @@ impl AddAssign for Tally {
         self.held += other.held;
         self.streams += other.streams;
         self.stopped += other.stopped;
+        self.clean += other.clean;
+        self.dirty += other.dirty;
         self.same += other.same;
         self.other += other.other;
     }
@@ -99,6 +113,7 @@ impl Display for Tally {
         write!(f, "; of kinds or a reading that it lacks, by the model alone: {by_model}")?;
         write!(f, "\ncut at every byte: {} sorts of message; counts that held: {}", self.cut.len(), self.held)?;
         write!(f, "\nfed in two cuttings: {} streams, {} of which stop", self.streams, self.stopped)?;
+        write!(f, "\npieces marked: {} clean, {} dirty", self.clean, self.dirty)?;
         write!(f, "\nexport lists compared: {} that are the same, {} that are not", self.same, self.other)
     }
 }

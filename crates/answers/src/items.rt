@@ -36,16 +36,20 @@ pub(crate) fn refusal(out: &mut [u8], at: Out, r: Refusal) -> Out {
     }
 }
 
-// What was read, and what it is written as, which is at the front of the buffer.
-fn took(out: &mut [u8], at: Out, next: usize, plain: bool, rewriting: &[u8]) -> Out {
+// The place after what was read, and whether that was in published form.
+fn form(out: &mut [u8], at: Out, next: usize, plain: bool) -> Out {
     let n = say(out, at, b"took");
     let m = print::number(out, n, next);
     if plain {
-        let k = say(out, m, b" plain");
-        return print::hex(out, k, rewriting);
+        return say(out, m, b" plain");
     }
-    let k = say(out, m, b" loose");
-    print::hex(out, k, rewriting)
+    say(out, m, b" loose")
+}
+
+// What was read, and what it is written as, which is at the front of the buffer.
+fn took(out: &mut [u8], at: Out, next: usize, plain: bool, rewriting: &[u8]) -> Out {
+    let n = form(out, at, next, plain);
+    print::hex(out, n, rewriting)
 }
 
 // A letter for each piece: c for a clean one, d for a dirty one.
@@ -58,9 +62,8 @@ fn letter(out: &mut [u8], at: Out, clean: bool) -> Out {
 
 // What was read, and the marks of its pieces in the order of the fields.
 fn took_marks(out: &mut [u8], at: Out, next: usize, plain: bool, marks: Marks) -> Out {
-    let n = say(out, at, b"took");
-    let m = print::number(out, n, next);
-    let k = say(out, m, if plain { b" plain " } else { b" loose " });
+    let n = form(out, at, next, plain);
+    let k = say(out, n, b" ");
     match marks {
         Marks::None => say(out, k, b"-"),
         Marks::One(a) => letter(out, k, a),

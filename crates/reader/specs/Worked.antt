@@ -1,7 +1,7 @@
 -- A MKDIR call, worked: the bytes of the call and its reading.
 -- Assumes nothing.
 use mathlib.Core.Path.{_≡_, refl}
-use mathlib.Core.Bool.{false}
+use mathlib.Core.Bool.{true, false}
 use mathlib.Core.List.{List, [], _∷_}
 use Prim.Native.Nat.{ℕ}
 use Rattle.xdr.specs.Meaning.Answer.{took, refused}

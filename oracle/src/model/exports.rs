@@ -1,8 +1,10 @@
 //! The model in the library's place: the functions of include/yugerzat.h, with slices for addresses and lengths.
+use super::reading::Read;
 use super::{Fault, Model};
 use crate::answers::{
     Choice, Fed, Piece, Refusal, State, Told, Unwritten, Wrote, ASK_FIGURES, CHOOSE_FIGURES, FEED_FIGURES, LAST_REFUSAL,
-    LONG_PATH, PART_FIGURES, READ_FIGURES, REPLY, SAME_FIGURES, SHORT_LIST, STATE_FIGURES, WIDE_NUMBER, WRITE_FIGURES,
+    LONG_PATH, MARKS_FIGURES, PART_FIGURES, READ_FIGURES, REPLY, SAME_FIGURES, SHORT_LIST, STATE_FIGURES, WIDE_NUMBER,
+    WRITE_FIGURES,
 };
 use crate::shapes::{Reading, KINDS};
 use crate::values::{Value, Walk, Writer};
@@ -13,7 +15,7 @@ impl Model {
             return self.short_list(info);
         }
         if kind as usize >= KINDS.len() {
-            return self.unknown_kind(Fault::UnknownUntouched, info);
+            return self.unknown_kind(Fault::UnknownUntouched, READ_FIGURES, info);
         }
         let mut rewriting = Vec::new();
         let answer = self.read(kind as usize, message, at, &mut rewriting).answer;
@@ -39,7 +41,7 @@ impl Model {
             return self.short_list(info);
         }
         if kind as usize >= KINDS.len() {
-            return self.unknown_kind(Fault::JudgeUntouched, info);
+            return self.unknown_kind(Fault::JudgeUntouched, READ_FIGURES, info);
         }
         let mut read = self.read(kind as usize, message, at, &mut Vec::new());
         if let Ok(took) = &mut read.answer {
@@ -54,8 +56,26 @@ impl Model {
         self.tell(Told::judged(&read.answer), info)
     }
 
-    fn unknown_kind(self, untouched: Fault, info: &mut [u64]) -> u32 {
-        let mut told = Told::unknown_kind();
+    pub fn exported_marks(self, kind: u32, message: &[u8], at: usize, info: &mut [u64]) -> u32 {
+        if info.len() < MARKS_FIGURES {
+            return self.short_list(info);
+        }
+        if kind as usize >= KINDS.len() {
+            return self.unknown_kind(Fault::MarksUntouched, MARKS_FIGURES, info);
+        }
+        let Read { answer, mut marks, .. } = self.read(kind as usize, message, at, &mut Vec::new());
+        if self.has(Fault::MarkCrossed) && marks.pieces == 2 {
+            marks.clean.swap(0, 1);
+        }
+        if self.has(Fault::MarkPlain) {
+            let plain = answer.is_ok_and(|took| took.plain);
+            marks.clean.iter_mut().for_each(|clean| *clean &= plain);
+        }
+        self.tell(Told::marked(&answer, &marks), info)
+    }
+
+    fn unknown_kind(self, untouched: Fault, figures: usize, info: &mut [u64]) -> u32 {
+        let mut told = Told::unknown_kind(figures);
         if self.has(untouched) {
             told.figures.clear();
         }

@@ -168,6 +168,13 @@ faults! {
     JudgeSizeRead "judge-size-read" "the size that judging tells is that of the bytes read";
     JudgePlain "judge-plain" "every message is judged plain";
     JudgeUntouched "judge-untouched" "judging a kind that is not there leaves the figures as they were";
+    MarkUnseen "mark-unseen" "every piece is told clean";
+    MarkCrossed "mark-crossed" "the marks of two pieces are told the other way round";
+    MarkPlain "mark-plain" "a piece is told dirty wherever the message is not plain";
+    MarkLast "mark-last" "the mark of a list is that of its last name or path";
+    MarkStray "mark-stray" "the empty pieces of a default are told dirty";
+    WordsUnmarked "words-unmarked" "a list of words is told to be no piece";
+    MarksUntouched "marks-untouched" "marking a kind that is not there leaves the figures as they were";
     NeededLess "needed-less" "a rewriting that has no room needs one byte less";
     NeededFirst "needed-first" "what a rewriting needs is the first figure";
     WriterNeedsLess "writer-needs-less" "a writer that has no room needs one byte less";

@@ -1,12 +1,14 @@
 //! Reading a message of any kind, and writing it again.
 use super::{word_at, Fault, Model};
-use crate::answers::{Refusal, Took, BOUND};
+use crate::answers::{Marks, Refusal, Took, BOUND};
 use crate::shapes::{Reading, Shape, Undeclared, KINDS, MNTPATHLEN, MOUNTSTAT3, NFSSTAT3, NOTHING, TWO_WORDS};
 
 /// How a reading went, and what lengths and counts the message claimed on the way.
 #[derive(Clone, Copy, Debug)]
 pub struct Read {
     pub answer: Result<Took, Refusal>,
+    /// Of a message that was taken: the marks of its pieces.
+    pub marks: Marks,
     /// The largest length or count met. The crate allocates by it before it looks whether the bytes are there.
     pub claim: u32,
     /// How many bytes of the rewriting are padding. Only a planted fault asks.
@@ -16,7 +18,7 @@ pub struct Read {
 
 impl Read {
     fn refused(number: u32) -> Read {
-        Read { answer: Err(Refusal::plain(number)), claim: 0, pad: 0 }
+        Read { answer: Err(Refusal::plain(number)), marks: Marks::default(), claim: 0, pad: 0 }
     }
 }
 
@@ -41,14 +43,26 @@ impl Model {
 
     /// The same without refusals 3 and 9. The end of `source` is the end of the message.
     pub(super) fn read_shape(self, shape: &Shape, source: &[u8], at: usize, rewriting: &mut Vec<u8>) -> Read {
-        let mut reader = Reader { model: self, source, at, plain: true, claim: 0, pad: 0, long: None, rewriting };
+        let mut reader = Reader {
+            model: self,
+            source,
+            at,
+            plain: true,
+            marks: Marks::default(),
+            chains: 0,
+            chain_clean: true,
+            claim: 0,
+            pad: 0,
+            long: None,
+            rewriting,
+        };
         let mut answer = reader.shape(shape);
         // A path over the bound comes after all other faults of the message.
         if let (Ok(()), Some(place)) = (answer, reader.long) {
             answer = Err(Refusal::long_path(place));
         }
         let took = Took { next: reader.at, plain: reader.plain, length: reader.rewriting.len() };
-        Read { answer: answer.map(|()| took), claim: reader.claim, pad: reader.pad }
+        Read { answer: answer.map(|()| took), marks: reader.marks, claim: reader.claim, pad: reader.pad }
     }
 }
 
@@ -57,6 +71,10 @@ struct Reader<'a> {
     source: &'a [u8],
     at: usize,
     plain: bool,
+    marks: Marks,
+    /// Inside how many chains the reader is, and whether all padding in the outermost was zero: that is one piece.
+    chains: usize,
+    chain_clean: bool,
     claim: u32,
     pad: usize,
     /// Where the length word of the first path over the bound stands.
@@ -175,6 +193,15 @@ impl Reader<'_> {
         Ok(flag)
     }
 
+    /// A piece whose padding was all zero, or not.
+    fn piece(&mut self, clean: bool) {
+        if self.chains == 0 {
+            self.marks.push(clean);
+        } else {
+            self.chain_clean = clean && (self.chain_clean || self.model.has(Fault::MarkLast));
+        }
+    }
+
     fn opaque(&mut self) -> Result<(), Refusal> {
         let first = self.at;
         let length = self.length()?;
@@ -196,6 +223,7 @@ impl Reader<'_> {
             return short;
         }
         self.plain &= !dirty || self.model.has(Fault::PadUnseen);
+        self.piece(!dirty || self.model.has(Fault::MarkUnseen));
         self.write(length);
         self.rewriting.extend_from_slice(&self.source[content..end]);
         self.rewriting.extend(std::iter::repeat_n(0, next - end));
@@ -218,7 +246,11 @@ impl Reader<'_> {
             }
             return Err(refusal);
         }
-        self.bytes(4 + 4 * count as usize)
+        self.bytes(4 + 4 * count as usize)?;
+        if !self.model.has(Fault::WordsUnmarked) {
+            self.piece(true);
+        }
+        Ok(())
     }
 
     fn closed(&mut self, declared: &[u32]) -> Result<(), Refusal> {
@@ -263,6 +295,9 @@ impl Reader<'_> {
         };
         self.plain = false;
         words.iter().for_each(|word| self.write(*word));
+        // The pieces of the default are empty.
+        let pieces = arms.iter().find(|(tag, _)| *tag == words[0]).map_or(0, |(_, arm)| arm.pieces());
+        (0..pieces).for_each(|_| self.piece(!self.model.has(Fault::MarkStray)));
         Ok(())
     }
 
@@ -331,11 +366,19 @@ impl Reader<'_> {
 
     /// Values behind true flags: a loop, so that a long list needs no stack.
     fn chain(&mut self, value: &Shape) -> Result<(), Refusal> {
+        if self.chains == 0 {
+            self.chain_clean = true;
+        }
+        self.chains += 1;
         while self.flag(self.model.has(Fault::ChainFlagOne))? {
             match value {
                 Shape::Opaque => self.name()?,
                 _ => self.shape(value)?,
             }
+        }
+        self.chains -= 1;
+        if self.chains == 0 {
+            self.piece(self.chain_clean);
         }
         Ok(())
     }

@@ -6,7 +6,7 @@ mod values;
 
 use nfsserve::{Handler, Records, Wire};
 
-use crate::answers::{Choice, Refusal, Took, Unwritten, Wrote, BOUND, REPLY};
+use crate::answers::{Choice, Marks, Refusal, Took, Unwritten, Wrote, BOUND, REPLY};
 use crate::model::Model;
 use crate::shapes::{kind, Reading, KINDS, LACKED, MOUNTING};
 use crate::tally::Judged;
@@ -30,6 +30,8 @@ pub struct Truth {
     sent: Vec<u8>,
     /// Who was asked about what was read.
     pub judged: Judged,
+    /// Of the last message that was read and taken: the marks of its pieces, which the model alone has.
+    pub marks: Marks,
 }
 
 impl Truth {
@@ -42,12 +44,14 @@ impl Truth {
             reply: Vec::new(),
             sent: Vec::new(),
             judged: Judged::default(),
+            marks: Marks::default(),
         }
     }
 
     /// The answer to reading; `rewriting` then holds the rewriting.
     pub fn read(&mut self, kind: usize, source: &[u8], at: usize) -> Result<Took, Refusal> {
         let model = Model::FAULTLESS.read(kind, source, at, &mut self.from_model);
+        self.marks = model.marks;
         if let Err(Refusal { number: 3 | 9, .. }) = model.answer {
             return model.answer;
         }
