@@ -100,7 +100,7 @@
 #endif
 
 /* made by tools/generate: version */
-#define YUGERZAT_VERSION "0.5.0"
+#define YUGERZAT_VERSION "0.6.0"
 /* end of version */
 
 /* The compiler warns where an answer is not looked at. */

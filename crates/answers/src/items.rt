@@ -117,8 +117,8 @@ pub(crate) fn read(
         Copied::Done {
             next,
             plain,
-            marks,
             end,
+            marks,
         } => {
             if for_marks {
                 return took_marks(out, at, next, plain, marks);
@@ -177,8 +177,8 @@ fn write_into(
         Copied::Done {
             next: _,
             plain: _,
-            marks: _,
             end,
+            marks: _,
         } => wrote(out, at, end, buf),
     }
 }

@@ -18,12 +18,13 @@ pub enum Copied {
         plain: bool,
         marks: Marks,
     },
-    // The place after what was read, whether that was in published form, the marks of its pieces, and the place after what was written.
+    // The place after what was read, whether that was in published form, the place after what was written, and the marks of the pieces. They
+    // come last: who does not ask for them then pays nothing for them.
     Done {
         next: usize,
         plain: bool,
-        marks: Marks,
         end: usize,
+        marks: Marks,
     },
 }
 
@@ -41,8 +42,8 @@ pub(crate) fn copied_to(next: usize, plain: bool, marks: Marks, w: Wrote) -> Cop
         Wrote::Done(end) => Copied::Done {
             next,
             plain,
-            marks,
             end,
+            marks,
         },
     }
 }

@@ -55,8 +55,8 @@ fn tell_copied(c: Copied, info: &mut [u64]) -> u32
         Copied::Done {
             next,
             plain,
-            marks: _,
             end,
+            marks: _,
         } => {
             put_figures(&[next as u64, bit(plain), end as u64], 0, info);
             0
@@ -121,8 +121,8 @@ fn tell_judged(c: Copied, info: &mut [u64]) -> u32
         Copied::Done {
             next,
             plain,
-            marks: _,
             end,
+            marks: _,
         } => {
             put_figures(&[next as u64, bit(plain), end as u64], 0, info);
             0

@@ -67,8 +67,8 @@ fn tell_marks(c: Copied, info: &mut [u64]) -> u32
         Copied::Done {
             next,
             plain,
-            marks,
             end: _,
+            marks,
         } => {
             put_marks(next, plain, marks, info);
             0

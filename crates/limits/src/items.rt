@@ -63,8 +63,8 @@ fn copied(out: &mut [u8], at: Out, c: Copied) -> Out {
         Copied::Done {
             next,
             plain,
-            marks: _,
             end,
+            marks: _,
         } => took(out, at, next, plain, end),
     }
 }

@@ -121,19 +121,19 @@ pub copied-told : Told viewCopied
 copied-told Unknown Unknown e = refl
 copied-told Unknown (Unread r) e = cc
 copied-told Unknown (Unwritten r n b m) e = cc
-copied-told Unknown (Done n b m k) e = cc
+copied-told Unknown (Done n b k m) e = cc
 copied-told (Unread r) Unknown e = cc
 copied-told (Unread r) (Unread r′) e = cc
 copied-told (Unread r) (Unwritten r′ n′ b′ m′) e = cc
-copied-told (Unread r) (Done n b m k) e = cc
+copied-told (Unread r) (Done n b k m) e = cc
 copied-told (Unwritten r n b m) Unknown e = cc
 copied-told (Unwritten r n b m) (Unread r′) e = cc
 copied-told (Unwritten r n b m) (Unwritten r′ n′ b′ m′) e = let h : m ≡ m′ = marks-told m m′ (cc e) in cc (e, h)
-copied-told (Unwritten r n b m) (Done n′ b′ m′ k) e = cc
-copied-told (Done n b m k) Unknown e = cc
-copied-told (Done n b m k) (Unread r) e = cc
-copied-told (Done n b m k) (Unwritten r n′ b′ m′) e = cc
-copied-told (Done n b m k) (Done n′ b′ m′ k′) e = let h : m ≡ m′ = marks-told m m′ (cc e) in cc (e, h)
+copied-told (Unwritten r n b m) (Done n′ b′ k m′) e = cc
+copied-told (Done n b k m) Unknown e = cc
+copied-told (Done n b k m) (Unread r) e = cc
+copied-told (Done n b k m) (Unwritten r n′ b′ m′) e = cc
+copied-told (Done n b k m) (Done n′ b′ k′ m′) e = let h : m ≡ m′ = marks-told m m′ (cc e) in cc (e, h)
 
 copies-one : (l : List Branch) (k : ℕ) (s : List ℕ) (at start : ℕ) (o : List ℕ) {c d : Copy} {o′ p′ : List ℕ} → CopiesOf l k s at start o c o′
     → CopiesOf l k s at start o d p′ → (c ≡ d) × (o′ ≡ p′)

@@ -29,7 +29,7 @@ abbrev pub viewCopied : Copied → Copy
 viewCopied Unknown = unknown
 viewCopied (Unread r) = unread r
 viewCopied (Unwritten r n b m) = unmade r n b (viewMarks m)
-viewCopied (Done n b m e) = made n b (viewMarks m) e
+viewCopied (Done n b e m) = made n b (viewMarks m) e
 
 -- what is said of a reading that was taken, by what its writer says
 abbrev pub saidOf : ℕ → Bool → List Bool → Written → Copy
