@@ -121,7 +121,7 @@ pub(crate) fn read(
             marks,
         } => {
             if for_marks {
-                return took_marks(out, at, next, plain, marks);
+                return took_marks(out, at, next, plain, marks.marks());
             }
             took(
                 out,

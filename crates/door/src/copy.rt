@@ -1,9 +1,72 @@
 // What copying a message answers: it is read from one buffer and written, in published form, into another.
+ghost use mathlib.Core.Path.{_≡_};
+ghost use mathlib.Core.List.{[], _∷_};
 ghost use Rattle.xdr.specs.Meaning.Views.{viewMarks, viewWrote};
-ghost use Rattle.door.specs.Meaning.Copy.{Is, viewCopied, saidOf};
+ghost use Rattle.door.specs.Meaning.Copy.{Is, viewMarking, viewCopied, saidOf};
 use xdr::Marks;
 use xdr::Refusal;
 use xdr::Wrote;
+
+// The marks of a reading in one case, so that an answer holds them in one byte: those of no piece, of one and of two.
+pub enum Marking {
+    None,
+    Clean,
+    Dirty,
+    BothClean,
+    SecondDirty,
+    FirstDirty,
+    BothDirty,
+}
+
+fn of_one(a: bool) -> Marking
+    ensures { λ r. ⌜ viewMarking r ≡ a ∷ [] ⌝ }
+{
+    if a { Marking::Clean } else { Marking::Dirty }
+}
+
+fn of_two(a: bool, b: bool) -> Marking
+    ensures { λ r. ⌜ viewMarking r ≡ a ∷ b ∷ [] ⌝ }
+{
+    if a {
+        if b {
+            Marking::BothClean
+        } else {
+            Marking::SecondDirty
+        }
+    } else {
+        if b {
+            Marking::FirstDirty
+        } else {
+            Marking::BothDirty
+        }
+    }
+}
+
+impl Marking {
+    pub(crate) fn of(marks: Marks) -> Marking
+        ensures { λ r. ⌜ viewMarking r ≡ viewMarks marks ⌝ }
+    {
+        match marks {
+            Marks::None => Marking::None,
+            Marks::One(a) => of_one(a),
+            Marks::Two(a, b) => of_two(a, b),
+        }
+    }
+
+    pub fn marks(self) -> Marks
+        ensures { λ r. ⌜ viewMarks r ≡ viewMarking self ⌝ }
+    {
+        match self {
+            Marking::None => Marks::None,
+            Marking::Clean => Marks::One(true),
+            Marking::Dirty => Marks::One(false),
+            Marking::BothClean => Marks::Two(true, true),
+            Marking::SecondDirty => Marks::Two(true, false),
+            Marking::FirstDirty => Marks::Two(false, true),
+            Marking::BothDirty => Marks::Two(false, false),
+        }
+    }
+}
 
 pub enum Copied {
     // The kind has no such number.
@@ -16,7 +79,7 @@ pub enum Copied {
         refusal: Refusal,
         next: usize,
         plain: bool,
-        marks: Marks,
+        marks: Marking,
     },
     // The place after what was read, whether that was in published form, the place after what was written, and the marks of the pieces. They
     // come last: who does not ask for them then pays nothing for them.
@@ -24,7 +87,7 @@ pub enum Copied {
         next: usize,
         plain: bool,
         end: usize,
-        marks: Marks,
+        marks: Marking,
     },
 }
 
@@ -32,6 +95,7 @@ pub enum Copied {
 pub(crate) fn copied_to(next: usize, plain: bool, marks: Marks, w: Wrote) -> Copied
     ensures { λ r. ⌜ Is (saidOf next plain (viewMarks marks)) (viewWrote w) (viewCopied r) ⌝ }
 {
+    let marks = Marking::of(marks);
     match w {
         Wrote::Refused(r) => Copied::Unwritten {
             refusal: r,

@@ -18,4 +18,5 @@ pub mod values_read;
 pub mod values_write;
 
 pub use copy::Copied;
+pub use copy::Marking;
 pub use kinds::copy_kind;

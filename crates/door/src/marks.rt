@@ -3,12 +3,12 @@ ghost use mathlib.Core.Bool.{cond};
 ghost use mathlib.Core.List.{_∷_};
 ghost use Prim.Native.Nat.{_≤_};
 ghost use lib.ListN.{length};
-ghost use Rattle.xdr.specs.Meaning.Views.{viewMarks};
-ghost use Rattle.door.specs.Meaning.Copy.{viewCopied};
+ghost use Rattle.door.specs.Meaning.Copy.{viewMarking, viewCopied};
 ghost use Rattle.door.specs.Meaning.Figures.{Shown, Says};
 ghost use Rattle.door.specs.Meaning.Exports.{sizeCode, judgedCode};
 ghost use Rattle.door.specs.Meaning.Marks.{markFigures, unmadeFigures, marksFigures, MarksCalled};
 use crate::copy::Copied;
+use crate::copy::Marking;
 use crate::exports::SHORT_LIST;
 use crate::exports::UNKNOWN_KIND;
 use crate::figures::bit;
@@ -19,12 +19,12 @@ use xdr::Refusal;
 
 // The place after what was read, 1 if that was in published form and else 0, how many pieces it has, and of the first and the second 1 if its
 // padding was all zero, and else 0.
-fn put_marks(next: usize, plain: bool, marks: Marks, info: &mut [u64])
+fn put_marks(next: usize, plain: bool, marking: Marking, info: &mut [u64])
     requires { ⌜ 5 ≤ length (now info) ⌝ }
-    ensures { λ _. ⌜ Shown (next ∷ cond plain 1 0 ∷ markFigures (viewMarks marks)) (now (info .entry)) (now (info .exit)) ⌝ }
+    ensures { λ _. ⌜ Shown (next ∷ cond plain 1 0 ∷ markFigures (viewMarking marking)) (now (info .entry)) (now (info .exit)) ⌝ }
 {
     let p = bit(plain);
-    match marks {
+    match marking.marks() {
         Marks::None => put_figures(&[next as u64, p, 0], 2, info),
         Marks::One(a) => put_figures(&[next as u64, p, 1, bit(a)], 1, info),
         Marks::Two(a, b) => put_figures(&[next as u64, p, 2, bit(a), bit(b)], 0, info),
@@ -32,9 +32,9 @@ fn put_marks(next: usize, plain: bool, marks: Marks, info: &mut [u64])
 }
 
 // The rewriting was refused: for lack of room alone (5), and then the reading was taken; or otherwise, and then so are the marks.
-fn tell_unmade(r: Refusal, next: usize, plain: bool, marks: Marks, info: &mut [u64]) -> u32
+fn tell_unmade(r: Refusal, next: usize, plain: bool, marks: Marking, info: &mut [u64]) -> u32
     requires { ⌜ 5 ≤ length (now info) ⌝ }
-    ensures { λ q. ⌜ Says sizeCode (unmadeFigures next plain (viewMarks marks)) r (now (info .entry)) q (now (info .exit)) ⌝ }
+    ensures { λ q. ⌜ Says sizeCode (unmadeFigures next plain (viewMarking marks)) r (now (info .entry)) q (now (info .exit)) ⌝ }
 {
     let number = r.number();
     if number != 5 {

@@ -185,11 +185,11 @@ fn or_long(long: Long, here: usize, n: usize, next: usize) -> Long
     requires { ⌜ here + 4 ≤ next ⌝ }
     ensures { λ r. ⌜ r ≡ orLong long here n ⌝ }
 {
+    if n <= MNTPATHLEN {
+        return long;
+    }
     if let Long::At(place) = long {
         return Long::At(place);
-    }
-    if n <= MNTPATHLEN {
-        return Long::Nowhere;
     }
     Long::At(here + 4)
 }

@@ -14,26 +14,34 @@ use Rattle.xdr.specs.Meaning.Views.{viewMarks}
 use Rattle.xdr.specs.declared.piece.Marks.{Marks}
 use Rattle.xdr.specs.declared.piece.Marks.the-variants as marks
 use Rattle.xdr.specs.declared.refusal.Refusal.{Refusal}
+use Rattle.door.specs.declared.copy.Marking.{Marking}
 use Rattle.door.specs.declared.copy.Copied.{Copied}
-use Rattle.door.specs.Meaning.Copy.{Copy, unmade, made, viewCopied}
+use Rattle.door.specs.Meaning.Copy.{Copy, unmade, made, viewMarking, viewCopied}
 use Rattle.door.specs.Meaning.Kinds.{kinds, CopiesOf}
 use Rattle.door.specs.Meaning.Figures.{Shown, Says}
 use Rattle.door.specs.Meaning.Exports.{sizeCode, judgedCode}
 use Rattle.door.specs.Meaning.Marks.{markFigures, unmadeFigures, marksFigures, MarksCalled}
 
+-- marks by what they were tested to be
+pub one-mark : (a t : Bool) → a ≡ t → t ∷ [] ≡ a ∷ []
+one-mark a t e = ap (λ (z : Bool). z ∷ []) (sym e)
+
+pub two-mark : (a b t u : Bool) → a ≡ t → b ≡ u → t ∷ u ∷ [] ≡ a ∷ b ∷ []
+two-mark a b t u e f = ap₂ (λ (y z : Bool). y ∷ z ∷ []) (sym e) (sym f)
+
 -- the figures of a reading, by the case that its marks are; u is the figure of `plain`
-module _ (x : Marks) (n : ℕ) (p : Bool) (u : ℕ) (i i′ : List ℕ) (e : u ≡ cond p 1 0) where
-  pub marks-none : x ≡ marks.None → Shown (n ∷ u ∷ 0 ∷ 0 ∷ 0 ∷ []) i i′ → Shown (n ∷ cond p 1 0 ∷ markFigures (viewMarks x)) i i′
-  marks-none f s = rw f (record { list = s .list ∙ ap (λ (z : ℕ). sets i 0 (n ∷ z ∷ 0 ∷ 0 ∷ 0 ∷ [])) e })
+module _ (m : Marking) (x : Marks) (t : viewMarks x ≡ viewMarking m) (n : ℕ) (p : Bool) (u : ℕ) (i i′ : List ℕ) (e : u ≡ cond p 1 0) where
+  pub marks-none : x ≡ marks.None → Shown (n ∷ u ∷ 0 ∷ 0 ∷ 0 ∷ []) i i′ → Shown (n ∷ cond p 1 0 ∷ markFigures (viewMarking m)) i i′
+  marks-none f s = rw (← t, f) (record { list = s .list ∙ ap (λ (z : ℕ). sets i 0 (n ∷ z ∷ 0 ∷ 0 ∷ 0 ∷ [])) e })
 
   pub marks-one : (a : Bool) (v : ℕ) → x ≡ marks.One a → v ≡ cond a 1 0 → Shown (n ∷ u ∷ 1 ∷ v ∷ 0 ∷ []) i i′
-      → Shown (n ∷ cond p 1 0 ∷ markFigures (viewMarks x)) i i′
-  marks-one a v f g s = rw f (record { list = s .list ∙ ap₂ (λ (z y : ℕ). sets i 0 (n ∷ z ∷ 1 ∷ y ∷ 0 ∷ [])) e g })
+      → Shown (n ∷ cond p 1 0 ∷ markFigures (viewMarking m)) i i′
+  marks-one a v f g s = rw (← t, f) (record { list = s .list ∙ ap₂ (λ (z y : ℕ). sets i 0 (n ∷ z ∷ 1 ∷ y ∷ 0 ∷ [])) e g })
 
   pub marks-two : (a b : Bool) (v w : ℕ) → x ≡ marks.Two a b → v ≡ cond a 1 0 → w ≡ cond b 1 0 → Shown (n ∷ u ∷ 2 ∷ v ∷ w ∷ []) i i′
-      → Shown (n ∷ cond p 1 0 ∷ markFigures (viewMarks x)) i i′
+      → Shown (n ∷ cond p 1 0 ∷ markFigures (viewMarking m)) i i′
   marks-two a b v w f g h s =
-      rw f
+      rw (← t, f)
       (record {
         list = s .list ∙ ap₂ (λ (z y : ℕ). sets i 0 (n ∷ z ∷ 2 ∷ y ∷ w ∷ [])) e g ∙ ap (λ (z : ℕ). sets i 0 (n ∷ cond p 1 0 ∷ 2 ∷ cond a 1 0 ∷ z ∷ [])) h;
       })

@@ -17,10 +17,9 @@ use Rattle.xdr.specs.Meaning.Pieces.{isInside, areInside}
 use Rattle.xdr.specs.Meaning.Sources.{longer}
 use Rattle.xdr.specs.Laws.One.{Told}
 use Rattle.xdr.specs.Laws.Sources.{from-one}
-use Rattle.xdr.specs.Meaning.Views.{viewMarks}
 use Rattle.xdr.specs.declared.piece.Piece.{Piece}
-use Rattle.xdr.specs.declared.piece.Marks.{Marks}
-use Rattle.xdr.specs.declared.piece.Marks.the-variants as marks
+use Rattle.door.specs.declared.copy.Marking.{Marking}
+use Rattle.door.specs.declared.copy.Marking.the-variants as marking
 use Rattle.rpc.specs.Meaning.Auth.{opaque-auth, auth-unix}
 use Rattle.rpc.specs.Meaning.Reading.{Reading}
 use Rattle.rpc.specs.Meaning.Crate.{rpc-msg}
@@ -30,7 +29,7 @@ use Rattle.nfs.specs.Meaning.Sources.{diropargsFrom, WritesDiropargsFrom}
 use Rattle.rpcwire.specs.Laws.Promise.{promised}
 use Rattle.rpcwire.specs.Laws.Fragment.{one-fragment}
 use Rattle.rpcwire.specs.Laws.Choice.{choice-promised}
-use Rattle.door.specs.Meaning.Copy.{Copy, viewCopied}
+use Rattle.door.specs.Meaning.Copy.{viewMarking, Copy, viewCopied}
 use Rattle.door.specs.Meaning.Kinds.{kinds, CopiesOf}
 use Rattle.door.specs.Meaning.Exports.{codeOf, figures, RewriteCalled, judgedCode, judgedFigures, JudgeCalled, wroteCode, wroteFigure, FragmentCalled, chosenCode, chosenFigures, ChooseCalled, stateList, fedCode, fedState, fedFigures, FeedCalled}
 use Rattle.door.specs.Meaning.Marks.{marksFigures, MarksCalled}
@@ -106,16 +105,27 @@ module _ (s t l o : List ℕ) (start : ℕ) (i : List ℕ) {r r′ : ℕ} {o′ 
       o i 4 diropargs3Given l c d
 
 -- `copy_kind`: its answer, and the buffer
-marks-told : (m m′ : Marks) → viewMarks m ≡ viewMarks m′ → m ≡ m′
-marks-told marks.None marks.None e = refl
-marks-told marks.None (marks.One a) e = cc
-marks-told marks.None (marks.Two a b) e = cc
-marks-told (marks.One a) marks.None e = cc
-marks-told (marks.One a) (marks.One a′) e = cc
-marks-told (marks.One a) (marks.Two a′ b′) e = cc
-marks-told (marks.Two a b) marks.None e = cc
-marks-told (marks.Two a b) (marks.One a′) e = cc
-marks-told (marks.Two a b) (marks.Two a′ b′) e = cc
+-- what a view says is what it is of
+abbrev markingOf : List Bool → Marking
+markingOf [] = marking.None
+markingOf (true ∷ []) = marking.Clean
+markingOf (false ∷ []) = marking.Dirty
+markingOf (true ∷ true ∷ l) = marking.BothClean
+markingOf (true ∷ false ∷ l) = marking.SecondDirty
+markingOf (false ∷ true ∷ l) = marking.FirstDirty
+markingOf (false ∷ false ∷ l) = marking.BothDirty
+
+marking-is : (m : Marking) → markingOf (viewMarking m) ≡ m
+marking-is marking.None = refl
+marking-is marking.Clean = refl
+marking-is marking.Dirty = refl
+marking-is marking.BothClean = refl
+marking-is marking.SecondDirty = refl
+marking-is marking.FirstDirty = refl
+marking-is marking.BothDirty = refl
+
+marks-told : (m m′ : Marking) → viewMarking m ≡ viewMarking m′ → m ≡ m′
+marks-told m m′ e = sym (marking-is m) ∙ ap markingOf e ∙ marking-is m′
 
 pub copied-told : Told viewCopied
 copied-told Unknown Unknown e = refl

@@ -1,15 +1,16 @@
 -- What copying a message is: the public reading of a format, and the public writing of what it took.
 -- Assumes nothing.
 use mathlib.Core.Path.{_≡_}
-use mathlib.Core.Bool.{Bool}
-use mathlib.Core.List.{List}
+use mathlib.Core.Bool.{Bool, true, false}
+use mathlib.Core.List.{List, [], _∷_}
 use Prim.Native.Nat.{ℕ}
 use lib.ListN.{length}
 use Rattle.xdr.specs.Meaning.Answer.{Answer, took, refused, opened, Written, done, unwritten}
 use Rattle.xdr.specs.Meaning.Format.{Format}
 use Rattle.xdr.specs.Meaning.Public.{writing, leaving}
-use Rattle.xdr.specs.Meaning.Views.{viewMarks}
 use Rattle.xdr.specs.declared.refusal.Refusal.{Refusal}
+use Rattle.door.specs.declared.copy.Marking.{Marking}
+use Rattle.door.specs.declared.copy.Marking.the-variants as marking
 use Rattle.door.specs.declared.copy.Copied.{Copied}
 use Rattle.door.specs.declared.copy.Copied.the-variants.{Unknown, Unread, Unwritten, Done}
 
@@ -25,11 +26,20 @@ pub data Copy : Type 0 where
   unmade : Refusal → ℕ → Bool → List Bool → Copy
   made : ℕ → Bool → List Bool → ℕ → Copy
 
+abbrev pub viewMarking : Marking → List Bool
+viewMarking marking.None = []
+viewMarking marking.Clean = true ∷ []
+viewMarking marking.Dirty = false ∷ []
+viewMarking marking.BothClean = true ∷ true ∷ []
+viewMarking marking.SecondDirty = true ∷ false ∷ []
+viewMarking marking.FirstDirty = false ∷ true ∷ []
+viewMarking marking.BothDirty = false ∷ false ∷ []
+
 abbrev pub viewCopied : Copied → Copy
 viewCopied Unknown = unknown
 viewCopied (Unread r) = unread r
-viewCopied (Unwritten r n b m) = unmade r n b (viewMarks m)
-viewCopied (Done n b e m) = made n b (viewMarks m) e
+viewCopied (Unwritten r n b m) = unmade r n b (viewMarking m)
+viewCopied (Done n b e m) = made n b (viewMarking m) e
 
 -- what is said of a reading that was taken, by what its writer says
 abbrev pub saidOf : ℕ → Bool → List Bool → Written → Copy

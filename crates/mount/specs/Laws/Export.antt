@@ -104,8 +104,12 @@ module _ (w : Long) (q n : ℕ) where
   pub or-kept : (k : ℕ) → w ≡ long.At k → long.At k ≡ orLong w q n
   or-kept k e = sym (rw e)
 
-  pub or-short : w ≡ long.Nowhere → n ≤ mostPath → long.Nowhere ≡ orLong w q n
-  or-short e h = sym (rw (e, le-leb n mostPath h))
+  pub or-short : n ≤ mostPath → w ≡ orLong w q n
+  or-short h = by w
+    where
+      by : (w : Long) → w ≡ orLong w q n
+      by (long.At k) = refl
+      by long.Nowhere = sym (rw (le-leb n mostPath h))
 
   pub or-over : w ≡ long.Nowhere → mostPath < n → long.At (q + 4) ≡ orLong w q n
   or-over e h = sym (rw (e, lt-leb n mostPath h))

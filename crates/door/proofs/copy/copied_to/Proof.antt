@@ -4,4 +4,4 @@ use Rattle.door.proofs.copy.copied_to.Statement.{statement}
 use Rattle.door.proofs.copy.copied_to.Tie as tie
 
 pub copied-to-spec : {M : Type 1} → statement M
-copied-to-spec = tie.close (tie.spec (search needs) (search needs) (λ c. search said-at) (λ c. search said-at))
+copied-to-spec = tie.close (tie.spec (search needs) (search needs) (search needs) (λ c. search said-at) (λ c. search said-at))

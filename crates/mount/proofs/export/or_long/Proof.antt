@@ -7,4 +7,4 @@ pub or-long-spec : {M : Type 1} → statement M
 or-long-spec =
     tie.close
     (tie.spec
-    (search needs) (λ c. search (needs, or-kept)) (search needs) (λ c. search (needs, or-short)) (search needs) (λ c. search (needs, or-over)))
+    (λ c. search (needs, or-short)) (search needs) (λ c. search (needs, or-kept)) (search needs) (search needs) (λ c. search (needs, or-over)))
