@@ -1154,6 +1154,8 @@ static void untouched(enum yugerzat_kind kind, const char *fields, size_t paddin
     uint8_t *pages = (uint8_t *)mmap(NULL, whole, PROT_READ | PROT_WRITE, MAP_PRIVATE | MAP_ANONYMOUS, -1, 0);
     struct yugerzat_piece *data;
     struct yugerzat_reading reading;
+    struct yugerzat_marking marking;
+    int index = kind == YUGERZAT_KIND_WRITE3ARGS ? 1 : 0;
     union value v;
     CHECK(pages != MAP_FAILED && length % page == 0);
     if (pages == MAP_FAILED)
@@ -1163,7 +1165,9 @@ static void untouched(enum yugerzat_kind kind, const char *fields, size_t paddin
     CHECK(mprotect(pages + page, padding ? length - page : length, PROT_NONE) == 0);
     CHECK(get(kind, pages + first, b.count + length, 0, &v, &reading) == YUGERZAT_DONE);
     CHECK(reading.plain && reading.next == b.count + length);
-    data = piece_of(kind, &v, kind == YUGERZAT_KIND_WRITE3ARGS ? 1 : 0);
+    CHECK(yugerzat_mark_kind(kind, pages + first, b.count + length, 0, &marking) == YUGERZAT_DONE);
+    CHECK(marking.plain && marking.pieces == (size_t)index + 1 && marking.clean[index]);
+    data = piece_of(kind, &v, index);
     CHECK(data->bytes == pages + page && data->count == length - padding);
     CHECK(get(kind, pages + first, b.count + length - 1, 0, &v, &reading) == YUGERZAT_ENDS);
     CHECK(refusal_is(&reading.refusal, YUGERZAT_ENDS, b.count - 4, 1, 0));

@@ -4,6 +4,7 @@ ghost use mathlib.Core.Path.{_≡_};
 ghost use Prim.Native.Nat.{_+_, _-_, _<_, _≤_};
 ghost use lib.ListN.{length};
 ghost use mathlib.Core.List.{_++_};
+ghost use Rattle.xdr.specs.Meaning.Bytes.{numberAt};
 ghost use Rattle.xdr.specs.Meaning.Items.{word, hyper, word-pair, hyper-pair, flag, int, long, opaque, words};
 ghost use Rattle.xdr.specs.Meaning.Pieces.{pieceAnswer, opaqueSize, sizeUpTo, wordsUpTo};
 ghost use Rattle.xdr.specs.Meaning.Formats.{eightHeld, pieceHeld, wordsHeld, bytes, wordList};
@@ -189,6 +190,17 @@ fn low_zeros(w: u32, k: usize) -> bool
     }
 }
 
+// Whether the last k bytes of the word at a place are zero. If none is asked about, the word is not read: it may be content.
+fn pad_zeros(src: &[u8], at: usize, k: usize) -> bool
+    requires { ⌜ at + 4 ≤ length (now src) ⌝ }
+    ensures { λ r. ⌜ r ≡ lastZeros (numberAt 4 (now (src .entry)) at) k ⌝ }
+{
+    if k == 0 {
+        return true;
+    }
+    low_zeros(word_here(src, at), k)
+}
+
 // The n bytes of content and their pad, of an opaque that begins at a place that has its length word. The pad is the end of a word.
 fn body_at(src: &[u8], at: usize, n: u32) -> PieceRead
     requires { ⌜ at + 4 ≤ length (now src) ⌝ }
@@ -199,8 +211,7 @@ fn body_at(src: &[u8], at: usize, n: u32) -> PieceRead
     if src.len() - at - 4 < m {
         return PieceRead::Refused(cut_short(src.len(), at, 4 + m));
     }
-    let w = word_here(src, at + m);
-    let clean = low_zeros(w, m - n);
+    let clean = pad_zeros(src, at + m, m - n);
     PieceRead::Took {
         value: Piece {
             at: at + 4,

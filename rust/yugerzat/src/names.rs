@@ -372,7 +372,7 @@ mod tests {
             assert!(here.map(|(_, rust)| rust).eq(there.map(type_of)), "{name}");
             seen += 1;
         }
-        assert_eq!(seen, 26);
+        assert_eq!(seen, 27);
         println!("{seen} functions have the parameters of the headers");
     }
 }

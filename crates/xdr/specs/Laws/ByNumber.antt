@@ -71,6 +71,6 @@ module _ (s : List ℕ) (p n : ℕ) (h : p + 4 ≤ length s) where
       let e : 4 + (n + 3) / 4 * 4 ≡ 4 + n + padding n = omega (arith, padded n) in
       ap refused f ∙ ap (λ (k : ℕ). refused (cutShort k s p)) e ∙ body-short s p n (omega (arith, padded n))
 
-  pub body-on : (w : ℕ) (b : Bool) → ((i : ℕ) → Fits w8 (getD s i 0)) → (n + 3) / 4 * 4 ≤ length s - p - 4 → w ≡ numberAt 4 s (p + (n + 3) / 4 * 4)
-      → b ≡ lastZeros w ((n + 3) / 4 * 4 - n) → took (record { at = p + 4; count = n; clean = b }) (p + 4 + (n + 3) / 4 * 4) b ≡ pieceAnswer s p n
-  body-on w b given r e f = body-took s (λ i. omega (arith, given i)) p n _ refl (omega arith) e f
+  pub body-on : (b : Bool) → ((i : ℕ) → Fits w8 (getD s i 0)) → (n + 3) / 4 * 4 ≤ length s - p - 4
+      → b ≡ lastZeros (numberAt 4 s (p + (n + 3) / 4 * 4)) ((n + 3) / 4 * 4 - n) → took (record { at = p + 4; count = n; clean = b }) (p + 4 + (n + 3) / 4 * 4) b ≡ pieceAnswer s p n
+  body-on b given r f = body-took s (λ i. omega (arith, given i)) p n _ refl (omega arith) refl f

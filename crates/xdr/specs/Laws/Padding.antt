@@ -33,6 +33,13 @@ last-rest w (suc zero) a b c = absurd (b refl)
 last-rest w (suc (suc zero)) a b c = absurd (c refl)
 last-rest w (suc (suc (suc k))) a b c = refl
 
+pub last-none : (w k : ℕ) → k ≡ 0 → true ≡ lastZeros w k
+last-none w k e = sym (ap (lastZeros w) e)
+
+-- of a word that was read, and of the word that it is
+pub last-read : (w v k : ℕ) (b : Bool) → w ≡ v → b ≡ lastZeros w k → b ≡ lastZeros v k
+last-read w v k b e f = f ∙ ap (λ (x : ℕ). lastZeros x k) e
+
 -- n bytes with their padding are n rounded up to a multiple of four
 pub padded : (n : ℕ) → (n + 3) / 4 * 4 ≡ n + padding n
 padded n = omega arith
