@@ -9,6 +9,7 @@ fn main() {
         println!("cargo:rerun-if-changed={archive}");
         println!("cargo:rustc-link-arg-bins={archive}");
     }
-    println!("cargo:rustc-link-arg-bins=-ltirpc");
-    println!("cargo:rustc-link-arg-bins=-lnfs");
+    // The static ones: no call then goes through a table.
+    println!("cargo:rustc-link-arg-bins=-l:libtirpc.a");
+    println!("cargo:rustc-link-arg-bins=-l:libnfs.a");
 }

@@ -8,31 +8,36 @@
 #include "nfs3.h"
 #include "values.h"
 
-static char handle[64], file[64], filename[256], machine[256], cred[MAX_AUTH_BYTES], verf[MAX_AUTH_BYTES];
-static gid_t gids[NGRPS];
-static char *bytes_at;
-static u_int bytes_count;
+/* So many values are held, to be written in turn. Readers fill one more. */
+enum { HELD = 512, SPARE = HELD };
 
-static struct rpc_msg call;
-static struct authunix_parms unix_parms;
-static fattr3 attributes;
-static sattr3 change;
-static diropargs3 where;
-static READ3res read_result;
-static WRITE3args write_arguments;
+static struct rpc_msg calls[HELD + 1];
+static fattr3 attributes[HELD + 1];
+static sattr3 changes[HELD + 1];
+static diropargs3 places[HELD + 1];
+static struct authunix_parms unix_parms[1];
+static READ3res read_results[1];
+static WRITE3args write_arguments[1];
+static char *bytes_at[1];
+static u_int bytes_count;
 
 void tirpc_begin(char *room)
 {
-    call.rm_call.cb_cred.oa_base = cred;
-    call.rm_call.cb_verf.oa_base = verf;
-    unix_parms.aup_machname = machine;
-    unix_parms.aup_gids = gids;
-    where.dir.data.data_val = handle;
-    where.name = filename;
-    bytes_at = room;
-    read_result.READ3res_u.resok.data.data_val = room;
-    write_arguments.file.data.data_val = file;
-    write_arguments.data.data_val = room;
+    static char handles[HELD + 1][64], names[HELD + 1][256], creds[HELD + 1][MAX_AUTH_BYTES],
+        verfs[HELD + 1][MAX_AUTH_BYTES], file[64], machine[256];
+    static gid_t gids[NGRPS];
+    for (int n = 0; n <= HELD; n++) {
+        calls[n].rm_call.cb_cred.oa_base = creds[n];
+        calls[n].rm_call.cb_verf.oa_base = verfs[n];
+        places[n].dir.data.data_val = handles[n];
+        places[n].name = names[n];
+    }
+    unix_parms->aup_machname = machine;
+    unix_parms->aup_gids = gids;
+    *bytes_at = room;
+    read_results->READ3res_u.resok.data.data_val = room;
+    write_arguments->file.data.data_val = file;
+    write_arguments->data.data_val = room;
 }
 
 static bool_t xdr_parms(XDR *x, struct authunix_parms *p)
@@ -45,40 +50,61 @@ static bool_t xdr_whole(XDR *x, char **at)
     return xdr_bytes(x, at, &bytes_count, 1u << 20);
 }
 
-#define BOTH(kind, routine, value)                                                            \
-    uint32_t tirpc_read_##kind(const uint8_t *src, size_t len)                                \
-    {                                                                                         \
-        XDR x;                                                                                \
-        xdrmem_create(&x, (char *)src, (u_int)len, XDR_DECODE);                               \
-        return routine(&x, value) ? xdr_getpos(&x) : 0;                                       \
-    }                                                                                         \
-    uint32_t tirpc_write_##kind(uint8_t *out, size_t room)                                    \
-    {                                                                                         \
-        XDR x;                                                                                \
-        xdrmem_create(&x, (char *)out, (u_int)room, XDR_ENCODE);                              \
-        return routine(&x, value) ? xdr_getpos(&x) : 0;                                       \
-    }                                                                                         \
-    uint32_t tirpc_copy_##kind(const uint8_t *src, size_t len, uint8_t *out, size_t room)     \
-    {                                                                                         \
-        return tirpc_read_##kind(src, len) ? tirpc_write_##kind(out, room) : 0;               \
+/* Reads into the value that is not held, or writes that one again. */
+#define READS_AND_COPIES(kind, routine, values, spare)                                      \
+    static inline uint32_t tirpc_take_##kind(size_t which, const uint8_t *src, size_t len)  \
+    {                                                                                       \
+        XDR x;                                                                              \
+        xdrmem_create(&x, (char *)src, (u_int)len, XDR_DECODE);                             \
+        return routine(&x, values + which) ? xdr_getpos(&x) : 0;                            \
+    }                                                                                       \
+    static inline uint32_t tirpc_lay_##kind(size_t which, uint8_t *out, size_t room)        \
+    {                                                                                       \
+        XDR x;                                                                              \
+        xdrmem_create(&x, (char *)out, (u_int)room, XDR_ENCODE);                            \
+        return routine(&x, values + which) ? xdr_getpos(&x) : 0;                            \
+    }                                                                                       \
+    uint32_t tirpc_read_##kind(const uint8_t *src, size_t len)                              \
+    {                                                                                       \
+        return tirpc_take_##kind(spare, src, len);                                          \
+    }                                                                                       \
+    uint32_t tirpc_copy_##kind(const uint8_t *src, size_t len, uint8_t *out, size_t room)   \
+    {                                                                                       \
+        return tirpc_take_##kind(spare, src, len) ? tirpc_lay_##kind(spare, out, room) : 0; \
     }
 
-BOTH(rpc_msg, xdr_callmsg, &call)
-BOTH(auth_unix, xdr_parms, &unix_parms)
-BOTH(fattr3, xdr_fattr3, &attributes)
-BOTH(sattr3, xdr_sattr3, &change)
-BOTH(diropargs3, xdr_diropargs3, &where)
-BOTH(opaque, xdr_whole, &bytes_at)
-BOTH(read3res, xdr_READ3res, &read_result)
-BOTH(write3args, xdr_WRITE3args, &write_arguments)
+/* Holds a value, and writes one that is held. */
+#define HOLDS_AND_WRITES(kind)                                               \
+    uint32_t tirpc_hold_##kind(size_t which, const uint8_t *src, size_t len) \
+    {                                                                        \
+        return tirpc_take_##kind(which, src, len);                           \
+    }                                                                        \
+    uint32_t tirpc_write_##kind(size_t which, uint8_t *out, size_t room)     \
+    {                                                                        \
+        return tirpc_lay_##kind(which, out, room);                           \
+    }
+
+READS_AND_COPIES(rpc_msg, xdr_callmsg, calls, SPARE)
+READS_AND_COPIES(fattr3, xdr_fattr3, attributes, SPARE)
+READS_AND_COPIES(sattr3, xdr_sattr3, changes, SPARE)
+READS_AND_COPIES(diropargs3, xdr_diropargs3, places, SPARE)
+READS_AND_COPIES(auth_unix, xdr_parms, unix_parms, 0)
+READS_AND_COPIES(opaque, xdr_whole, bytes_at, 0)
+READS_AND_COPIES(read3res, xdr_READ3res, read_results, 0)
+READS_AND_COPIES(write3args, xdr_WRITE3args, write_arguments, 0)
+HOLDS_AND_WRITES(rpc_msg)
+HOLDS_AND_WRITES(fattr3)
+HOLDS_AND_WRITES(sattr3)
+HOLDS_AND_WRITES(diropargs3)
 
 /* The header, then the credential that lies in it. */
 uint32_t tirpc_read_call_and_auth_unix(const uint8_t *src, size_t len)
 {
     uint32_t used = tirpc_read_rpc_msg(src, len);
-    if (!used || call.rm_call.cb_cred.oa_flavor != AUTH_UNIX)
+    const struct opaque_auth *cred = &calls[SPARE].rm_call.cb_cred;
+    if (!used || cred->oa_flavor != AUTH_UNIX)
         return 0;
-    return tirpc_read_auth_unix((const uint8_t *)call.rm_call.cb_cred.oa_base, call.rm_call.cb_cred.oa_length) ? used : 0;
+    return tirpc_read_auth_unix((const uint8_t *)cred->oa_base, cred->oa_length) ? used : 0;
 }
 
 /* An export list is allocated entry by entry, and freed when it was used. The routines call themselves for each entry. */

@@ -1,23 +1,28 @@
 //! Times the proved library against a hand-written C floor, the crate nfsserve, libtirpc and libnfs. bench/run builds and
 //! starts it.
+mod contestants;
 mod duty;
+mod lists;
 mod measure;
 mod messages;
 mod outside;
 mod peers;
 mod rows;
 mod table;
+mod varied;
 
 use std::env;
 use std::ffi::CString;
 use std::process::ExitCode;
 
+use contestants::begin;
+use lists::{copy_rows, list_rows};
 use measure::Row;
 use outside::{count_begin, count_end, tirpc_stack};
-use rows::{begin, copy_rows, list_rows, message_rows, rows};
+use rows::{message_rows, rows};
 
-const PASSES: u32 = 6;
-const SAMPLES: u32 = 60;
+const PASSES: u32 = 10;
+const SAMPLES: u32 = 100;
 /// One of a list takes as long as many of the others.
 const LIST_SAMPLES: u32 = 15;
 
@@ -62,27 +67,28 @@ fn time() -> Result<(), String> {
     Ok(())
 }
 
-/// Under callgrind: each contestant once warm, then so many times between two marks. Lists come last: what peers free of them
-/// leaves malloc much to put in order, which would be counted with the other rows.
+/// Under callgrind: each contestant once warm, then so many times over its messages between two marks. Lists come last: what
+/// peers free of them leaves malloc much to put in order, which would be counted with the other rows.
 fn count() {
     let m = begin();
-    for (rows, times) in [(message_rows as fn(_) -> _, 100), (copy_rows, 4), (list_rows, 1)] {
+    for (rows, rounds) in [(message_rows as fn(_) -> _, 1), (copy_rows, 4), (list_rows, 1)] {
         for row in rows(m).into_iter().filter(|row| !row.shorter) {
-            count_row(row, times);
+            count_row(row, rounds);
         }
     }
 }
 
-fn count_row(mut row: Row, times: u32) {
+fn count_row(mut row: Row, rounds: u32) {
     (row.ready)();
+    let messages = rounds as usize * row.count;
     for contestant in &mut row.contestants {
         let mark = |name: &str| CString::new(name).expect("a name has no zero");
-        let (name, idle) = (format!("{}|{}|{times}", row.name, contestant.who as u32), mark("-"));
+        let (name, idle) = (format!("{}|{}|{messages}", row.name, contestant.who as u32), mark("-"));
         let name = mark(&name);
         (contestant.run)(1);
         // SAFETY: the marks take a string and touch nothing else.
         unsafe { count_begin() };
-        (contestant.run)(times);
+        (contestant.run)(rounds);
         // SAFETY: as above.
         unsafe {
             count_end(name.as_ptr());

@@ -1,6 +1,6 @@
-//! The messages that are timed, all in published form.
+//! Messages in published form: those that the floor is held to, and those that lists are timed with.
 
-fn words(numbers: &[u32]) -> Vec<u8> {
+pub fn words(numbers: &[u32]) -> Vec<u8> {
     numbers.iter().flat_map(|n| n.to_be_bytes()).collect()
 }
 
@@ -15,17 +15,29 @@ pub const HANDLE: [u8; 28] = [0x5A; 28];
 pub const NAME: &[u8] = b"minutes-2026-11.txt";
 
 pub fn auth_unix() -> Vec<u8> {
+    auth_unix_with(b"workstation", &[4, 24, 27, 30, 1000])
+}
+
+/// The credential of a machine of this name, and with these groups.
+pub fn auth_unix_with(name: &[u8], gids: &[u32]) -> Vec<u8> {
     let mut all = words(&[0x5F37_59DF]);
-    all.extend(opaque(b"workstation"));
-    all.extend(words(&[1000, 1000, 5, 4, 24, 27, 30, 1000]));
+    all.extend(opaque(name));
+    all.extend(words(&[1000, 1000, gids.len() as u32]));
+    all.extend(words(gids));
     all
 }
 
 /// SETATTR of NFS version 3, by a caller with five groups; without its arguments.
 pub fn call() -> Vec<u8> {
+    call_with(&auth_unix(), &[])
+}
+
+/// The same with these bodies of a credential and a verifier.
+pub fn call_with(cred: &[u8], verf: &[u8]) -> Vec<u8> {
     let mut all = words(&[0x2A, 0, 2, 100_003, 3, 2, 1]);
-    all.extend(opaque(&auth_unix()));
-    all.extend(words(&[0, 0]));
+    all.extend(opaque(cred));
+    all.extend(words(&[0]));
+    all.extend(opaque(verf));
     all
 }
 
@@ -49,8 +61,15 @@ pub fn diropargs3() -> Vec<u8> {
 
 /// A READ that succeeded, at the file's end.
 pub fn read3res(data: &[u8]) -> Vec<u8> {
-    let mut all = words(&[0, 1]);
-    all.extend(fattr3());
+    read3res_with(true, data)
+}
+
+/// The same with attributes, or without.
+pub fn read3res_with(attributes: bool, data: &[u8]) -> Vec<u8> {
+    let mut all = words(&[0, u32::from(attributes)]);
+    if attributes {
+        all.extend(fattr3());
+    }
     all.extend(words(&[data.len() as u32, 1]));
     all.extend(opaque(data));
     all
@@ -63,7 +82,12 @@ pub fn read3res_failed(status: u32) -> Vec<u8> {
 
 /// A WRITE of these bytes at 4,096, which are to be on the disk when it is answered.
 pub fn write3args(data: &[u8]) -> Vec<u8> {
-    let mut all = opaque(&HANDLE);
+    write3args_to(&HANDLE, data)
+}
+
+/// The same to the file of this handle.
+pub fn write3args_to(handle: &[u8], data: &[u8]) -> Vec<u8> {
+    let mut all = opaque(handle);
     all.extend(words(&[0, 4096, data.len() as u32, 2]));
     all.extend(opaque(data));
     all

@@ -1,516 +1,364 @@
-//! What is timed. All contestants of a row read the same bytes; all that write into memory write into the same.
-use std::hint::black_box;
-
+//! Rows of messages. All contestants of a row read the same bytes; all that write into memory write into the same.
 use nfsserve::nfs::{diropargs3, fattr3, sattr3};
 use nfsserve::rpc::{auth_flavor, auth_unix, rpc_body, rpc_msg};
-use nfsserve::xdr::XDR;
+use std::hint::black_box;
 
-use crate::measure::{contestant, Contestant, Row, Who};
+use crate::contestants::*;
+use crate::lists::{copy_rows, list_rows};
+use crate::measure::{contestant, Row, Who};
 use crate::messages;
 use crate::outside::*;
-
-const ROOM: usize = 2 << 20;
-const BLOCK: usize = 65_536;
-const RECORD: usize = 1_048_576;
-
-/// The memory that the work is done in. It lives as long as the program.
-#[derive(Clone, Copy)]
-pub struct Memory {
-    out: *mut u8,
-    info: *mut u64,
-    state: *mut u64,
-}
-
-fn memory<T: Copy>(value: T, count: usize) -> *mut T {
-    Vec::leak(vec![value; count]).as_mut_ptr()
-}
-
-fn kept(bytes: Vec<u8>) -> &'static [u8] {
-    Vec::leak(bytes)
-}
-
-/// So many bytes that are not all alike.
-fn some(count: usize) -> Vec<u8> {
-    (0..count).map(|n| (n * 31 % 251) as u8).collect()
-}
-
-// ---- contestants
-
-#[inline(never)]
-fn deserialize<T: XDR>(src: &[u8], value: &mut T) -> usize {
-    let mut rest = src;
-    value.deserialize(&mut rest).expect("the message is whole");
-    src.len() - rest.len()
-}
-
-#[inline(never)]
-fn serialize<T: XDR>(value: &T, out: &mut Vec<u8>) {
-    out.clear();
-    value.serialize(out).expect("a vector can be written");
-}
-
-/// The crate reads into the same value again and again, so that it can keep what it allocated.
-fn nfsserve_reads<T: XDR + 'static>(src: &'static [u8], mut value: T) -> Contestant {
-    contestant(Who::Nfsserve, move || {
-        black_box(deserialize(black_box(src), &mut value));
-        black_box(&value);
-    })
-}
-
-fn nfsserve_writes<T: XDR + 'static>(src: &'static [u8], mut value: T) -> Contestant {
-    let mut out = Vec::with_capacity(ROOM);
-    deserialize(src, &mut value);
-    serialize(&value, &mut out);
-    assert_eq!(out, src);
-    contestant(Who::Nfsserve, move || {
-        serialize(black_box(&value), &mut out);
-        black_box(&out);
-    })
-}
-
-fn nfsserve_copies<T: XDR + 'static>(src: &'static [u8], mut value: T) -> Contestant {
-    let mut out = Vec::with_capacity(ROOM);
-    deserialize(src, &mut value);
-    serialize(&value, &mut out);
-    assert_eq!(out, src);
-    contestant(Who::Nfsserve, move || {
-        black_box(deserialize(black_box(src), &mut value));
-        serialize(black_box(&value), &mut out);
-        black_box(&out);
-    })
-}
-
-/// A C function, called with the same arguments again and again. It must answer as is due.
-macro_rules! calls {
-    ($who:expr, $due:expr, $function:ident ( $($argument:expr),* )) => {{
-        // SAFETY: every address comes with the length of what lies there.
-        let answer = unsafe { $function($($argument),*) };
-        assert_eq!(answer as usize, $due, stringify!($function));
-        // SAFETY: as above.
-        contestant($who, move || unsafe { black_box($function($($argument),*)); })
-    }};
-}
-
-/// A C function that judges: the message, which is plain, must be used up.
-macro_rules! judges {
-    ($who:expr, $m:ident, $src:ident, $function:ident ( $($argument:expr),* )) => {{
-        let contestant = calls!($who, 0, $function($($argument),*));
-        // SAFETY: the list is longer.
-        let figures = unsafe { std::slice::from_raw_parts($m.info, 3) };
-        assert_eq!(figures, [$src.len() as u64, 1, $src.len() as u64], stringify!($function));
-        contestant
-    }};
-}
-
-/// A C function that rewrites: the message, and nothing else, must then stand in the room.
-macro_rules! rewrites {
-    ($who:expr, $due:expr, $m:ident, $src:ident, $function:ident ( $($argument:expr),* )) => {{
-        // SAFETY: no message is as long as the room.
-        unsafe { std::ptr::write_bytes($m.out, 0xEE, $src.len() + 4) };
-        let contestant = calls!($who, $due, $function($($argument),*));
-        // SAFETY: as above.
-        let (written, behind) = unsafe { std::slice::from_raw_parts($m.out, $src.len() + 4) }.split_at($src.len());
-        assert!(written == $src && behind == [0xEE; 4], "{} does not write the message", stringify!($function));
-        contestant
-    }};
-}
-
-/// Rows of reading: ours and the floor's of one signature, the crate's value, the peers' functions.
-macro_rules! readings {
-    ($rows:ident $m:ident $($name:literal $src:ident $count:literal $ours:ident $floor:ident $value:ident $tirpc:ident $libnfs:ident;)*) => { $(
-        $rows.push(Row::new($name, vec![
-            calls!(Who::Ours, 0, $ours($src.as_ptr(), $src.len(), 0, $m.info, $count)),
-            calls!(Who::Floor, 0, $floor($src.as_ptr(), $src.len(), 0, $m.info, $count)),
-            nfsserve_reads($src, $value::default()),
-            calls!(Who::Libtirpc, $src.len(), $tirpc($src.as_ptr(), $src.len())),
-            calls!(Who::Libnfs, $src.len(), $libnfs($src.as_ptr(), $src.len())),
-        ]));
-    )* };
-}
-
-/// Rows of writing, from the figures that the floor's reader gives. The peers write what they read last.
-macro_rules! writings {
-    ($rows:ident $m:ident $($name:literal $src:ident $count:literal $read:ident $ours:ident $floor:ident $value:ident $tirpc_read:ident $tirpc:ident $libnfs_read:ident $libnfs:ident;)*) => { $(
-        let fields = figures(|info| unsafe { $read($src.as_ptr(), $src.len(), 0, info, FIGURES) }, 2);
-        let ready = move || {
-            // SAFETY: every address comes with the length of what lies there.
-            unsafe { assert!($tirpc_read($src.as_ptr(), $src.len()) > 0 && $libnfs_read($src.as_ptr(), $src.len()) > 0) }
-        };
-        ready();
-        $rows.push(Row::new($name, vec![
-            calls!(Who::Ours, 0, $ours(fields.as_ptr(), $count, $m.out, ROOM, 0, $m.info, 1)),
-            calls!(Who::Floor, 0, $floor(fields.as_ptr(), $count, $m.out, ROOM, 0, $m.info, 1)),
-            nfsserve_writes($src, $value::default()),
-            calls!(Who::Libtirpc, $src.len(), $tirpc($m.out, ROOM)),
-            calls!(Who::Libnfs, $src.len(), $libnfs($m.out, ROOM)),
-        ]).ready_by(ready));
-    )* };
-}
-
-/// Rows of rewriting a kind: read, and written in published form.
-macro_rules! rewritings {
-    ($rows:ident $m:ident $($name:literal $src:ident $kind:literal $floor:ident $value:ident $tirpc:ident $($libnfs:ident)?;)*) => { $(
-        $rows.push(Row::new($name, vec![
-            rewrites!(
-                Who::Ours, 0, $m, $src, yugerzat_rewrite($kind, $src.as_ptr(), $src.len(), 0, $m.out, ROOM, $m.info, 3)
-            ),
-            rewrites!(Who::Floor, 0, $m, $src, $floor($src.as_ptr(), $src.len(), 0, $m.out, ROOM, $m.info, 3)),
-            nfsserve_copies($src, $value::default()),
-            rewrites!(Who::Libtirpc, $src.len(), $m, $src, $tirpc($src.as_ptr(), $src.len(), $m.out, ROOM)),
-            $(rewrites!(Who::Libnfs, $src.len(), $m, $src, $libnfs($src.as_ptr(), $src.len(), $m.out, ROOM)),)?
-        ]));
-    )* };
-}
-
-/// Two rows for a kind that nfsserve has no type for: judged, beside which the peers read, because they cannot tell what is
-/// plain without writing it; and rewritten.
-macro_rules! judgings_and_rewritings {
-    ($rows:ident $m:ident $($judged:literal $rewritten:literal $src:ident $kind:literal $copy:ident $judge:ident
-        $tirpc_read:ident $tirpc:ident $libnfs_read:ident $libnfs:ident;)*) => { $(
-        $rows.push(Row::new($judged, vec![
-            judges!(Who::Ours, $m, $src, yugerzat_judge($kind, $src.as_ptr(), $src.len(), 0, $m.info, 3)),
-            judges!(Who::Floor, $m, $src, $judge($src.as_ptr(), $src.len(), 0, $m.info, 3)),
-            calls!(Who::Libtirpc, $src.len(), $tirpc_read($src.as_ptr(), $src.len())),
-            calls!(Who::Libnfs, $src.len(), $libnfs_read($src.as_ptr(), $src.len())),
-        ]));
-        $rows.push(Row::new($rewritten, vec![
-            rewrites!(
-                Who::Ours, 0, $m, $src, yugerzat_rewrite($kind, $src.as_ptr(), $src.len(), 0, $m.out, ROOM, $m.info, 3)
-            ),
-            rewrites!(Who::Floor, 0, $m, $src, $copy($src.as_ptr(), $src.len(), 0, $m.out, ROOM, $m.info, 3)),
-            rewrites!(Who::Libtirpc, $src.len(), $m, $src, $tirpc($src.as_ptr(), $src.len(), $m.out, ROOM)),
-            rewrites!(Who::Libnfs, $src.len(), $m, $src, $libnfs($src.as_ptr(), $src.len(), $m.out, ROOM)),
-        ]));
-    )* };
-}
-
-/// Functions that walk an export list: it is read, and then each entry, and each name of its groups. They must find what it
-/// holds.
-macro_rules! walks {
-    ($who:expr, $m:ident, $src:ident, $held:ident, $read:ident $next_export:ident $next_group:ident) => {{
-        let (src, len) = ($src.as_ptr(), $src.len());
-        let (list, entry, name) = ($m.info, $m.info.wrapping_add(4), $m.info.wrapping_add(11));
-        let walk = move || {
-            let mut found = Held { entries: 0, names: 0, text: 0 };
-            // SAFETY: every address comes with the length of what lies there, and the three lists of figures lie apart.
-            let refused = unsafe {
-                let mut refused = $read(src, len, 0, list, 4);
-                let mut at = *list.add(2) as usize;
-                for _ in 0..*list.add(3) {
-                    refused |= $next_export(src, len, at, entry, 7);
-                    at = *entry as usize;
-                    found.entries += 1;
-                    found.text += *entry.add(4) as usize;
-                    let mut place = *entry.add(5) as usize;
-                    for _ in 0..*entry.add(6) {
-                        refused |= $next_group(src, len, place, name, 5);
-                        place = *name as usize;
-                        found.names += 1;
-                        found.text += *name.add(4) as usize;
-                    }
-                }
-                refused
-            };
-            assert_eq!((refused, found), (0, $held), stringify!($next_export));
-        };
-        walk();
-        contestant($who, walk)
-    }};
-}
-
-const FIGURES: usize = 32;
-
-/// The figures of a reader, from one of them on.
-fn figures(read: impl FnOnce(*mut u64) -> u32, from: usize) -> &'static [u64] {
-    let list = Vec::leak(vec![0; FIGURES]);
-    assert_eq!(read(list.as_mut_ptr()), 0);
-    &list[from..]
-}
-
-// ---- rows
-
-pub fn begin() -> Memory {
-    // SAFETY: called before any other function of the two; the room is larger than any message.
-    unsafe {
-        tirpc_begin(memory(0, ROOM));
-        libnfs_begin();
-    }
-    Memory { out: memory(0xEE, ROOM), info: memory(0, FIGURES), state: memory(0, 7) }
-}
+use crate::varied::{self, alone, loose_set, set, Set};
 
 pub fn rows() -> Vec<Row> {
     let m = begin();
     [message_rows(m), list_rows(m), copy_rows(m)].into_iter().flatten().collect()
 }
 
-pub fn message_rows(m: Memory) -> Vec<Row> {
-    let call = kept(messages::call());
-    let auth = kept(messages::auth_unix());
-    let attributes = kept(messages::fattr3());
-    let full = kept(messages::sattr3_full());
-    let empty = kept(messages::sattr3_empty());
-    let place = kept(messages::diropargs3());
-    let block = kept(some(BLOCK));
-    let read = kept(messages::read3res(block));
-    let write = kept(messages::write3args(block));
+// ---- calls of C functions, as closures over a message. Every address comes with the length of what lies there.
 
+/// From the beginning of the message, into so many figures; by the number of a kind, if there is one.
+macro_rules! figures_of {
+    ($function:ident, $m:ident, $count:literal $(, $kind:literal)?) => {
+        // SAFETY: as above.
+        move |src: &'static [u8]| unsafe { $function($($kind,)? src.as_ptr(), src.len(), 0, $m.info, $count) }
+    };
+}
+
+/// From the beginning of the message into the room.
+macro_rules! rewriting {
+    ($function:ident, $m:ident $(, $kind:literal)?) => {
+        // SAFETY: as above.
+        move |src: &'static [u8]| unsafe { $function($($kind,)? src.as_ptr(), src.len(), 0, $m.out, ROOM, $m.info, 3) }
+    };
+}
+
+/// A peer's.
+macro_rules! peer_reads {
+    ($function:ident) => {
+        // SAFETY: as above.
+        |src: &'static [u8]| unsafe { $function(src.as_ptr(), src.len()) }
+    };
+}
+macro_rules! peer_rewrites {
+    ($function:ident, $m:ident) => {
+        // SAFETY: as above.
+        move |src: &'static [u8]| unsafe { $function(src.as_ptr(), src.len(), $m.out, ROOM) }
+    };
+}
+macro_rules! peer_writes {
+    ($function:ident, $m:ident) => {
+        // SAFETY: as above.
+        move |which: usize| unsafe { $function(which, $m.out, ROOM) }
+    };
+}
+
+/// Has the peers hold the messages, to write them.
+macro_rules! holding {
+    ($set:ident, $($hold:ident)*) => {
+        move || {
+            for (which, src) in $set.came.iter().enumerate() {
+                // SAFETY: as above.
+                $(assert_eq!(unsafe { $hold(which, src.as_ptr(), src.len()) } as usize, src.len(), stringify!($hold));)*
+            }
+        }
+    };
+}
+
+// ---- rows by the work
+
+/// Reading: ours and the floor's with so many figures, the crate's value, the peers' functions.
+macro_rules! readings {
+    ($rows:ident $m:ident $($name:literal $set:ident $count:literal $ours:ident $floor:ident $value:ident $tirpc:ident
+        $libnfs:ident;)*) => { $(
+        $rows.push(Row::new($name, $set.came.len(), vec![
+            reads(Who::Ours, $m, $set, figures_of!($ours, $m, $count)),
+            reads(Who::Floor, $m, $set, figures_of!($floor, $m, $count)),
+            nfsserve_reads::<$value>($set),
+            reads(Who::Libtirpc, $m, $set, peer_reads!($tirpc)),
+            reads(Who::Libnfs, $m, $set, peer_reads!($libnfs)),
+        ]));
+    )* };
+}
+
+/// Writing, from the figures that the floor's reader gives. The peers write what they hold.
+macro_rules! writings {
+    ($rows:ident $m:ident $($name:literal $set:ident $count:literal $read:ident $ours:ident $floor:ident $value:ident
+        $tirpc_hold:ident $tirpc:ident $libnfs_hold:ident $libnfs:ident;)*) => { $(
+        let fields = figures($m, $set, $count + 2, figures_of!($read, $m, 32), |all| all[2..].to_vec());
+        let ready = holding!($set, $tirpc_hold $libnfs_hold);
+        ready();
+        $rows.push(Row::new($name, $set.came.len(), vec![
+            // SAFETY: every address comes with the length of what lies there.
+            writes(Who::Ours, $m, $set, move |which| unsafe {
+                $ours(fields[which * $count..].as_ptr(), $count, $m.out, ROOM, 0, $m.info, 1)
+            }),
+            // SAFETY: as above.
+            writes(Who::Floor, $m, $set, move |which| unsafe {
+                $floor(fields[which * $count..].as_ptr(), $count, $m.out, ROOM, 0, $m.info, 1)
+            }),
+            nfsserve_writes::<$value>($set),
+            writes(Who::Libtirpc, $m, $set, peer_writes!($tirpc, $m)),
+            writes(Who::Libnfs, $m, $set, peer_writes!($libnfs, $m)),
+        ]).ready_by(ready));
+    )* };
+}
+
+/// Writing from pieces of two messages, which are here the same.
+macro_rules! writings_from_two {
+    ($rows:ident $m:ident $($name:literal $set:ident $count:literal $fields:ident $ours:ident $floor:ident $value:ident
+        $tirpc_hold:ident $tirpc:ident $libnfs_hold:ident $libnfs:ident;)*) => { $(
+        let ready = holding!($set, $tirpc_hold $libnfs_hold);
+        ready();
+        $rows.push(Row::new($name, $set.came.len(), vec![
+            // SAFETY: every address comes with the length of what lies there.
+            writes(Who::Ours, $m, $set, move |which| unsafe {
+                let (src, len) = ($set.came[which].as_ptr(), $set.came[which].len());
+                $ours(src, len, src, len, $fields[which * $count..].as_ptr(), $count, $m.out, ROOM, 0, $m.info, 1)
+            }),
+            // SAFETY: as above.
+            writes(Who::Floor, $m, $set, move |which| unsafe {
+                let (src, len) = ($set.came[which].as_ptr(), $set.came[which].len());
+                $floor(src, len, src, len, $fields[which * $count..].as_ptr(), $count, $m.out, ROOM, 0, $m.info, 1)
+            }),
+            nfsserve_writes::<$value>($set),
+            writes(Who::Libtirpc, $m, $set, peer_writes!($tirpc, $m)),
+            writes(Who::Libnfs, $m, $set, peer_writes!($libnfs, $m)),
+        ]).ready_by(ready));
+    )* };
+}
+
+/// Rewriting: read, and written in published form. `by NUMBER floor_copy_NAME`: ours and the floor's choose by the number of
+/// the kind. `with FUNCTION NUMBER floor_copy_NAME`: ours is a function of this kind, and so is the floor's.
+macro_rules! rewritten {
+    ($m:ident $name:literal $set:ident by $kind:literal $direct:ident) => {{
+        // The number is that of the kind.
+        rewrites(Who::Floor, $m, $set, rewriting!($direct, $m));
+        Row::new(
+            $name,
+            $set.came.len(),
+            vec![
+                rewrites(Who::Ours, $m, $set, rewriting!(yugerzat_rewrite, $m, $kind)),
+                rewrites(Who::Floor, $m, $set, rewriting!(floor_rewrite, $m, $kind)),
+            ],
+        )
+    }};
+    ($m:ident $name:literal $set:ident with $ours:ident $kind:literal $direct:ident) => {
+        Row::new(
+            $name,
+            $set.came.len(),
+            vec![
+                rewrites(Who::Ours, $m, $set, rewriting!($ours, $m)),
+                rewrites(Who::Floor, $m, $set, rewriting!($direct, $m)),
+            ],
+        )
+    };
+}
+
+/// The peers' rewriting comes behind ours and the floor's.
+macro_rules! rewritings {
+    ($rows:ident $m:ident $($name:literal $set:ident ($($how:tt)*) $(crate $value:ident)?
+        $(peers $($who:ident $copy:ident)*)?;)*) => {
+        $(
+            let mut row = rewritten!($m $name $set $($how)*);
+            $(row.contestants.push(nfsserve_copies::<$value>($set));)?
+            $($(row.contestants.push(rewrites(Who::$who, $m, $set, peer_rewrites!($copy, $m)));)*)?
+            $rows.push(row);
+        )*
+    };
+}
+
+/// A row of judging, in the same two ways.
+macro_rules! judged {
+    ($m:ident $name:literal $set:ident by $kind:literal $direct:ident) => {{
+        // The number is that of the kind.
+        judges(Who::Floor, $m, $set, figures_of!($direct, $m, 3));
+        Row::new(
+            $name,
+            $set.came.len(),
+            vec![
+                judges(Who::Ours, $m, $set, figures_of!(yugerzat_judge, $m, 3, $kind)),
+                judges(Who::Floor, $m, $set, figures_of!(floor_judge, $m, 3, $kind)),
+            ],
+        )
+    }};
+    ($m:ident $name:literal $set:ident with $ours:ident $kind:literal $direct:ident) => {
+        Row::new(
+            $name,
+            $set.came.len(),
+            vec![
+                judges(Who::Ours, $m, $set, figures_of!($ours, $m, 3)),
+                judges(Who::Floor, $m, $set, figures_of!($direct, $m, 3)),
+            ],
+        )
+    };
+}
+
+/// Beside judging peers read, if any are given: they cannot tell what is plain without writing it.
+macro_rules! judgings {
+    ($rows:ident $m:ident $($name:literal $set:ident ($($how:tt)*) $(peers $($who:ident $read:ident)*)?;)*) => { $(
+        let row = judged!($m $name $set $($how)*);
+        $(
+            let mut row = row;
+            $(row.contestants.push(reads(Who::$who, $m, $set, peer_reads!($read)));)*
+        )?
+        $rows.push(row);
+    )* };
+}
+
+// ---- the rows
+
+pub fn message_rows(m: Memory) -> Vec<Row> {
+    [read_rows(m), written_rows(m), rewritten_rows(m), data_rows(m)].into_iter().flatten().collect()
+}
+
+fn read_rows(m: Memory) -> Vec<Row> {
+    let call = set(varied::call);
+    let attributes = set(varied::fattr3);
+    let full = set(varied::sattr3_full);
+    let empty = set(varied::sattr3_empty);
+    let mixed = set(varied::sattr3_mixed);
+    let place = set(varied::diropargs3);
     let mut rows = Vec::new();
     readings! { rows m
         "call read" call 14 yugerzat_read_rpc_msg floor_read_rpc_msg rpc_msg tirpc_read_rpc_msg libnfs_read_rpc_msg;
     }
     rows.push(call_and_auth_unix(m, call));
-    // The peers cannot tell without writing.
-    rows.push(Row::new(
-        "call judged",
-        vec![
-            judges!(Who::Ours, m, call, yugerzat_judge(20, call.as_ptr(), call.len(), 0, m.info, 3)),
-            judges!(Who::Floor, m, call, floor_judge_rpc_msg(call.as_ptr(), call.len(), 0, m.info, 3)),
-        ],
-    ));
+    judgings! { rows m
+        "call judged" call (with yugerzat_judge_rpc_msg 20 floor_judge_rpc_msg);
+        "call judged by number" call (by 20 floor_judge_rpc_msg);
+    }
     readings! { rows m
         "fattr3 read" attributes 19 yugerzat_read_fattr3 floor_read_fattr3 fattr3 tirpc_read_fattr3 libnfs_read_fattr3;
         "sattr3 full read" full 16 yugerzat_read_sattr3 floor_read_sattr3 sattr3 tirpc_read_sattr3 libnfs_read_sattr3;
         "sattr3 empty read" empty 16 yugerzat_read_sattr3 floor_read_sattr3 sattr3 tirpc_read_sattr3 libnfs_read_sattr3;
+        "sattr3 mixed read" mixed 16 yugerzat_read_sattr3 floor_read_sattr3 sattr3 tirpc_read_sattr3 libnfs_read_sattr3;
         "diropargs3 read" place 6 yugerzat_read_diropargs3 floor_read_diropargs3 diropargs3 tirpc_read_diropargs3
             libnfs_read_diropargs3;
     }
-    rows.push(call_written(m, call));
-    writings! { rows m
-        "fattr3 written" attributes 17 floor_read_fattr3 yugerzat_write_fattr3 floor_write_fattr3 fattr3
-            tirpc_read_fattr3 tirpc_write_fattr3 libnfs_read_fattr3 libnfs_write_fattr3;
-        "sattr3 full written" full 14 floor_read_sattr3 yugerzat_write_sattr3 floor_write_sattr3 sattr3
-            tirpc_read_sattr3 tirpc_write_sattr3 libnfs_read_sattr3 libnfs_write_sattr3;
-        "sattr3 empty written" empty 14 floor_read_sattr3 yugerzat_write_sattr3 floor_write_sattr3 sattr3
-            tirpc_read_sattr3 tirpc_write_sattr3 libnfs_read_sattr3 libnfs_write_sattr3;
-    }
-    rows.push(diropargs3_written(m, place));
-    rewritings! { rows m
-        "call rewritten" call 20 floor_copy_rpc_msg rpc_msg tirpc_copy_rpc_msg libnfs_copy_rpc_msg;
-        "auth_unix rewritten" auth 18 floor_copy_auth_unix auth_unix tirpc_copy_auth_unix;
-        "fattr3 rewritten" attributes 31 floor_copy_fattr3 fattr3 tirpc_copy_fattr3 libnfs_copy_fattr3;
-        "sattr3 full rewritten" full 44 floor_copy_sattr3 sattr3 tirpc_copy_sattr3 libnfs_copy_sattr3;
-        "sattr3 empty rewritten" empty 44 floor_copy_sattr3 sattr3 tirpc_copy_sattr3 libnfs_copy_sattr3;
-        "diropargs3 rewritten" place 45 floor_copy_diropargs3 diropargs3 tirpc_copy_diropargs3 libnfs_copy_diropargs3;
-    }
-    // Of data, only rewriting touches the bytes, except in libtirpc, which reads them into memory of its own.
-    judgings_and_rewritings! { rows m
-        "read3res 64 KiB judged" "read3res 64 KiB rewritten" read 56 floor_copy_read3res floor_judge_read3res
-            tirpc_read_read3res tirpc_copy_read3res libnfs_read_read3res libnfs_copy_read3res;
-        "write3args 64 KiB judged" "write3args 64 KiB rewritten" write 57 floor_copy_write3args floor_judge_write3args
-            tirpc_read_write3args tirpc_copy_write3args libnfs_read_write3args libnfs_copy_write3args;
-    }
     rows
 }
 
-fn call_and_auth_unix(m: Memory, call: &'static [u8]) -> Row {
+fn call_and_auth_unix(m: Memory, call: Set) -> Row {
     macro_rules! both {
-        ($who:expr, $header:ident, $read:ident) => {
-            contestant($who, move || {
-                // SAFETY: every address comes with the length of what lies there.
-                let answer = unsafe {
-                    let header = $header(call.as_ptr(), call.len(), 0, m.info, 14);
+        ($header:ident, $read:ident) => {
+            move |src: &'static [u8]| {
+                // SAFETY: every address comes with the length of what lies there, and the two lists of figures lie apart.
+                unsafe {
+                    let header = $header(src.as_ptr(), src.len(), 0, m.info, 14);
                     let (at, count) = (*m.info.add(9) as usize, *m.info.add(10) as usize);
-                    header | $read(call.as_ptr(), call.len(), at, count, m.info.add(14), 9)
-                };
-                assert_eq!(answer, 0);
-            })
+                    header | $read(src.as_ptr(), src.len(), at, count, m.info.add(14), 9)
+                }
+            }
         };
     }
-    let mut message = rpc_msg::default();
-    let mut auth = auth_unix::default();
-    let nfsserve = contestant(Who::Nfsserve, move || {
-        deserialize(black_box(call), &mut message);
+    let (mut message, mut auth) = (rpc_msg::default(), auth_unix::default());
+    let nfsserve = contestant(Who::Nfsserve, call.came.len(), move |which| {
+        black_box(deserialize(call.came[which], &mut message));
         let rpc_body::CALL(ref body) = message.body else { unreachable!() };
         assert!(matches!(body.cred.flavor, auth_flavor::AUTH_UNIX));
-        deserialize(&body.cred.body, &mut auth);
-        black_box((&message, &auth));
+        black_box(deserialize(&body.cred.body, &mut auth));
     });
     Row::new(
         "call with auth_unix read",
+        call.came.len(),
         vec![
-            both!(Who::Ours, yugerzat_read_rpc_msg, yugerzat_read_auth_unix),
-            both!(Who::Floor, floor_read_rpc_msg, floor_read_auth_unix),
+            reads(Who::Ours, m, call, both!(yugerzat_read_rpc_msg, yugerzat_read_auth_unix)),
+            reads(Who::Floor, m, call, both!(floor_read_rpc_msg, floor_read_auth_unix)),
             nfsserve,
-            calls!(Who::Libtirpc, call.len(), tirpc_read_call_and_auth_unix(call.as_ptr(), call.len())),
+            reads(Who::Libtirpc, m, call, peer_reads!(tirpc_read_call_and_auth_unix)),
         ],
     )
 }
 
-fn call_written(m: Memory, call: &'static [u8]) -> Row {
-    let (src, len) = (call.as_ptr(), call.len());
-    // SAFETY: every address comes with the length of what lies there.
-    let header = figures(|info| unsafe { floor_read_rpc_msg(src, len, 0, info, FIGURES) }, 2);
+fn written_rows(m: Memory) -> Vec<Row> {
+    let call = set(varied::call);
+    let attributes = set(varied::fattr3);
+    let full = set(varied::sattr3_full);
+    let empty = set(varied::sattr3_empty);
+    let mixed = set(varied::sattr3_mixed);
+    let place = set(varied::diropargs3);
     // Without the tag.
-    let fields = Vec::leak([&header[..1], &header[2..12]].concat()).as_ptr();
-    let ready = move || {
-        // SAFETY: as above.
-        unsafe { assert!(tirpc_read_rpc_msg(src, len) > 0 && libnfs_read_rpc_msg(src, len) > 0) }
-    };
-    ready();
-    Row::new(
-        "call written",
-        vec![
-            calls!(Who::Ours, 0, yugerzat_write_call(src, len, src, len, fields, 11, m.out, ROOM, 0, m.info, 1)),
-            calls!(Who::Floor, 0, floor_write_call(src, len, src, len, fields, 11, m.out, ROOM, 0, m.info, 1)),
-            nfsserve_writes(call, rpc_msg::default()),
-            calls!(Who::Libtirpc, len, tirpc_write_rpc_msg(m.out, ROOM)),
-            calls!(Who::Libnfs, len, libnfs_write_rpc_msg(m.out, ROOM)),
-        ],
-    )
-    .ready_by(ready)
-}
-
-fn diropargs3_written(m: Memory, place: &'static [u8]) -> Row {
-    let (src, len) = (place.as_ptr(), place.len());
-    // SAFETY: every address comes with the length of what lies there.
-    let fields = figures(|info| unsafe { floor_read_diropargs3(src, len, 0, info, FIGURES) }, 2).as_ptr();
-    let name = kept([messages::NAME, b"\0"].concat());
-    // SAFETY: as above; the name ends with a zero, as libnfs wants it.
-    let ready = move || unsafe {
-        assert!(tirpc_read_diropargs3(src, len) > 0);
-        libnfs_where(messages::HANDLE.as_ptr(), messages::HANDLE.len() as u32, name.as_ptr());
-    };
-    ready();
-    Row::new(
-        "diropargs3 written",
-        vec![
-            calls!(Who::Ours, 0, yugerzat_write_diropargs3(src, len, src, len, fields, 4, m.out, ROOM, 0, m.info, 1)),
-            calls!(Who::Floor, 0, floor_write_diropargs3(src, len, src, len, fields, 4, m.out, ROOM, 0, m.info, 1)),
-            nfsserve_writes(place, diropargs3::default()),
-            calls!(Who::Libtirpc, len, tirpc_write_diropargs3(m.out, ROOM)),
-            calls!(Who::Libnfs, len, libnfs_write_diropargs3(m.out, ROOM)),
-        ],
-    )
-    .ready_by(ready)
-}
-
-/// Of each list that is timed, a shorter one comes first.
-pub fn list_rows(m: Memory) -> Vec<Row> {
+    let headers = figures(m, call, 14, figures_of!(floor_read_rpc_msg, m, 32), |all| [&all[2..3], &all[4..]].concat());
+    let places = figures(m, place, 6, figures_of!(floor_read_diropargs3, m, 32), |all| all[2..].to_vec());
     let mut rows = Vec::new();
-    let short = |label, n| exports(m, label, messages::short_exports(n), Held { entries: n, names: 0, text: n / 4 * 3 });
-    let grouped = |label, n| exports(m, label, messages::grouped_exports(n), Held { entries: n, names: n, text: n * 12 });
-    for (lesser, longer) in [
-        (short("10,000 exports", 10_000), short("80,000 exports", 80_000)),
-        (grouped("4,000 with groups", 4_000), grouped("32,000 with groups", 32_000)),
-    ] {
-        for (lesser, longer) in lesser.into_iter().zip(longer) {
-            rows.push(Row { shorter: true, ..lesser });
-            rows.push(longer);
-        }
+    writings_from_two! { rows m
+        "call written" call 11 headers yugerzat_write_call floor_write_call rpc_msg
+            tirpc_hold_rpc_msg tirpc_write_rpc_msg libnfs_hold_rpc_msg libnfs_write_rpc_msg;
+    }
+    writings! { rows m
+        "fattr3 written" attributes 17 floor_read_fattr3 yugerzat_write_fattr3 floor_write_fattr3 fattr3
+            tirpc_hold_fattr3 tirpc_write_fattr3 libnfs_hold_fattr3 libnfs_write_fattr3;
+        "sattr3 full written" full 14 floor_read_sattr3 yugerzat_write_sattr3 floor_write_sattr3 sattr3
+            tirpc_hold_sattr3 tirpc_write_sattr3 libnfs_hold_sattr3 libnfs_write_sattr3;
+        "sattr3 empty written" empty 14 floor_read_sattr3 yugerzat_write_sattr3 floor_write_sattr3 sattr3
+            tirpc_hold_sattr3 tirpc_write_sattr3 libnfs_hold_sattr3 libnfs_write_sattr3;
+        "sattr3 mixed written" mixed 14 floor_read_sattr3 yugerzat_write_sattr3 floor_write_sattr3 sattr3
+            tirpc_hold_sattr3 tirpc_write_sattr3 libnfs_hold_sattr3 libnfs_write_sattr3;
+    }
+    writings_from_two! { rows m
+        "diropargs3 written" place 4 places yugerzat_write_diropargs3 floor_write_diropargs3 diropargs3
+            tirpc_hold_diropargs3 tirpc_write_diropargs3 libnfs_hold_diropargs3 libnfs_write_diropargs3;
     }
     rows
 }
 
-/// What an export list holds: entries, names of groups, and bytes in its paths and names.
-#[derive(Clone, Copy, PartialEq, Eq, Debug)]
-struct Held {
-    entries: usize,
-    names: usize,
-    text: usize,
+fn rewritten_rows(m: Memory) -> Vec<Row> {
+    let call = set(varied::call);
+    let auth = set(varied::auth_unix);
+    let attributes = set(varied::fattr3);
+    let full = set(varied::sattr3_full);
+    let empty = set(varied::sattr3_empty);
+    let mixed = set(varied::sattr3_mixed);
+    let place = set(varied::diropargs3);
+    // The other two peers refuse a flag that is not 0 or 1.
+    let odd = loose_set(varied::sattr3_loose);
+    let dirty = loose_set(varied::diropargs3_loose);
+    let mut rows = Vec::new();
+    rewritings! { rows m
+        "call rewritten" call (with yugerzat_rewrite_rpc_msg 20 floor_copy_rpc_msg) crate rpc_msg
+            peers Libtirpc tirpc_copy_rpc_msg Libnfs libnfs_copy_rpc_msg;
+        "auth_unix rewritten" auth (with yugerzat_rewrite_auth_unix 18 floor_copy_auth_unix) crate auth_unix peers Libtirpc tirpc_copy_auth_unix;
+        "fattr3 rewritten" attributes (with yugerzat_rewrite_fattr3 31 floor_copy_fattr3) crate fattr3
+            peers Libtirpc tirpc_copy_fattr3 Libnfs libnfs_copy_fattr3;
+        "sattr3 full rewritten" full (with yugerzat_rewrite_sattr3 44 floor_copy_sattr3) crate sattr3
+            peers Libtirpc tirpc_copy_sattr3 Libnfs libnfs_copy_sattr3;
+        "sattr3 empty rewritten" empty (with yugerzat_rewrite_sattr3 44 floor_copy_sattr3) crate sattr3
+            peers Libtirpc tirpc_copy_sattr3 Libnfs libnfs_copy_sattr3;
+        "sattr3 mixed rewritten" mixed (with yugerzat_rewrite_sattr3 44 floor_copy_sattr3) crate sattr3
+            peers Libtirpc tirpc_copy_sattr3 Libnfs libnfs_copy_sattr3;
+        "sattr3 loose rewritten" odd (with yugerzat_rewrite_sattr3 44 floor_copy_sattr3) crate sattr3;
+        "diropargs3 rewritten" place (with yugerzat_rewrite_diropargs3 45 floor_copy_diropargs3) crate diropargs3
+            peers Libtirpc tirpc_copy_diropargs3 Libnfs libnfs_copy_diropargs3;
+        "fattr3 rewritten by number" attributes (by 31 floor_copy_fattr3);
+        "diropargs3 rewritten by number" place (by 45 floor_copy_diropargs3);
+        "diropargs3 loose rewritten" dirty (with yugerzat_rewrite_diropargs3 45 floor_copy_diropargs3) crate diropargs3;
+    }
+    rows
 }
 
-/// Rows of an export list. Beside "judged" the peers read and free; beside "walked" they follow their pointers besides.
-fn exports(m: Memory, label: &str, exports: Vec<u8>, held: Held) -> [Row; 4] {
-    let exports = kept(exports);
-    let (src, len, entries, all) = (exports.as_ptr(), exports.len(), held.entries, held.entries + held.names);
-    let row = |work, contestants| Row { bytes: Some(len), ..Row::new(format!("{label} {work}").leak(), contestants) };
-    let ready = move || {
-        // SAFETY: every address comes with the length of what lies there.
-        unsafe { assert!(tirpc_hold_exports(src, len) == len as u32 && libnfs_hold_exports(src, len) == len as u32) }
-    };
-    let judged = vec![
-        judges!(Who::Ours, m, exports, yugerzat_judge(70, src, len, 0, m.info, 3)),
-        judges!(Who::Floor, m, exports, floor_judge_exports(src, len, 0, m.info, 3)),
-        calls!(Who::Libtirpc, len, tirpc_read_exports(src, len)),
-        calls!(Who::Libnfs, len, libnfs_read_exports(src, len)),
-    ];
-    let walked = vec![
-        walks!(Who::Ours, m, exports, held, yugerzat_read_exports yugerzat_next_export yugerzat_next_group),
-        walks!(Who::Floor, m, exports, held, floor_read_exports floor_next_export floor_next_group),
-        calls!(Who::Libtirpc, all, tirpc_walk_exports(src, len)),
-        calls!(Who::Libnfs, all, libnfs_walk_exports(src, len)),
-    ];
-    ready();
-    let written = vec![
-        rewrites!(Who::Ours, 0, m, exports, yugerzat_write_exports(src, len, 0, entries, m.out, ROOM, 0, m.info, 1)),
-        rewrites!(Who::Floor, 0, m, exports, floor_write_exports(src, len, 0, entries, m.out, ROOM, 0, m.info, 1)),
-        rewrites!(Who::Libtirpc, len, m, exports, tirpc_write_exports(m.out, ROOM)),
-        rewrites!(Who::Libnfs, len, m, exports, libnfs_write_exports(m.out, ROOM)),
-    ];
-    let rewritten = vec![
-        rewrites!(Who::Ours, 0, m, exports, yugerzat_rewrite(70, exports.as_ptr(), len, 0, m.out, ROOM, m.info, 3)),
-        rewrites!(Who::Floor, 0, m, exports, floor_copy_exports(src, len, 0, m.out, ROOM, m.info, 3)),
-        rewrites!(Who::Libtirpc, len, m, exports, tirpc_copy_exports(src, len, m.out, ROOM)),
-        rewrites!(Who::Libnfs, len, m, exports, libnfs_copy_exports(src, len, m.out, ROOM)),
-    ];
-    [row("judged", judged), row("walked", walked), row("written", written).ready_by(ready), row("rewritten", rewritten)]
-}
-
-#[inline(never)]
-fn memcpy(src: &[u8], out: *mut u8) {
-    // SAFETY: the room is larger than any message, and lies apart.
-    unsafe { std::ptr::copy_nonoverlapping(src.as_ptr(), out, src.len()) }
-    black_box(out);
-}
-
-/// Rows whose floor is memcpy, from and to the same places.
-pub fn copy_rows(m: Memory) -> Vec<Row> {
-    let block = kept(some(BLOCK));
-    let copied = |src: &'static [u8], to: usize| {
-        // SAFETY: the place lies in the room.
-        let out = unsafe { m.out.add(to) };
-        contestant(Who::Floor, move || memcpy(black_box(src), out))
-    };
-    let opaque = kept(messages::opaque(block));
-    let record = kept(some(RECORD));
-    let stream = kept([&(RECORD as u32 | 1 << 31).to_be_bytes(), record].concat());
-
-    let feed = contestant(Who::Ours, move || {
-        // SAFETY: every address comes with the length of what lies there.
-        let answer = unsafe {
-            *m.state = RECORD as u64;
-            yugerzat_feed(m.state, 7, stream.as_ptr(), stream.len(), m.out, RECORD, m.info, 2)
-        };
-        // Complete; the state is then fresh.
-        assert_eq!(answer, 104);
-    });
-    let rows = [
-        Row::new("record of 1 MiB assembled", vec![feed, copied(&stream[4..], 0)]),
-        Row::new(
-            "opaque of 64 KiB rewritten",
-            vec![
-                rewrites!(
-                    Who::Ours,
-                    0,
-                    m,
-                    opaque,
-                    yugerzat_rewrite(6, opaque.as_ptr(), opaque.len(), 0, m.out, ROOM, m.info, 3)
-                ),
-                copied(&opaque[4..], 4),
-                nfsserve_copies(opaque, Vec::<u8>::new()),
-                rewrites!(
-                    Who::Libtirpc,
-                    opaque.len(),
-                    m,
-                    opaque,
-                    tirpc_copy_opaque(opaque.as_ptr(), opaque.len(), m.out, ROOM)
-                ),
-                rewrites!(
-                    Who::Libnfs,
-                    opaque.len(),
-                    m,
-                    opaque,
-                    libnfs_copy_opaque(opaque.as_ptr(), opaque.len(), m.out, ROOM)
-                ),
-            ],
-        ),
-        Row::new(
-            "fragment of 64 KiB written",
-            vec![
-                calls!(Who::Ours, 0, yugerzat_fragment(block.as_ptr(), block.len(), m.out, ROOM, 0, m.info, 1)),
-                copied(block, 4),
-            ],
-        ),
-    ];
-    rows.map(|row| Row { copying: true, ..row }).into()
+/// nfsserve has no types for these. Of data, only rewriting touches the bytes, except in libtirpc, which reads them into
+/// memory of its own. One message is rewritten again and again: its data take the time.
+fn data_rows(m: Memory) -> Vec<Row> {
+    let (results, arguments) = (varied::read3res(), varied::write3args());
+    let block = crate::lists::some(crate::lists::BLOCK);
+    let (read, write) = (alone(messages::read3res(&block)), alone(messages::write3args(&block)));
+    let mut rows = Vec::new();
+    judgings! { rows m
+        "read3res 64 KiB judged" results (with yugerzat_judge_read3res 56 floor_judge_read3res)
+            peers Libtirpc tirpc_read_read3res Libnfs libnfs_read_read3res;
+    }
+    rewritings! { rows m
+        "read3res 64 KiB rewritten" read (with yugerzat_rewrite_read3res 56 floor_copy_read3res)
+            peers Libtirpc tirpc_copy_read3res Libnfs libnfs_copy_read3res;
+    }
+    judgings! { rows m
+        "write3args 64 KiB judged" arguments (with yugerzat_judge_write3args 57 floor_judge_write3args)
+            peers Libtirpc tirpc_read_write3args Libnfs libnfs_read_write3args;
+    }
+    rewritings! { rows m
+        "write3args 64 KiB rewritten" write (with yugerzat_rewrite_write3args 57 floor_copy_write3args)
+            peers Libtirpc tirpc_copy_write3args Libnfs libnfs_copy_write3args;
+    }
+    rows
 }

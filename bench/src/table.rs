@@ -8,17 +8,43 @@ fn figure(value: Option<f64>, digits: usize) -> String {
     value.map_or_else(|| String::from("-"), |v| format!("{v:.digits$}"))
 }
 
-/// Prints a table of one number for each row and contestant, with the ratios; gives the worst ratio to the floor, and the
-/// worst to memcpy.
-fn table(rows: &[&Row], unit: &str, digits: usize, number: impl Fn(&Row, Who) -> Option<f64>) -> (f64, f64) {
+/// The worst ratio of a table, and the row that has it.
+#[derive(Clone, Copy)]
+struct Worst {
+    ratio: f64,
+    row: &'static str,
+}
+
+impl Worst {
+    fn new() -> Worst {
+        Worst { ratio: 0.0, row: "none" }
+    }
+
+    fn see(&mut self, ratio: Option<f64>, row: &'static str) {
+        if let Some(ratio) = ratio.filter(|&ratio| ratio > self.ratio) {
+            *self = Worst { ratio, row };
+        }
+    }
+}
+
+/// The worst ratios of a table, to each that we are held to.
+struct Worsts {
+    floor: Worst,
+    memcpy: Worst,
+    /// To the best peer. A row without a peer does not count.
+    peer: Worst,
+}
+
+/// Prints a table of one number for each row and contestant, with the ratios; gives the worst of them.
+fn table(rows: &[&Row], unit: &str, digits: usize, number: impl Fn(&Row, Who) -> Option<f64>) -> Worsts {
     print!("{:<28}", unit);
     for (_, name) in ALL {
         print!("{name:>11}");
     }
     println!("{:>10}{:>10}", "to floor", "to peer");
-    let (mut worst, mut worst_copy) = (0.0_f64, 0.0_f64);
+    let mut worst = Worsts { floor: Worst::new(), memcpy: Worst::new(), peer: Worst::new() };
     for &row in rows {
-        if row.copying && worst_copy == 0.0 {
+        if row.copying && worst.memcpy.ratio == 0.0 {
             println!("(the floor of the next rows is memcpy)");
         }
         print!("{:<28}", row.name);
@@ -31,10 +57,11 @@ fn table(rows: &[&Row], unit: &str, digits: usize, number: impl Fn(&Row, Who) ->
         let peers = [Who::Nfsserve, Who::Libtirpc, Who::Libnfs];
         let to_peer = ratio(peers.iter().filter_map(|&who| number(row, who)).reduce(f64::min));
         println!("{:>10}{:>10}", figure(to_floor, 2), figure(to_peer, 2));
-        let mark = if row.copying { &mut worst_copy } else { &mut worst };
-        *mark = mark.max(to_floor.unwrap_or(0.0));
+        let mark = if row.copying { &mut worst.memcpy } else { &mut worst.floor };
+        mark.see(to_floor, row.name);
+        worst.peer.see(to_peer, row.name);
     }
-    (worst, worst_copy)
+    worst
 }
 
 /// What a byte of each list takes.
@@ -59,12 +86,14 @@ fn told(rows: &[Row]) -> Vec<&Row> {
 }
 
 pub fn times(rows: &[Row]) {
-    let (worst, worst_copy) = table(&told(rows), "ns, best of many", 1, Row::best);
+    let worst = table(&told(rows), "ns, best of many", 1, Row::best);
     println!();
     by_the_byte(rows);
     println!();
-    println!("worst ratio to memcpy: {worst_copy:.2}");
-    println!("worst ratio to the C floor: {worst:.2}");
+    println!("worst rows: {} (to the floor), {} (to the best peer)", worst.floor.row, worst.peer.row);
+    println!("worst ratio to memcpy: {:.2}", worst.memcpy.ratio);
+    println!("worst ratio to the C floor: {:.2}", worst.floor.ratio);
+    println!("worst ratio to the best peer: {:.2}", worst.peer.ratio);
 }
 
 /// The counts that callgrind left in the folder, one file for each mark.
