@@ -52,6 +52,7 @@ use xdr::U32Read;
 use xdr::inner::opaque_at;
 use xdr::inner::u32_at;
 use xdr::inner::u32_pair_at;
+use xdr::inner::whole_opaque_at;
 use xdr::inner::words_at;
 use xdr::inside;
 
@@ -182,7 +183,7 @@ pub fn opaque_auth_at(src: &[u8], at: usize) -> OpaqueAuthRead
     else {
         return OpaqueAuthRead::Refused(r1.refusal());
     };
-    let r2 = opaque_at(src, n1);
+    let r2 = whole_opaque_at(src, n1);
     let PieceRead::Took {
         value: body,
         next: n2,

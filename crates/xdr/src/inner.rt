@@ -1,6 +1,8 @@
 // For the crates above, and no door for users: items of a message whose length and start were tested already, and items laid at the front
 // of a lent buffer whose room was. Each is total all the same, and exact; it only leaves out refusals 3 and 9.
 ghost use mathlib.Core.Path.{_≡_};
+ghost use mathlib.Core.Bool.{cond};
+ghost use lib.Dec.{eqb};
 ghost use Prim.Native.Nat.{_+_, _-_, _<_, _≤_};
 ghost use lib.ListN.{length};
 ghost use mathlib.Core.List.{_++_};
@@ -13,7 +15,7 @@ ghost use Rattle.xdr.specs.Meaning.Views.{viewU32, viewU64, viewU32Pair,
 ghost use Rattle.xdr.specs.declared.refusal.Refusal.the-variants.{Ended};
 ghost use Rattle.xdr.specs.Laws.Answers.{pairEnd};
 ghost use Rattle.xdr.specs.Laws.Write.{Put};
-ghost use Rattle.xdr.specs.Laws.Padding.{lastZeros};
+ghost use Rattle.xdr.specs.Laws.Padding.{lastZeros, lifting};
 use crate::MOST;
 use crate::answer::BoolRead;
 use crate::answer::I32Read;
@@ -28,8 +30,10 @@ use crate::number::hyper_here;
 use crate::number::signed32;
 use crate::number::signed64;
 use crate::number::swap;
+use crate::number::swap64;
 use crate::number::unsigned32;
 use crate::number::unsigned64;
+use crate::number::wide64;
 use crate::number::word_here;
 use crate::piece::Piece;
 use crate::piece::inside;
@@ -178,27 +182,43 @@ pub fn eight_at(src: &[u8], at: usize) -> U64Read
     u64_at(src, at)
 }
 
-// Whether the low k bytes of a word are zero.
-fn low_zeros(w: u32, k: usize) -> bool
-    ensures { λ r. ⌜ r ≡ lastZeros w k ⌝ }
+// By how much the low k bytes of a word are to be moved up to be its high bytes.
+fn lift(k: usize) -> u64
+    requires { ⌜ k < 4 ⌝ }
+    ensures { λ r. ⌜ r ≡ lifting k ⌝ }
 {
-    match k {
-        0 => true,
-        1 => w % 256 == 0,
-        2 => w % 65536 == 0,
-        _ => w % 16777216 == 0,
+    let j = k % 4;
+    match j {
+        0 => 0,
+        1 => 16777216,
+        2 => 65536,
+        _ => 256,
     }
 }
 
-// Whether the last k bytes of the word at a place are zero. If none is asked about, the word is not read: it may be content.
-fn pad_zeros(src: &[u8], at: usize, k: usize) -> bool
+// Whether the low k bytes of a word are zero. Names have all lengths, so k is not foreseen, and there is no branch on it.
+fn low_zeros(w: u32, k: usize) -> bool
+    requires { ⌜ k < 4 ⌝ }
+    ensures { λ r. ⌜ r ≡ lastZeros w k ⌝ }
+{
+    let wide = wide64(w);
+    wide * lift(k) % 4294967296 == 0
+}
+
+fn if_none(k: usize, a: usize, b: usize) -> usize
+    ensures { λ r. ⌜ r ≡ cond (eqb k 0) a b ⌝ }
+{
+    if k == 0 { a } else { b }
+}
+
+// Whether the last k bytes of the word at a place are zero. If none is asked about, another word is read: that one may be content.
+fn pad_zeros(src: &[u8], other: usize, at: usize, k: usize) -> bool
+    requires { ⌜ other + 4 ≤ length (now src) ⌝ }
     requires { ⌜ at + 4 ≤ length (now src) ⌝ }
+    requires { ⌜ k < 4 ⌝ }
     ensures { λ r. ⌜ r ≡ lastZeros (numberAt 4 (now (src .entry)) at) k ⌝ }
 {
-    if k == 0 {
-        return true;
-    }
-    low_zeros(word_here(src, at), k)
+    low_zeros(word_here(src, if_none(k, other, at)), k)
 }
 
 // The n bytes of content and their pad, of an opaque that begins at a place that has its length word. The pad is the end of a word.
@@ -211,7 +231,7 @@ fn body_at(src: &[u8], at: usize, n: u32) -> PieceRead
     if src.len() - at - 4 < m {
         return PieceRead::Refused(cut_short(src.len(), at, 4 + m));
     }
-    let clean = pad_zeros(src, at + m, m - n);
+    let clean = pad_zeros(src, at, at + m, m - n);
     PieceRead::Took {
         value: Piece {
             at: at + 4,
@@ -231,6 +251,39 @@ pub fn opaque_at(src: &[u8], at: usize) -> PieceRead
         return PieceRead::Refused(r.refusal());
     };
     body_at(src, at, n)
+}
+
+// The same of a body that is whole words as a rule, as a credential's is. That is foreseen, and then there is no pad to look at.
+fn whole_body_at(src: &[u8], at: usize, n: u32) -> PieceRead
+    requires { ⌜ at + 4 ≤ length (now src) ⌝ }
+    ensures { λ r. ⌜ viewPiece r ≡ pieceAnswer (now (src .entry)) at n ⌝ }
+{
+    if n % 4 != 0 {
+        return body_at(src, at, n);
+    }
+    let n = n as usize;
+    if src.len() - at - 4 < n {
+        return PieceRead::Refused(cut_short(src.len(), at, 4 + n));
+    }
+    PieceRead::Took {
+        value: Piece {
+            at: at + 4,
+            count: n,
+            clean: true,
+        },
+        next: at + 4 + n,
+        plain: true,
+    }
+}
+
+pub fn whole_opaque_at(src: &[u8], at: usize) -> PieceRead
+    ensures { λ r. ⌜ viewPiece r ≡ pieceHeld .read (now (src .entry)) at ⌝ }
+{
+    let r = u32_at(src, at);
+    let U32Read::Took { value: n, next: _ } = r else {
+        return PieceRead::Refused(r.refusal());
+    };
+    whole_body_at(src, at, n)
 }
 
 // A list of words: its count, then as many words.
@@ -277,8 +330,15 @@ pub fn put_u64(v: u64, out: &mut [u8])
     if out.len() < 8 {
         return;
     }
-    put_u32((v / 4294967296) as u32, &mut out[0..]);
-    put_u32((v % 4294967296) as u32, &mut out[4..]);
+    let s = swap64(v);
+    out[0] = (s % 256) as u8;
+    out[1] = (s / 256 % 256) as u8;
+    out[2] = (s / 65536 % 256) as u8;
+    out[3] = (s / 16777216 % 256) as u8;
+    out[4] = (s / 4294967296 % 256) as u8;
+    out[5] = (s / 1099511627776 % 256) as u8;
+    out[6] = (s / 281474976710656 % 256) as u8;
+    out[7] = (s / 72057594037927936) as u8;
 }
 
 pub fn put_u32_pair(first: u32, second: u32, out: &mut [u8])

@@ -4,7 +4,7 @@ ghost use mathlib.Core.Path.{_≡_};
 ghost use Prim.Native.Nat.{_+_, _<_, _≤_};
 ghost use lib.ListN.{length};
 ghost use Rattle.xdr.specs.Meaning.Bytes.{numberAt, signed, unsigned};
-ghost use Rattle.xdr.specs.Laws.Swap.{swapped};
+ghost use Rattle.xdr.specs.Laws.Swap.{swapped, swapped64};
 
 // A byte as a wider number.
 fn wide(b: u8) -> u32
@@ -14,7 +14,7 @@ fn wide(b: u8) -> u32
 }
 
 // A word as a wider number.
-fn wide64(w: u32) -> u64
+pub(crate) fn wide64(w: u32) -> u64
     ensures { λ r. ⌜ (r ≡ w) × (r < 4294967296) ⌝ }
 {
     w as u64
@@ -25,6 +25,15 @@ pub(crate) fn swap(v: u32) -> u32
     ensures { λ r. ⌜ r ≡ swapped v ⌝ }
 {
     v % 256 * 16777216 + v / 256 % 256 * 65536 + v / 65536 % 256 * 256 + v / 16777216
+}
+
+// The same of the eight bytes of a hyper.
+pub(crate) fn swap64(v: u64) -> u64
+    ensures { λ r. ⌜ r ≡ swapped64 v ⌝ }
+{
+    let low = swap((v % 4294967296) as u32);
+    let high = swap((v / 4294967296) as u32);
+    wide64(low) * 4294967296 + wide64(high)
 }
 
 // The word at a place that has four bytes.

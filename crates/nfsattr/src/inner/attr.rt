@@ -350,7 +350,7 @@ pub fn times_at(src: &[u8], at: usize) -> TimesRead
     }
 }
 
-pub fn fattr3_at(src: &[u8], at: usize) -> Fattr3Read
+fn fattr3_short(src: &[u8], at: usize) -> Fattr3Read
     ensures { λ r. ⌜ viewFattr3 r ≡ fattr .kind .read (now (src .entry)) at ⌝ }
 {
     let r1 = ids_at(src, at);
@@ -400,6 +400,72 @@ pub fn fattr3_at(src: &[u8], at: usize) -> Fattr3Read
         },
         next: n3,
     }
+}
+
+fn fattr3_whole(src: &[u8], at: usize) -> Fattr3Read
+    ensures { λ r. ⌜ viewFattr3 r ≡ fattr .kind .read (now (src .entry)) at ⌝ }
+{
+    let r1 = ids_at(src, at);
+    let IdsRead::Took {
+        value: ids,
+        next: n1,
+    } = r1
+    else {
+        return Fattr3Read::Refused(r1.refusal());
+    };
+    let r2 = sizes_at(src, n1);
+    let SizesRead::Took {
+        value: sizes,
+        next: n2,
+    } = r2
+    else {
+        return Fattr3Read::Refused(r2.refusal());
+    };
+    let r3 = times_at(src, n2);
+    let TimesRead::Took {
+        value: times,
+        next: n3,
+    } = r3
+    else {
+        return Fattr3Read::Refused(r3.refusal());
+    };
+    let ftype = ids.ftype;
+    let rdev = sizes.rdev;
+    let atime = times.atime;
+    let mtime = times.mtime;
+    let ctime = times.ctime;
+    Fattr3Read::Took {
+        value: fattr3 {
+            ftype,
+            mode: ids.mode,
+            nlink: ids.nlink,
+            uid: ids.uid,
+            gid: ids.gid,
+            size: sizes.size,
+            used: sizes.used,
+            rdev,
+            fsid: sizes.fsid,
+            fileid: sizes.fileid,
+            atime,
+            mtime,
+            ctime,
+        },
+        next: n3,
+    }
+}
+
+// Where all of it is there, one test of room will do: the compiler then drops those of the fields. It would make one call of two calls of
+// one function, so the same body stands under two names.
+pub fn fattr3_at(src: &[u8], at: usize) -> Fattr3Read
+    ensures { λ r. ⌜ viewFattr3 r ≡ fattr .kind .read (now (src .entry)) at ⌝ }
+{
+    if src.len() < fattr3::SIZE {
+        return fattr3_short(src, at);
+    }
+    if src.len() - fattr3::SIZE < at {
+        return fattr3_short(src, at);
+    }
+    fattr3_whole(src, at)
 }
 
 pub fn wcc_attr_at(src: &[u8], at: usize) -> WccAttrRead

@@ -1,9 +1,9 @@
 -- Items that are read by the number in front, by the answer of the call that reads it: each law is in the shape of a reader's goal.
 -- Assumes nothing.
-use mathlib.Core.Path.{_≡_, refl, ap, _∙_}
+use mathlib.Core.Path.{_≡_, sym, refl, ap, _∙_}
 use mathlib.Core.Bool.{Bool, true, not}
 use mathlib.Core.List.{List}
-use Prim.Native.Nat.{ℕ, _+_, _*_, _-_, _/_, _≤_, _<_}
+use Prim.Native.Nat.{ℕ, _+_, _*_, _-_, _/_, _≤_, _<_, _%_}
 use native.Mathlib.Omega.{arith}
 use lib.Dec.{eqb, ltb}
 use lib.IntN.{ℤ}
@@ -74,3 +74,17 @@ module _ (s : List ℕ) (p n : ℕ) (h : p + 4 ≤ length s) where
   pub body-on : (b : Bool) → ((i : ℕ) → Fits w8 (getD s i 0)) → (n + 3) / 4 * 4 ≤ length s - p - 4
       → b ≡ lastZeros (numberAt 4 s (p + (n + 3) / 4 * 4)) ((n + 3) / 4 * 4 - n) → took (record { at = p + 4; count = n; clean = b }) (p + 4 + (n + 3) / 4 * 4) b ≡ pieceAnswer s p n
   body-on b given r f = body-took s (λ i. omega (arith, given i)) p n _ refl (omega arith) refl f
+
+  -- of whole words, which have no padding
+  module _ (even : n % 4 ≡ 0) where
+    whole : (n + 3) / 4 * 4 ≡ n
+    whole = omega arith
+
+    pub whole-off : (q : Refusal) → length s - p - 4 < n → q ≡ cutShort (4 + n) s p → refused q ≡ pieceAnswer s p n
+    whole-off q r f = body-off q (omega (arith, whole)) (f ∙ ap (λ k. cutShort (4 + k) s p) (sym whole))
+
+    pub whole-on : ((i : ℕ) → Fits w8 (getD s i 0)) → n ≤ length s - p - 4 → took (record { at = p + 4; count = n; clean = true }) (p + 4 + n) true ≡ pieceAnswer s p n
+    whole-on given r =
+        let none : (n + 3) / 4 * 4 - n ≡ 0 = omega (arith, whole) in
+        let z : true ≡ lastZeros (numberAt 4 s (p + (n + 3) / 4 * 4)) ((n + 3) / 4 * 4 - n) = sym (ap (lastZeros (numberAt 4 s (p + (n + 3) / 4 * 4))) none) in
+        ap (λ k. took (record { at = p + 4; count = n; clean = true }) (p + 4 + k) true) (sym whole) ∙ body-on true given (omega (arith, whole)) z

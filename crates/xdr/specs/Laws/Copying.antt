@@ -1,45 +1,39 @@
--- Bytes copied as numbers, and as two runs that may overlap.
+-- Bytes copied one by one, and as two runs that may overlap.
 -- Assumes nothing.
-use mathlib.Core.Path.{_≡_, sym, ap, ap₂, _∙_}
-use mathlib.Core.List.{List, _++_, append-assoc}
-use Prim.Native.Nat.{ℕ, _+_, _-_, _≤_}
+use mathlib.Core.Path.{_≡_, refl, sym, ap, ap₂, _∙_}
+use mathlib.Core.List.{List, [], _∷_, _++_, append-assoc}
+use Prim.Native.Nat.{ℕ, zero, suc, _+_, _-_, _≤_}
 use native.Mathlib.Omega.{arith}
+use native.Mathlib.Nat.{add-assoc}
 use lib.ListN.{length, getD, take, drop, take-append-drop, length-append, length-drop}
-use lib.Seq.{length-take-le, take-all, take-length, take-append-le, take-take, drop-append-add, drop-drop, take-add}
-use mir.Syntax.{w8}
-use mir.Val.{Fits}
+use lib.Seq.{length-take-le, take-all, take-length, take-append-le, take-take, drop-append-add, drop-drop, take-add, drop-cons, sets}
 use borrow.Rule.Slice.PartMut.{midOf, putMid}
-use Rattle.xdr.specs.Meaning.Bytes.{Bytes, digits, numberAt}
-use Rattle.xdr.specs.Meaning.Items.{hyper}
 use Rattle.xdr.specs.Meaning.Public.{laid}
-use Rattle.xdr.specs.Laws.Digits.{digits-value, value-at}
-use Rattle.xdr.specs.Laws.Lists.{bytes-take, bytes-drop, known-bytes}
-use Rattle.xdr.specs.Laws.Write.{lent-first, laid-at}
+use Rattle.xdr.specs.Laws.Write.{lent-first, laid-at, laid-is, put-same, put-sets}
 
--- the number that bytes write is written as those bytes
-module _ (k : ℕ) (s : List ℕ) (p : ℕ) (b : Bytes s) (h : p + k ≤ length s) where
-  pub run-long : length (take k (drop p s)) ≡ k
-  run-long = length-take-le k (drop p s) (omega (arith, length-drop p s))
+-- a run byte by byte
+abbrev runAt : ℕ → List ℕ → ℕ → List ℕ
+runAt zero s p = []
+runAt (suc k) s p = getD s p 0 ∷ runAt k s (p + 1)
 
-  pub run-digits : digits k (numberAt k s p) ≡ take k (drop p s)
-  run-digits =
-      let l : List ℕ = take k (drop p s) in
-      ap₂ digits (sym run-long) (sym (value-at k s p (omega arith))) ∙ digits-value l (bytes-take k (drop p s) (bytes-drop p s b))
+run-at : (k : ℕ) (s : List ℕ) (p : ℕ) → p + k ≤ length s → take k (drop p s) ≡ runAt k s p
+run-at zero s p h = refl
+run-at (suc k) s p h =
+    let next : suc p ≡ p + 1 = omega arith in
+    rw (drop-cons s p 0 (omega arith)) (ap (λ l. getD s p 0 ∷ l) (ap (λ i. take k (drop i s)) next ∙ run-at k s (p + 1) (omega arith)))
 
-pub eight-digits : (s : List ℕ) (p : ℕ) → Bytes s → p + 8 ≤ length s → {v : ℕ} → v ≡ numberAt 8 s p → hyper .kind .write v ≡ take 8 (drop p s)
-unfolding hyper
-eight-digits s p b h e = ap (digits 8) e ∙ run-digits 8 s p b h
-
--- the same of a slice, whose rule gives that it is bytes
-pub eight-known : (s : List ℕ) (p v : ℕ) → ((i : ℕ) → Fits w8 (getD s i 0)) → p + 8 ≤ length s → v ≡ numberAt 8 s p → hyper .kind .write v ≡ take 8 (drop p s)
-eight-known s p v given h e = eight-digits s p (known-bytes s given) h e
+-- the eight stores of a run
+pub eight-laid : (s : List ℕ) (p : ℕ) (xs : List ℕ) → p + 8 ≤ length s → 8 ≤ length xs
+    → sets xs 0 (getD s p 0 ∷ getD s (p + 1) 0 ∷ getD s (p + 2) 0 ∷ getD s (p + 3) 0 ∷ getD s (p + 4) 0 ∷ getD s (p + 5) 0 ∷ getD s (p + 6) 0 ∷ getD s (p + 7) 0 ∷ [])
+    ≡ laid (take 8 (drop p s)) xs
+eight-laid s p xs h g =
+    let bs : List ℕ = getD s p 0 ∷ getD s (p + 1) 0 ∷ getD s (p + 2) 0 ∷ getD s (p + 3) 0 ∷ getD s (p + 4) 0 ∷ getD s (p + 5) 0 ∷ getD s (p + 6) 0 ∷ getD s (p + 7) 0 ∷ [] in
+    let same : runAt 8 s p ≡ bs = simp add-assoc in
+    laid-is g (put-same {bs = bs} (sym (run-at 8 s p h ∙ same)) (put-sets bs xs g))
 
 -- a run inside is as long as it is to be
 pub run-size : (k m : ℕ) (s : List ℕ) (p : ℕ) → p + m ≤ length s → k ≤ m → k ≡ length (take k (drop p s))
 run-size k m s p h l = sym (length-take-le k (drop p s) (omega (arith, length-drop p s)))
-
-pub run-behind : (k j m : ℕ) (s : List ℕ) (p : ℕ) → p + m ≤ length s → j + k ≤ m → k ≡ length (take k (drop (p + j) s))
-run-behind k j m s p h l = sym (length-take-le k (drop (p + j) s) (omega (arith, length-drop (p + j) s)))
 
 -- two runs one behind the other
 pub two-runs : (i j : ℕ) (s : List ℕ) (p : ℕ) → take i (drop p s) ++ take j (drop (p + i) s) ≡ take (i + j) (drop p s)

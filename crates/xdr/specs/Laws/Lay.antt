@@ -16,7 +16,7 @@ use Rattle.xdr.specs.Meaning.Bytes.{padding, unsigned}
 use Rattle.xdr.specs.Meaning.Items.{number, word, hyper, flag, int, long, opaque}
 use Rattle.xdr.specs.Meaning.Pieces.{opaqueSize}
 use Rattle.xdr.specs.Meaning.Public.{laid}
-use Rattle.xdr.specs.Laws.Swap.{swapped, swapped-bytes}
+use Rattle.xdr.specs.Laws.Swap.{swapped, swapped-bytes, swapped64, swapped64-bytes}
 use Rattle.xdr.specs.Laws.Padding.{word-length, opaque-long, padded}
 use Rattle.xdr.specs.Laws.Lays.{after, tailOf}
 use Rattle.xdr.specs.Laws.Write.{Put, put-sets, put-same, laid-is, laid-at, lent-first, field, copy-put}
@@ -27,6 +27,14 @@ pub word-laid : (v : ℕ) {s : ℕ} (xs : List ℕ) → v < 4294967296 → s ≡
 word-laid v {s} xs h e g =
     laid-is g
     (put-same {bs = s % 256 ∷ s / 256 % 256 ∷ s / 65536 % 256 ∷ s / 16777216 ∷ []} (rw e (swapped-bytes v h)) (put-sets _ xs g))
+
+-- the eight stores of a hyper
+pub hyper-laid : (v : ℕ) {s : ℕ} (xs : List ℕ) → v < 18446744073709551616 → s ≡ swapped64 v → 8 ≤ length xs
+    → sets xs 0 (s % 256 ∷ s / 256 % 256 ∷ s / 65536 % 256 ∷ s / 16777216 % 256 ∷ s / 4294967296 % 256 ∷ s / 1099511627776 % 256 ∷ s / 281474976710656 % 256 ∷ s / 72057594037927936 ∷ [])
+    ≡ laid (hyper .kind .write v) xs
+hyper-laid v {s} xs h e g =
+    let bs : ℕ → List ℕ = λ s. s % 256 ∷ s / 256 % 256 ∷ s / 65536 % 256 ∷ s / 16777216 % 256 ∷ s / 4294967296 % 256 ∷ s / 1099511627776 % 256 ∷ s / 281474976710656 % 256 ∷ s / 72057594037927936 ∷ [] in
+    laid-is g (put-same {bs = bs s} (ap bs e ∙ swapped64-bytes v h) (put-sets (bs s) xs g))
 
 -- behind n bytes, what a zero word laid at n + k leaves of them is k zeros
 zero-end : (k : ℕ) (l : List ℕ) → k < 4 → drop (4 - k) (0 ∷ 0 ∷ 0 ∷ 0 ∷ l) ≡ replicate k 0 ++ l

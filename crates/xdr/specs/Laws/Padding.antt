@@ -4,7 +4,7 @@ use mathlib.Core.Path.{_≡_, refl, sym, ap, ap₂, _∙_}
 use mathlib.Core.Bool.{Bool, true, false, cond, _&&_, and-true}
 use mathlib.Core.List.{List, _++_}
 use Prim.Native.Nat.{ℕ, zero, suc, _+_, _-_, _*_, _/_, _%_, _<_, _≤_}
-use native.Mathlib.Nat.{add-assoc}
+use native.Mathlib.Nat.{add-assoc, mul-add-mod-self-right}
 use native.Mathlib.Numerals.{add-one}
 use native.Mathlib.Omega.{arith}
 use lib.Dec.{eqb, leb}
@@ -27,18 +27,81 @@ lastZeros w (suc zero) = eqb (w % 256) 0
 lastZeros w (suc (suc zero)) = eqb (w % 65536) 0
 lastZeros w (suc (suc (suc k))) = eqb (w % 16777216) 0
 
-pub last-rest : (w k : ℕ) → (k ≡ 0 → ⊥) → (k ≡ 1 → ⊥) → (k ≡ 2 → ⊥) → eqb (w % 16777216) 0 ≡ lastZeros w k
-last-rest w zero a b c = absurd (a refl)
-last-rest w (suc zero) a b c = absurd (b refl)
-last-rest w (suc (suc zero)) a b c = absurd (c refl)
-last-rest w (suc (suc (suc k))) a b c = refl
+-- by what a word is multiplied to move its low k bytes to the top of a word
+abbrev pub lifting : ℕ → ℕ
+lifting zero = 0
+lifting (suc zero) = 16777216
+lifting (suc (suc zero)) = 65536
+lifting (suc (suc (suc k))) = 256
 
-pub last-none : (w k : ℕ) → k ≡ 0 → true ≡ lastZeros w k
-last-none w k e = sym (ap (lastZeros w) e)
+pub lifting-is : (k j n : ℕ) → k < 4 → j ≡ k % 4 → j ≡ n → lifting n ≡ lifting k
+lifting-is k j n h e f = let g : n ≡ k = omega arith in ap lifting g
 
--- of a word that was read, and of the word that it is
-pub last-read : (w v k : ℕ) (b : Bool) → w ≡ v → b ≡ lastZeros w k → b ≡ lastZeros v k
-last-read w v k b e f = f ∙ ap (λ (x : ℕ). lastZeros x k) e
+pub lifting-rest : (k j : ℕ) → k < 4 → j ≡ k % 4 → (j ≡ 0 → ⊥) → (j ≡ 1 → ⊥) → (j ≡ 2 → ⊥) → 256 ≡ lifting k
+lifting-rest k j h e a b c = let g : 3 ≡ k = omega (arith, a, b, c) in ap lifting g
+
+-- numbers that are zero together
+both-zero : (a b : ℕ) → (b ≡ 0 → a ≡ 0) → (a ≡ 0 → b ≡ 0) → eqb a 0 ≡ eqb b 0
+both-zero a b f g = by (eqb b 0) refl
+  where
+    by : (z : Bool) → eqb b 0 ≡ z → eqb a 0 ≡ z
+    by true e = eq-eqb a 0 (f (eqb-true b 0 e))
+    by false e = ne-eqb a 0 (λ h. eqb-false b 0 e (g h))
+
+module _ (w : ℕ) where
+  pub lifted-fits : (k : ℕ) → w < 4294967296 → w * lifting k < 18446744073709551616
+  lifted-fits zero h = omega arith
+  lifted-fits (suc zero) h = omega arith
+  lifted-fits (suc (suc zero)) h = omega arith
+  lifted-fits (suc (suc (suc k))) h = omega arith
+
+  low-1 : w * 16777216 % 4294967296 ≡ w % 256 * 16777216
+  low-1 =
+      let split : w * 16777216 ≡ w / 256 * 4294967296 + w % 256 * 16777216 = omega arith in
+      let small : w % 256 * 16777216 % 4294967296 ≡ w % 256 * 16777216 = omega arith in
+      ap (λ x. x % 4294967296) split ∙ mul-add-mod-self-right (w / 256) 4294967296 (w % 256 * 16777216) ∙ small
+
+  low-2 : w * 65536 % 4294967296 ≡ w % 65536 * 65536
+  low-2 =
+      let split : w * 65536 ≡ w / 65536 * 4294967296 + w % 65536 * 65536 = omega arith in
+      let small : w % 65536 * 65536 % 4294967296 ≡ w % 65536 * 65536 = omega arith in
+      ap (λ x. x % 4294967296) split ∙ mul-add-mod-self-right (w / 65536) 4294967296 (w % 65536 * 65536) ∙ small
+
+  low-3 : w * 256 % 4294967296 ≡ w % 16777216 * 256
+  low-3 =
+      let split : w * 256 ≡ w / 16777216 * 4294967296 + w % 16777216 * 256 = omega arith in
+      let small : w % 16777216 * 256 % 4294967296 ≡ w % 16777216 * 256 = omega arith in
+      ap (λ x. x % 4294967296) split ∙ mul-add-mod-self-right (w / 16777216) 4294967296 (w % 16777216 * 256) ∙ small
+
+  pub lifted : (k : ℕ) → eqb (w * lifting k % 4294967296) 0 ≡ lastZeros w k
+  lifted zero = eq-eqb (w * 0 % 4294967296) 0 (omega arith)
+  lifted (suc zero) = ap (λ z. eqb z 0) low-1 ∙ both-zero (w % 256 * 16777216) (w % 256) (λ h. omega arith) (λ h. omega arith)
+  lifted (suc (suc zero)) = ap (λ z. eqb z 0) low-2 ∙ both-zero (w % 65536 * 65536) (w % 65536) (λ h. omega arith) (λ h. omega arith)
+  lifted (suc (suc (suc k))) = ap (λ z. eqb z 0) low-3 ∙ both-zero (w % 16777216 * 256) (w % 16777216) (λ h. omega arith) (λ h. omega arith)
+
+-- the same, of the numbers that the code has
+pub zeros-fit : (w x y k : ℕ) → (x ≡ w) × (x < 4294967296) → y ≡ lifting k → x * y < 18446744073709551616
+zeros-fit w x y k e f = rw f (lifted-fits x k (e .1))
+
+pub zeros-told : (w x y k : ℕ) → (x ≡ w) × (x < 4294967296) → y ≡ lifting k → eqb (x * y % 4294967296) 0 ≡ lastZeros w k
+zeros-told w x y k e f = ap₂ (λ a b. eqb (a * b % 4294967296) 0) (e .0) f ∙ lifted w k
+
+-- of no bytes, it matters not which word is read
+pub if-none : (k a b : ℕ) → k ≡ 0 → a ≡ cond (eqb k 0) a b
+if-none k a b h = sym (ap (λ z. cond z a b) (eq-eqb k 0 h))
+
+pub if-some : (k a b : ℕ) → (k ≡ 0 → ⊥) → b ≡ cond (eqb k 0) a b
+if-some k a b h = sym (ap (λ z. cond z a b) (ne-eqb k 0 h))
+
+pub other-in : (k a b n r : ℕ) → r ≡ cond (eqb k 0) a b → a + 4 ≤ n → b + 4 ≤ n → r + 4 ≤ n
+other-in zero a b n r e h g = omega arith
+other-in (suc k) a b n r e h g = let f : r ≡ b = e ∙ sym (if-some (suc k) a b (λ z. omega arith)) in omega arith
+
+pub other-zeros : (k a b w q : ℕ) (s : List ℕ) {z : Bool} → q ≡ cond (eqb k 0) a b → w ≡ numberAt 4 s q → z ≡ lastZeros w k → z ≡ lastZeros (numberAt 4 s b) k
+other-zeros zero a b w q s e f g = g
+other-zeros (suc k) a b w q s e f g =
+    let h : q ≡ b = e ∙ sym (if-some (suc k) a b (λ z. omega arith)) in
+    g ∙ ap (λ x. lastZeros x (suc k)) (f ∙ ap (numberAt 4 s) h)
 
 -- n bytes with their padding are n rounded up to a multiple of four
 pub padded : (n : ℕ) → (n + 3) / 4 * 4 ≡ n + padding n

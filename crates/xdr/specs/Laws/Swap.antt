@@ -1,4 +1,4 @@
--- A word in the other order of its bytes.
+-- A word, and a hyper, in the other order of their bytes.
 -- Assumes nothing.
 use mathlib.Core.Path.{_≡_, ap₂, _∙_}
 use mathlib.Core.List.{List, [], _∷_, _++_}
@@ -12,6 +12,10 @@ use Rattle.xdr.specs.Laws.Digits.{digits-append, number-halves}
 
 abbrev pub swapped : ℕ → ℕ
 swapped v = v % 256 * 16777216 + v / 256 % 256 * 65536 + v / 65536 % 256 * 256 + v / 16777216
+
+-- the same of the eight bytes of a hyper
+abbrev pub swapped64 : ℕ → ℕ
+swapped64 v = swapped (v % 4294967296) * 4294967296 + swapped (v / 4294967296)
 
 -- four bytes, low byte first, as a number
 abbrev pub little : ℕ → ℕ → ℕ → ℕ → ℕ
@@ -77,3 +81,53 @@ swapped-bytes v h =
 pub hyper-words : (v : ℕ) → v < 18446744073709551616 → word .kind .write (v / 4294967296) ++ word .kind .write (v % 4294967296) ≡ hyper .kind .write v
 unfolding word hyper number
 hyper-words v h = digits-append 4 4 v h
+
+-- the bytes of two words side by side, low byte first
+module _ (a b : ℕ) (ha : a < 4294967296) (hb : b < 4294967296) where
+  half-0 : (b * 4294967296 + a) % 256 ≡ a % 256
+  half-0 = omega arith
+
+  half-1 : (b * 4294967296 + a) / 256 % 256 ≡ a / 256 % 256
+  half-1 = omega arith
+
+  half-2 : (b * 4294967296 + a) / 65536 % 256 ≡ a / 65536 % 256
+  half-2 = omega arith
+
+  half-3 : (b * 4294967296 + a) / 16777216 % 256 ≡ a / 16777216
+  half-3 = omega arith
+
+  half-4 : (b * 4294967296 + a) / 4294967296 % 256 ≡ b % 256
+  half-4 = omega arith
+
+  half-5 : (b * 4294967296 + a) / 1099511627776 % 256 ≡ b / 256 % 256
+  half-5 = omega arith
+
+  half-6 : (b * 4294967296 + a) / 281474976710656 % 256 ≡ b / 65536 % 256
+  half-6 = omega arith
+
+  half-7 : (b * 4294967296 + a) / 72057594037927936 ≡ b / 16777216
+  half-7 = omega arith
+
+  half-bytes : (b * 4294967296 + a) % 256 ∷ (b * 4294967296 + a) / 256 % 256 ∷ (b * 4294967296 + a) / 65536 % 256 ∷ (b * 4294967296 + a) / 16777216 % 256
+      ∷ (b * 4294967296 + a) / 4294967296 % 256 ∷ (b * 4294967296 + a) / 1099511627776 % 256 ∷ (b * 4294967296 + a) / 281474976710656 % 256
+      ∷ (b * 4294967296 + a) / 72057594037927936 ∷ []
+      ≡ (a % 256 ∷ a / 256 % 256 ∷ a / 65536 % 256 ∷ a / 16777216 ∷ []) ++ (b % 256 ∷ b / 256 % 256 ∷ b / 65536 % 256 ∷ b / 16777216 ∷ [])
+  half-bytes = simp (half-0, half-1, half-2, half-3, half-4, half-5, half-6, half-7)
+
+swapped-lt : (v : ℕ) → v < 4294967296 → swapped v < 4294967296
+swapped-lt v h = omega arith
+
+-- the bytes of a hyper that was swapped, low byte first
+pub swapped64-bytes : (v : ℕ) → v < 18446744073709551616
+    → swapped64 v % 256 ∷ swapped64 v / 256 % 256 ∷ swapped64 v / 65536 % 256 ∷ swapped64 v / 16777216 % 256 ∷ swapped64 v / 4294967296 % 256
+    ∷ swapped64 v / 1099511627776 % 256 ∷ swapped64 v / 281474976710656 % 256 ∷ swapped64 v / 72057594037927936 ∷ [] ≡ hyper .kind .write v
+swapped64-bytes v h =
+    let high : v / 4294967296 < 4294967296 = omega arith in
+    let low : v % 4294967296 < 4294967296 = omega arith in
+    half-bytes (swapped (v / 4294967296)) (swapped (v % 4294967296)) (swapped-lt (v / 4294967296) high) (swapped-lt (v % 4294967296) low)
+    ∙ ap₂ (λ x y. x ++ y) (swapped-bytes (v / 4294967296) high) (swapped-bytes (v % 4294967296) low) ∙ hyper-words v h
+
+-- what swapping the two words in turn gives
+pub swap64-is : (v x y low high : ℕ) → (x ≡ low) × (x < 4294967296) → (y ≡ high) × (y < 4294967296) → low ≡ swapped (v % 4294967296)
+    → high ≡ swapped (v / 4294967296) → x * 4294967296 + y ≡ swapped64 v
+swap64-is v x y low high e f g h = ap₂ (λ x y. x * 4294967296 + y) (e .0 ∙ g) (f .0 ∙ h)

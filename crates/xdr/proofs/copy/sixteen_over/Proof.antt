@@ -1,5 +1,5 @@
 use borrow.Author.Needs.{needs}
-use Rattle.xdr.specs.Laws.Copying.{run-size, run-behind, two-runs}
+use Rattle.xdr.specs.Laws.Copying.{run-size, two-runs}
 use Rattle.xdr.specs.Laws.Lays.{lay-two}
 use Rattle.xdr.proofs.copy.sixteen_over.Statement.{statement}
 use Rattle.xdr.proofs.copy.sixteen_over.Tie as tie
@@ -9,4 +9,4 @@ sixteen-over-spec =
     tie.close
     (tie.spec
     (search needs) (search needs) (search needs) (search needs) (search needs) (search needs) (search needs) (search needs)
-    (search needs) (search needs) (λ c. search (needs, lay-two, two-runs 8 8, run-size, run-behind)))
+    (search needs) (search needs) (λ c. search (needs, lay-two, two-runs 8 8, run-size)))

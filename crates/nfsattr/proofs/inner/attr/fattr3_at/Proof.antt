@@ -1,15 +1,6 @@
 use borrow.Author.Needs.{needs}
-use Rattle.xdr.specs.Laws.Records.{by-plan}
-use Rattle.nfsattr.specs.Meaning.Attr.{fattr}
-use Rattle.nfsattr.specs.Laws.Plans.{fattr-plan, attr-asks}
 use Rattle.nfsattr.proofs.inner.attr.fattr3_at.Statement.{statement}
 use Rattle.nfsattr.proofs.inner.attr.fattr3_at.Tie as tie
 
 pub fattr3-at-spec : {M : Type 1} → statement M
-unfolding fattr
-fattr3-at-spec =
-    tie.close
-    (tie.spec
-    (search needs) (search needs) (search needs) (search needs) (λ c. search (by-plan fattr-plan, attr-asks) depth 20) (search needs)
-    (search needs) (search needs) (search needs) (λ c. search (by-plan fattr-plan, attr-asks) depth 20) (search needs) (search needs)
-    (search needs) (search needs) (λ c. search (by-plan fattr-plan, attr-asks) depth 20) (λ c. search (by-plan fattr-plan, attr-asks) depth 20))
+fattr3-at-spec = tie.close (tie.spec (search needs) (λ c. search needs) (search needs) (search needs) (λ c. search needs) (search needs) (λ c. search needs))
