@@ -161,16 +161,48 @@ static void mark(enum yugerzat_kind kind, const uint8_t *src, size_t count, size
     }
 }
 
+/* The functions of each kind by itself. */
+typedef enum yugerzat_answer rewrites(
+    const uint8_t *src, size_t src_len, size_t at, uint8_t *out, size_t out_len, uint64_t *list, size_t list_len);
+typedef enum yugerzat_answer judges(const uint8_t *src, size_t src_len, size_t at, uint64_t *list, size_t list_len);
+#define REWRITES(kind) yugerzat_rewrite_##kind,
+#define JUDGES(kind) yugerzat_judge_##kind,
+static rewrites *const rewrite_of[] = {YUGERZAT_EACH_KIND(REWRITES)};
+static judges *const judge_of[] = {YUGERZAT_EACH_KIND(JUDGES)};
+
+/* What a kind's own functions do: what those do that take its number, into a buffer that held the same before. */
+static void by_itself(enum yugerzat_kind kind, const uint8_t *src, size_t count, size_t at, uint8_t *own,
+    const uint8_t *to, size_t room, enum yugerzat_answer judgement, const uint64_t *judged, enum yugerzat_answer answer)
+{
+    uint64_t list[FIGURES];
+    memset(list, 0xEE, sizeof list);
+    CHECK(judge_of[kind](src, count, at, list, YUGERZAT_FIGURES_JUDGE) == judgement &&
+          memcmp(list, judged, sizeof list) == 0);
+    memset(list, 0xEE, sizeof list);
+    CHECK(
+        judge_of[kind](src, count, at, list, 2) == YUGERZAT_SHORT_LIST && list[0] == UNTOUCHED && list[2] == UNTOUCHED);
+    CHECK(rewrite_of[kind](src, count, at, own, room, list, 2) == YUGERZAT_SHORT_LIST && list[0] == UNTOUCHED);
+    CHECK(rewrite_of[kind](src, count, at, own, room, list, YUGERZAT_FIGURES_REWRITE) == answer);
+    CHECK(memcmp(list, info, YUGERZAT_FIGURES_REWRITE * sizeof *list) == 0 &&
+          list[YUGERZAT_FIGURES_REWRITE] == UNTOUCHED);
+    CHECK(room == 0 || memcmp(own, to, room) == 0);
+}
+
 /* Rewrites, and holds what judging says to that: it differs where there is no room, and then says what is needed. */
 static enum yugerzat_answer rewrite(
     enum yugerzat_kind kind, const uint8_t *src, size_t count, size_t at, uint8_t *to, size_t room)
 {
+    static uint8_t own[BUFFER];
     uint64_t judged[FIGURES];
     enum yugerzat_answer answer, judgement;
     memset(judged, 0xEE, sizeof judged);
     judgement = yugerzat_judge(kind, src, count, at, judged, YUGERZAT_FIGURES_JUDGE);
     mark(kind, src, count, at, judgement, judged);
+    if (room > 0 && room <= sizeof own)
+        memcpy(own, to, room);
     answer = yugerzat_rewrite(kind, src, count, at, to, room, info, YUGERZAT_FIGURES_REWRITE);
+    if (room <= sizeof own && (uint32_t)kind < YUGERZAT_KINDS)
+        by_itself(kind, src, count, at, own, to, room, judgement, judged, answer);
     if (answer == YUGERZAT_NO_ROOM) {
         CHECK(judgement == YUGERZAT_DONE && judged[YUGERZAT_FIGURE_JUDGE_SIZE] > room);
         CHECK(judged[YUGERZAT_FIGURE_JUDGE_SIZE] == info[YUGERZAT_FIGURE_REWRITE_SIZE]);
@@ -339,14 +371,18 @@ static void test_marks(void)
     dirty(YUGERZAT_KIND_LOOKUP3ARGS, "00000001AA00000000000001BB0000CC", 2, " what.name");
     dirty(YUGERZAT_KIND_POST_OP_FH3, "0000000100000003AABBCC01", 1, " handle.data");
     dirty(YUGERZAT_KIND_MOUNTRES3, "0000000000000001AA0000FF0000000100000001", 2, " fhandle");
-    dirty(YUGERZAT_KIND_EXPORTS, "00000001000000012F00000000000001000000016200000100000000" "00000000", 1, " exports");
+    dirty(YUGERZAT_KIND_EXPORTS,
+        "00000001000000012F00000000000001000000016200000100000000"
+        "00000000",
+        1, " exports");
     /* An odd flag, a stray tag: no piece is dirty. */
     dirty(YUGERZAT_KIND_BOOL, "00000002", 0, "");
     dirty(YUGERZAT_KIND_POST_OP_FH3, "0000000200000003AABBCC00", 1, "");
     dirty(YUGERZAT_KIND_RPC_MSG, "0000002A00000002", 2, "");
     dirty(YUGERZAT_KIND_REPLY_BODY, "00000002", 1, "");
     CHECK(yugerzat_piece_name(YUGERZAT_KIND_RPC_MSG, 2, 0) && !yugerzat_piece_name(YUGERZAT_KIND_RPC_MSG, 3, 0));
-    CHECK(!yugerzat_piece_name(YUGERZAT_KIND_BOOL, 1, 0) && !yugerzat_piece_name((enum yugerzat_kind)YUGERZAT_KINDS, 1, 0));
+    CHECK(!yugerzat_piece_name(YUGERZAT_KIND_BOOL, 1, 0) &&
+          !yugerzat_piece_name((enum yugerzat_kind)YUGERZAT_KINDS, 1, 0));
 }
 
 static void test_kinds(void)

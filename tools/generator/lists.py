@@ -63,6 +63,12 @@ def outputs(root):
         own = [fact for fact in facts if fact.kind.crate in of and copiers[fact.kind.name] == fact.kind.name]
         made.append((f"crates/door/src/{file}.rt", copier_file(comment, own, order)))
         made += [(f"crates/door/proofs/{file}/copy_{fact.kind.name}/Proof.antt", copier_proof(file, fact)) for fact in own]
+    made += [(f"crates/door/src/{export.name}.rt", export_file(export, kinds, copiers)) for export in EXPORTS]
+    made += [
+        (f"crates/door/proofs/{export.name}/{export.function(kind)}/Proof.antt", export_proof(export, kind))
+        for export in EXPORTS
+        for kind in kinds
+    ]
     made.append(("crates/door/src/lib.rt", "copiers", modules()))
     made.append(("crates/door/src/kinds.rt", kinds_file(kinds, groups, copiers)))
     made += [(f"crates/door/proofs/kinds/{group.function}/Proof.antt", group_proof(group)) for group in groups]
@@ -76,6 +82,8 @@ def outputs(root):
     made += piece_lists(read_pieces(root, kinds))
     made += versions(root)
     made.append(("rust/yugerzat/src/kind.rs", "kinds", rust_list(kinds)))
+    rows = (f"    yugerzat_rewrite_{kind.name} yugerzat_judge_{kind.name}," for kind in kinds)
+    made.append(("rust/yugerzat/src/sys.rs", "functions of each kind", lines("of_each_kind! {", *rows, "}")))
     made.append(("crates/answers/src/kinds.rt", "kinds", words_list(kinds)))
     made.append(("crates/answers/src/usage.rt", "names", usage_list(kinds)))
     return made
@@ -147,7 +155,7 @@ def copier_file(comment, facts, order):
     ghosts = [EXACTLY] if any(fact.kind.exact for fact in facts) else []
     ghosts += uses([fact.meaning for fact in facts], order)
     ghosts.append("Rattle.door.specs.Meaning.Copy.{viewCopied, Copies}")
-    items = ["crate::copy::Copied", "crate::copy::copied_to"] + [f"{fact.answer_crate}::{fact.answer}" for fact in facts]
+    items = ["crate::copy::Copied", "crate::copy::copied_to", "crate::copy::write_span"] + [f"{fact.answer_crate}::{fact.answer}" for fact in facts]
     items += [] if all(map(has_pieces, facts)) else ["xdr::Marks"]
     return lines(
         f"// {HEADER}",
@@ -179,55 +187,85 @@ def signature(head, parameters):
     return [f"{head}(", *(f"    {parameter}," for parameter in parameters), ") -> Copied"]
 
 
+def call(indent, head, arguments, end):
+    """A call. `rt fmt` breaks a line over 100 signs, and a call with over 60 of arguments."""
+    joined = ", ".join(arguments)
+    if len(joined) <= 60 and len(f"{indent}{head}({joined}){end}") <= 100:
+        return [f"{indent}{head}({joined}){end}"]
+    return [f"{indent}{head}(", *(f"{indent}    {argument}," for argument in arguments), f"{indent}){end}"]
+
+
 def took(fact):
-    """The arm of a reading that was taken. `rt fmt` breaks a line over 100 signs, and a call with over 60 of arguments."""
+    """The arm of a reading that was taken. What was plain is copied as it stands, and only what was not is written anew."""
+    span = "write_span(src, at, n, out, start)"
     write = f"{fact.called}::write_{fact.kind.name}({'src, ' if fact.source else ''}v, out, start)"
     marks = "v.marks()" if has_pieces(fact) else "Marks::None"
-    if fact.plain:
-        front = [f"        {fact.answer}::Took {{", "            value: v,", "            next: n,", "            plain: p,"]
-        head, arguments = "        } => copied_to(", ("n", "p", marks, write)
-    else:
-        front = []
-        head, arguments = f"        {fact.answer}::Took {{ value: v, next: n }} => copied_to(", ("n", "true", marks, write)
-    joined = ", ".join(arguments)
-    if len(joined) <= 60 and len(f"{head}{joined}),") <= 100:
-        return [*front, f"{head}{joined}),"]
-    return [*front, head, *(f"            {argument}," for argument in arguments), "        ),"]
+    if not fact.plain:
+        value = "v" if has_pieces(fact) else "_"
+        head = f"{fact.answer}::Took {{ value: {value}, next: n }} => copied_to"
+        return call(" " * 8, head, ("n", "true", marks, span), ",")
+    return [
+        f"        {fact.answer}::Took {{",
+        "            value: v,",
+        "            next: n,",
+        "            plain: p,",
+        "        } => {",
+        "            if p {",
+        *call(" " * 16, "return copied_to", ("n", "p", marks, span), ";"),
+        "            }",
+        *call(" " * 12, "copied_to", ("n", "p", marks, write), ""),
+        "        }",
+    ]
 
 
-def reading_law(fact):
-    """The law that what was read and written is the copy, and what the proof is to search with."""
+def span_law(fact):
+    """The law that the bytes of what was plain are the copy, what the proof is to search with, and what that takes from elsewhere."""
+    kind, view = fact.kind, fact.view.name
+    if kind.exact:
+        none = "Rattle.xdr.specs.Laws.Unpadded.{no-marks}"
+        return "bare-read", f"(bare-read {kind.format} (no-marks {kind.meaning}) {view})", [none]
+    if not has_pieces(fact):
+        return "bare-read", f"(bare-read {kind.format} eight-marks {view})", []
+    if fact.marks:
+        return "span-read", f"(span-read {kind.format} {view}, {fact.marks.name})", [f"{fact.marks.module}.{{{fact.marks.name}}}"]
+    return "span-read", f"(span-read {kind.format} {view})", []
+
+
+def written_law(fact):
+    """The law that what was read and written anew is the copy, and what the proof is to search with."""
     meaning, view = fact.kind.meaning, fact.view.name
     marks = f", {fact.marks.name}" if fact.marks else ""
-    if fact.kind.exact and fact.meaning.type == "Codec ℤ":
-        return "signed-read", f"(signed-read {meaning} {view} Took, toZ-ofZ, needs)"
     if fact.kind.exact:
         return "plain-read", f"(plain-read {meaning} {view})"
-    if meaning == "eightBytes":
-        return "eight-read", "eight-read"
     if fact.bounded:
         return "bounded-read", f"(bounded-read {fact.bounded.name} {view}{marks})"
     return "was-read", f"(was-read {meaning} {view}{marks})"
 
 
 def copier_proof(file, fact):
-    """What was refused, and what was taken, is as the contract says."""
+    """What was refused, what was plain, and what was written anew is as the contract says."""
     kind, view = fact.kind, fact.view.name
-    law, given = reading_law(fact)
-    signed = law == "signed-read"
-    imports = ["borrow.Author.Needs.{needs}"]
-    imports += ["mir.ValLaws.{toZ-ofZ}"] if signed else []
-    imports.append(f"{fact.meaning.module}.{{{kind.meaning}}}")
+    law, given = written_law(fact)
+    span, stood, taken = span_law(fact)
+    copy = ["not-read", law] if fact.plain else ["not-read"]
+    spans = sorted(["span-in", span] + (["eight-marks"] if kind.meaning == "eightBytes" else []))
+    imports = ["borrow.Author.Needs.{needs}", f"{fact.meaning.module}.{{{kind.meaning}}}"]
     imports += [EXACTLY] if kind.exact else []
     imports.append(f"{fact.view.module}.{{{view}}}")
-    imports += [f"{fact.bounded.module}.{{{fact.bounded.name}}}"] if fact.bounded else []
-    imports += [f"{fact.marks.module}.{{{fact.marks.name}}}"] if fact.marks else []
-    imports += [f"{fact.answer_module}.the-variants.{{Took}}"] if signed else []
-    imports.append(f"Rattle.door.specs.Laws.Copy.{{not-read, {law}}}")
-    needs = " ".join(["(search needs)"] * (6 if has_pieces(fact) else 5))
-    refused = f"(λ c. search (not-read {kind.format} {view}))"
-    term = f"tie.close (tie.spec {needs} {refused} (search needs) (λ c. search {given}))"
-    return proof(file, f"copy_{kind.name}", imports, [term])
+    imports += [f"{fact.bounded.module}.{{{fact.bounded.name}}}"] if fact.bounded and fact.plain else []
+    imports += taken
+    imports.append(f"Rattle.door.specs.Laws.Copy.{{{', '.join(copy)}}}")
+    imports.append(f"Rattle.door.specs.Laws.Span.{{{', '.join(spans)}}}")
+    needs = ["(search needs)"]
+    pieces = needs if has_pieces(fact) else []
+    inside = [f"(λ c κs. search (span-in {kind.format} {view}))"]
+    refused = [f"(λ c. search (not-read {kind.format} {view}))"]
+    plain, anew = [f"(λ c. search {stood})"], [f"(λ c. search {given})"]
+    if fact.plain:
+        answers = [*pieces, *inside, *needs * 2, *plain, *pieces, *needs * 2, *refused, *needs, *anew]
+    else:
+        answers = [*pieces, *inside, *needs, *refused, *needs, *plain]
+    return proof(file, f"copy_{kind.name}", imports, [f"tie.close (tie.spec {' '.join(needs * 3 + answers)})"])
 
 
 def proof(file, function, imports, term, laws=()):
@@ -248,6 +286,88 @@ def proof(file, function, imports, term, laws=()):
 
 def modules():
     return lines(*(f"mod {name};" for name in sorted_paths([file for file, _, _ in COPIERS] + ["kinds"])))
+
+
+# ---------------------------------------------------------------- the exported functions of each kind
+
+
+class Export:
+    """A function that the door exports for each kind, beside the one that takes a kind's number. It promises what that one does."""
+
+    def __init__(self, name, comment, called, tell, out):
+        self.name, self.comment, self.called, self.tell, self.out = name, comment, called, tell, out
+        self.parameters = ("src: &[u8]", "at: usize", *(["out: &mut [u8]"] if out else []), "info: &mut [u64]")
+
+    def function(self, kind):
+        return f"yugerzat_{self.name}_{kind.name}"
+
+
+EXPORTS = (
+    Export(
+        "rewrite",
+        "`yugerzat_rewrite` for each kind by itself: it does the same, and need not find the kind by its number.",
+        "RewriteCalled",
+        "tell_copied",
+        True,
+    ),
+    Export(
+        "judge",
+        "`yugerzat_judge` for each kind by itself.",
+        "JudgeCalled",
+        "tell_judged",
+        False,
+    ),
+)
+
+
+def export_file(export, kinds, copiers):
+    by_name = {kind.name: kind for kind in kinds}
+    called = {f"crate::{file_of(by_name[name])}::copy_{name}" for name in copiers.values()}
+    items = {"crate::exports::SHORT_LIST", f"crate::exports::{export.tell}", *called}
+    return lines(
+        f"// {HEADER}",
+        f"// {export.comment}",
+        f"ghost use Rattle.door.specs.Meaning.Exports.{{{export.called}}};",
+        *(f"use {item};" for item in sorted_paths(items)),
+        *(line for kind in kinds for line in export_function(export, kind, copiers[kind.name])),
+    )
+
+
+def export_function(export, kind, copier):
+    left = "(now (info .entry)) r "
+    if export.out:
+        promise = f"{export.called} {kind.number} (now (src .entry)) at (now (out .entry)) {left}(now (out .exit)) (now (info .exit))"
+        body = [f"    let c = copy_{copier}(src, at, out, 0);"]
+    else:
+        promise = f"{export.called} {kind.number} (now (src .entry)) at {left}(now (info .exit))"
+        body = ["    let mut none: [u8; 1] = [0];", f"    let c = copy_{copier}(src, at, &mut none[0..0], 0);"]
+    head = f'pub extern "C" fn {export.function(kind)}({", ".join(export.parameters)}) -> u32'
+    broken = [f'pub extern "C" fn {export.function(kind)}(', *(f"    {parameter}," for parameter in export.parameters), ") -> u32"]
+    return [
+        "",
+        "#[no_mangle]",
+        *([head] if len(head) <= 100 else broken),
+        f"    ensures {{ λ r. ⌜ {promise} ⌝ }}",
+        "{",
+        "    if info.len() < 3 {",
+        "        return SHORT_LIST;",
+        "    }",
+        *body,
+        f"    {export.tell}(c, info)",
+        "}",
+    ]
+
+
+def export_proof(export, kind):
+    """That of the function that takes a number, at this one."""
+    imports = [
+        "borrow.Author.Needs.{needs}",
+        f"Rattle.door.specs.Laws.Exports.{{{export.name}-short, {export.name}-told}}",
+    ]
+    short = f"(λ c. search ({export.name}-short, needs))"
+    told = f"(λ c. search ({export.name}-told {kind.number}, needs))"
+    needs = ["(search needs)"] * (4 if export.out else 6)
+    return proof(export.name, export.function(kind), imports, [f"tie.close (tie.spec {' '.join([short, *needs, told])})"])
 
 
 # ---------------------------------------------------------------- the kinds by their numbers
@@ -440,14 +560,23 @@ def worked_kinds(facts, order, by_zero):
 
 
 def header_lists(kinds):
-    """The enumeration of the kinds with their count, and their names in the same order."""
+    """The enumeration of the kinds with their count, their names in the same order, and the functions of each."""
     rows = [f"    YUGERZAT_KIND_{kind.name.upper()} = {kind.number},{NOTES.get(kind.name, '')}" for kind in kinds]
     count = f"#define YUGERZAT_KINDS {len(kinds)} /* how many there are: their numbers are below this */"
     names = [f'        "{kind.name}",' for kind in kinds]
     return [
         (C_HEADER, "kinds", lines("enum yugerzat_kind YUGERZAT_32_BITS {", *rows, "};", count)),
         (C_HEADER, "kind names", lines(*names)),
+        ("include/yugerzat_list.h", "each kind", each_kind(kinds)),
     ]
+
+
+def each_kind(kinds):
+    """A macro over the names of the kinds, whose lines end in one column."""
+    rows = ["#define YUGERZAT_EACH_KIND(with)", *(f"    with({kind.name})" for kind in kinds)]
+    width = max(map(len, rows[:-1])) + 1
+    comment = "/* Each kind by its name, in the order of the numbers: with(bool) with(i32) .. */"
+    return lines("/* clang-format off */", comment, *(f"{row:{width}}\\" for row in rows[:-1]), rows[-1], "/* clang-format on */")
 
 
 def piece_lists(pieces):

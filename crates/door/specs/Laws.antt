@@ -7,6 +7,7 @@ pub mod Given
 pub mod One
 pub mod Again
 pub mod Replies
+pub mod Span
 pub mod Judged
 pub mod Streams
 pub mod Mounting

@@ -1,11 +1,13 @@
 // What copying a message answers: it is read from one buffer and written, in published form, into another.
 ghost use mathlib.Core.Path.{_≡_};
 ghost use mathlib.Core.List.{[], _∷_};
+ghost use Rattle.xdr.specs.Meaning.Bytes.{part};
 ghost use Rattle.xdr.specs.Meaning.Views.{viewMarks, viewWrote};
-ghost use Rattle.door.specs.Meaning.Copy.{Is, viewMarking, viewCopied, saidOf};
+ghost use Rattle.door.specs.Meaning.Copy.{Is, viewMarking, viewCopied, saidOf, Span, Stands};
 use xdr::Marks;
 use xdr::Refusal;
 use xdr::Wrote;
+use xdr::order::room;
 
 // The marks of a reading in one case, so that an answer holds them in one byte: those of no piece, of one and of two.
 pub enum Marking {
@@ -110,4 +112,17 @@ pub(crate) fn copied_to(next: usize, plain: bool, marks: Marks, w: Wrote) -> Cop
             marks,
         },
     }
+}
+
+// The bytes from a place up to the next, written as they stand: 9, then 5. What came in published form is its own rewriting.
+pub(crate) fn write_span(src: &[u8], at: usize, next: usize, out: &mut [u8], start: usize) -> Wrote
+    requires { ⌜ Span (now src) at next ⌝ }
+    ensures { λ r. ⌜ Stands (part (now (src .entry)) at next) start (now (out .entry)) (viewWrote r) (now (out .exit)) ⌝ }
+{
+    let w = room(out.len(), start, next - at);
+    let Wrote::Done(_) = w else {
+        return w;
+    };
+    bytes::copy(&src[at..next], &mut out[start..]);
+    w
 }

@@ -30,7 +30,7 @@ pub const SHORT_LIST: u32 = 254;
 pub const UNKNOWN_KIND: u32 = 255;
 
 // The number of a copy's answer, and its figures.
-fn tell_copied(c: Copied, info: &mut [u64]) -> u32
+pub(crate) fn tell_copied(c: Copied, info: &mut [u64]) -> u32
     requires { ⌜ 3 ≤ length (now info) ⌝ }
     ensures { λ r. ⌜ Says codeOf figures (viewCopied c) (now (info .entry)) r (now (info .exit)) ⌝ }
 {
@@ -99,7 +99,7 @@ fn tell_size(r: Refusal, next: usize, plain: bool, info: &mut [u64]) -> u32
 }
 
 // What judging tells, by a copy into an empty buffer: refusal 5 there tells the size of the rewriting.
-fn tell_judged(c: Copied, info: &mut [u64]) -> u32
+pub(crate) fn tell_judged(c: Copied, info: &mut [u64]) -> u32
     requires { ⌜ 3 ≤ length (now info) ⌝ }
     ensures { λ r. ⌜ Says judgedCode judgedFigures (viewCopied c) (now (info .entry)) r (now (info .exit)) ⌝ }
 {

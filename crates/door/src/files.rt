@@ -9,6 +9,7 @@ ghost use Rattle.nfs.specs.Meaning.Change.{set-mode, set-uid, set-gid, set-size
 ghost use Rattle.door.specs.Meaning.Copy.{viewCopied, Copies};
 use crate::copy::Copied;
 use crate::copy::copied_to;
+use crate::copy::write_span;
 use nfs::Diropargs3Read;
 use nfs::Fattr3Read;
 use nfs::Fsinfo3Read;
@@ -38,11 +39,11 @@ pub(crate) fn copy_time_how(src: &[u8], at: usize, out: &mut [u8], start: usize)
 {
     match nfs::read_time_how(src, at) {
         TimeHowRead::Refused(r) => Copied::Unread(r),
-        TimeHowRead::Took { value: v, next: n } => copied_to(
+        TimeHowRead::Took { value: _, next: n } => copied_to(
             n,
             true,
             Marks::None,
-            nfs::write_time_how(v, out, start),
+            write_span(src, at, n, out, start),
         ),
     }
 }
@@ -52,11 +53,11 @@ pub(crate) fn copy_nfsstat3(src: &[u8], at: usize, out: &mut [u8], start: usize)
 {
     match nfs::read_nfsstat3(src, at) {
         Nfsstat3Read::Refused(r) => Copied::Unread(r),
-        Nfsstat3Read::Took { value: v, next: n } => copied_to(
+        Nfsstat3Read::Took { value: _, next: n } => copied_to(
             n,
             true,
             Marks::None,
-            nfs::write_nfsstat3(v, out, start),
+            write_span(src, at, n, out, start),
         ),
     }
 }
@@ -66,11 +67,11 @@ pub(crate) fn copy_ftype3(src: &[u8], at: usize, out: &mut [u8], start: usize) -
 {
     match nfs::read_ftype3(src, at) {
         Ftype3Read::Refused(r) => Copied::Unread(r),
-        Ftype3Read::Took { value: v, next: n } => copied_to(
+        Ftype3Read::Took { value: _, next: n } => copied_to(
             n,
             true,
             Marks::None,
-            nfs::write_ftype3(v, out, start),
+            write_span(src, at, n, out, start),
         ),
     }
 }
@@ -80,11 +81,11 @@ pub(crate) fn copy_specdata3(src: &[u8], at: usize, out: &mut [u8], start: usize
 {
     match nfs::read_specdata3(src, at) {
         Specdata3Read::Refused(r) => Copied::Unread(r),
-        Specdata3Read::Took { value: v, next: n } => copied_to(
+        Specdata3Read::Took { value: _, next: n } => copied_to(
             n,
             true,
             Marks::None,
-            nfs::write_specdata3(v, out, start),
+            write_span(src, at, n, out, start),
         ),
     }
 }
@@ -98,7 +99,12 @@ pub(crate) fn copy_nfs_fh3(src: &[u8], at: usize, out: &mut [u8], start: usize) 
             value: v,
             next: n,
             plain: p,
-        } => copied_to(n, p, v.marks(), nfs::write_nfs_fh3(src, v, out, start)),
+        } => {
+            if p {
+                return copied_to(n, p, v.marks(), write_span(src, at, n, out, start));
+            }
+            copied_to(n, p, v.marks(), nfs::write_nfs_fh3(src, v, out, start))
+        }
     }
 }
 
@@ -107,11 +113,11 @@ pub(crate) fn copy_nfstime3(src: &[u8], at: usize, out: &mut [u8], start: usize)
 {
     match nfs::read_nfstime3(src, at) {
         Nfstime3Read::Refused(r) => Copied::Unread(r),
-        Nfstime3Read::Took { value: v, next: n } => copied_to(
+        Nfstime3Read::Took { value: _, next: n } => copied_to(
             n,
             true,
             Marks::None,
-            nfs::write_nfstime3(v, out, start),
+            write_span(src, at, n, out, start),
         ),
     }
 }
@@ -121,11 +127,11 @@ pub(crate) fn copy_fattr3(src: &[u8], at: usize, out: &mut [u8], start: usize) -
 {
     match nfs::read_fattr3(src, at) {
         Fattr3Read::Refused(r) => Copied::Unread(r),
-        Fattr3Read::Took { value: v, next: n } => copied_to(
+        Fattr3Read::Took { value: _, next: n } => copied_to(
             n,
             true,
             Marks::None,
-            nfs::write_fattr3(v, out, start),
+            write_span(src, at, n, out, start),
         ),
     }
 }
@@ -139,7 +145,12 @@ pub(crate) fn copy_fsinfo3(src: &[u8], at: usize, out: &mut [u8], start: usize) 
             value: v,
             next: n,
             plain: p,
-        } => copied_to(n, p, Marks::None, nfs::write_fsinfo3(v, out, start)),
+        } => {
+            if p {
+                return copied_to(n, p, Marks::None, write_span(src, at, n, out, start));
+            }
+            copied_to(n, p, Marks::None, nfs::write_fsinfo3(v, out, start))
+        }
     }
 }
 
@@ -148,11 +159,11 @@ pub(crate) fn copy_wcc_attr(src: &[u8], at: usize, out: &mut [u8], start: usize)
 {
     match nfs::read_wcc_attr(src, at) {
         WccAttrRead::Refused(r) => Copied::Unread(r),
-        WccAttrRead::Took { value: v, next: n } => copied_to(
+        WccAttrRead::Took { value: _, next: n } => copied_to(
             n,
             true,
             Marks::None,
-            nfs::write_wcc_attr(v, out, start),
+            write_span(src, at, n, out, start),
         ),
     }
 }
@@ -166,7 +177,12 @@ pub(crate) fn copy_pre_op_attr(src: &[u8], at: usize, out: &mut [u8], start: usi
             value: v,
             next: n,
             plain: p,
-        } => copied_to(n, p, Marks::None, nfs::write_pre_op_attr(v, out, start)),
+        } => {
+            if p {
+                return copied_to(n, p, Marks::None, write_span(src, at, n, out, start));
+            }
+            copied_to(n, p, Marks::None, nfs::write_pre_op_attr(v, out, start))
+        }
     }
 }
 
@@ -179,7 +195,12 @@ pub(crate) fn copy_post_op_attr(src: &[u8], at: usize, out: &mut [u8], start: us
             value: v,
             next: n,
             plain: p,
-        } => copied_to(n, p, Marks::None, nfs::write_post_op_attr(v, out, start)),
+        } => {
+            if p {
+                return copied_to(n, p, Marks::None, write_span(src, at, n, out, start));
+            }
+            copied_to(n, p, Marks::None, nfs::write_post_op_attr(v, out, start))
+        }
     }
 }
 
@@ -192,7 +213,12 @@ pub(crate) fn copy_wcc_data(src: &[u8], at: usize, out: &mut [u8], start: usize)
             value: v,
             next: n,
             plain: p,
-        } => copied_to(n, p, Marks::None, nfs::write_wcc_data(v, out, start)),
+        } => {
+            if p {
+                return copied_to(n, p, Marks::None, write_span(src, at, n, out, start));
+            }
+            copied_to(n, p, Marks::None, nfs::write_wcc_data(v, out, start))
+        }
     }
 }
 
@@ -205,7 +231,12 @@ pub(crate) fn copy_post_op_fh3(src: &[u8], at: usize, out: &mut [u8], start: usi
             value: v,
             next: n,
             plain: p,
-        } => copied_to(n, p, v.marks(), nfs::write_post_op_fh3(src, v, out, start)),
+        } => {
+            if p {
+                return copied_to(n, p, v.marks(), write_span(src, at, n, out, start));
+            }
+            copied_to(n, p, v.marks(), nfs::write_post_op_fh3(src, v, out, start))
+        }
     }
 }
 
@@ -218,7 +249,12 @@ pub(crate) fn copy_set_mode3(src: &[u8], at: usize, out: &mut [u8], start: usize
             value: v,
             next: n,
             plain: p,
-        } => copied_to(n, p, Marks::None, nfs::write_set_mode3(v, out, start)),
+        } => {
+            if p {
+                return copied_to(n, p, Marks::None, write_span(src, at, n, out, start));
+            }
+            copied_to(n, p, Marks::None, nfs::write_set_mode3(v, out, start))
+        }
     }
 }
 
@@ -231,7 +267,12 @@ pub(crate) fn copy_set_uid3(src: &[u8], at: usize, out: &mut [u8], start: usize)
             value: v,
             next: n,
             plain: p,
-        } => copied_to(n, p, Marks::None, nfs::write_set_uid3(v, out, start)),
+        } => {
+            if p {
+                return copied_to(n, p, Marks::None, write_span(src, at, n, out, start));
+            }
+            copied_to(n, p, Marks::None, nfs::write_set_uid3(v, out, start))
+        }
     }
 }
 
@@ -244,7 +285,12 @@ pub(crate) fn copy_set_gid3(src: &[u8], at: usize, out: &mut [u8], start: usize)
             value: v,
             next: n,
             plain: p,
-        } => copied_to(n, p, Marks::None, nfs::write_set_gid3(v, out, start)),
+        } => {
+            if p {
+                return copied_to(n, p, Marks::None, write_span(src, at, n, out, start));
+            }
+            copied_to(n, p, Marks::None, nfs::write_set_gid3(v, out, start))
+        }
     }
 }
 
@@ -257,7 +303,12 @@ pub(crate) fn copy_set_size3(src: &[u8], at: usize, out: &mut [u8], start: usize
             value: v,
             next: n,
             plain: p,
-        } => copied_to(n, p, Marks::None, nfs::write_set_size3(v, out, start)),
+        } => {
+            if p {
+                return copied_to(n, p, Marks::None, write_span(src, at, n, out, start));
+            }
+            copied_to(n, p, Marks::None, nfs::write_set_size3(v, out, start))
+        }
     }
 }
 
@@ -266,11 +317,11 @@ pub(crate) fn copy_set_atime(src: &[u8], at: usize, out: &mut [u8], start: usize
 {
     match nfs::read_set_atime(src, at) {
         SetAtimeRead::Refused(r) => Copied::Unread(r),
-        SetAtimeRead::Took { value: v, next: n } => copied_to(
+        SetAtimeRead::Took { value: _, next: n } => copied_to(
             n,
             true,
             Marks::None,
-            nfs::write_set_atime(v, out, start),
+            write_span(src, at, n, out, start),
         ),
     }
 }
@@ -280,11 +331,11 @@ pub(crate) fn copy_set_mtime(src: &[u8], at: usize, out: &mut [u8], start: usize
 {
     match nfs::read_set_mtime(src, at) {
         SetMtimeRead::Refused(r) => Copied::Unread(r),
-        SetMtimeRead::Took { value: v, next: n } => copied_to(
+        SetMtimeRead::Took { value: _, next: n } => copied_to(
             n,
             true,
             Marks::None,
-            nfs::write_set_mtime(v, out, start),
+            write_span(src, at, n, out, start),
         ),
     }
 }
@@ -298,7 +349,12 @@ pub(crate) fn copy_sattr3(src: &[u8], at: usize, out: &mut [u8], start: usize) -
             value: v,
             next: n,
             plain: p,
-        } => copied_to(n, p, Marks::None, nfs::write_sattr3(v, out, start)),
+        } => {
+            if p {
+                return copied_to(n, p, Marks::None, write_span(src, at, n, out, start));
+            }
+            copied_to(n, p, Marks::None, nfs::write_sattr3(v, out, start))
+        }
     }
 }
 
@@ -311,7 +367,12 @@ pub(crate) fn copy_diropargs3(src: &[u8], at: usize, out: &mut [u8], start: usiz
             value: v,
             next: n,
             plain: p,
-        } => copied_to(n, p, v.marks(), nfs::write_diropargs3(src, v, out, start)),
+        } => {
+            if p {
+                return copied_to(n, p, v.marks(), write_span(src, at, n, out, start));
+            }
+            copied_to(n, p, v.marks(), nfs::write_diropargs3(src, v, out, start))
+        }
     }
 }
 
@@ -324,6 +385,11 @@ pub(crate) fn copy_symlinkdata3(src: &[u8], at: usize, out: &mut [u8], start: us
             value: v,
             next: n,
             plain: p,
-        } => copied_to(n, p, v.marks(), nfs::write_symlinkdata3(src, v, out, start)),
+        } => {
+            if p {
+                return copied_to(n, p, v.marks(), write_span(src, at, n, out, start));
+            }
+            copied_to(n, p, v.marks(), nfs::write_symlinkdata3(src, v, out, start))
+        }
     }
 }

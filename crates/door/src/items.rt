@@ -6,6 +6,7 @@ ghost use Rattle.xdr.specs.Meaning.Formats.{eightBytes, bytes, wordList};
 ghost use Rattle.door.specs.Meaning.Copy.{viewCopied, Copies};
 use crate::copy::Copied;
 use crate::copy::copied_to;
+use crate::copy::write_span;
 use xdr::BoolRead;
 use xdr::I32Read;
 use xdr::I64Read;
@@ -23,7 +24,12 @@ pub(crate) fn copy_bool(src: &[u8], at: usize, out: &mut [u8], start: usize) -> 
             value: v,
             next: n,
             plain: p,
-        } => copied_to(n, p, Marks::None, xdr::write_bool(v, out, start)),
+        } => {
+            if p {
+                return copied_to(n, p, Marks::None, write_span(src, at, n, out, start));
+            }
+            copied_to(n, p, Marks::None, xdr::write_bool(v, out, start))
+        }
     }
 }
 
@@ -32,11 +38,11 @@ pub(crate) fn copy_i32(src: &[u8], at: usize, out: &mut [u8], start: usize) -> C
 {
     match xdr::read_i32(src, at) {
         I32Read::Refused(r) => Copied::Unread(r),
-        I32Read::Took { value: v, next: n } => copied_to(
+        I32Read::Took { value: _, next: n } => copied_to(
             n,
             true,
             Marks::None,
-            xdr::write_i32(v, out, start),
+            write_span(src, at, n, out, start),
         ),
     }
 }
@@ -46,11 +52,11 @@ pub(crate) fn copy_i64(src: &[u8], at: usize, out: &mut [u8], start: usize) -> C
 {
     match xdr::read_i64(src, at) {
         I64Read::Refused(r) => Copied::Unread(r),
-        I64Read::Took { value: v, next: n } => copied_to(
+        I64Read::Took { value: _, next: n } => copied_to(
             n,
             true,
             Marks::None,
-            xdr::write_i64(v, out, start),
+            write_span(src, at, n, out, start),
         ),
     }
 }
@@ -60,11 +66,11 @@ pub(crate) fn copy_u32(src: &[u8], at: usize, out: &mut [u8], start: usize) -> C
 {
     match xdr::read_u32(src, at) {
         U32Read::Refused(r) => Copied::Unread(r),
-        U32Read::Took { value: v, next: n } => copied_to(
+        U32Read::Took { value: _, next: n } => copied_to(
             n,
             true,
             Marks::None,
-            xdr::write_u32(v, out, start),
+            write_span(src, at, n, out, start),
         ),
     }
 }
@@ -74,11 +80,11 @@ pub(crate) fn copy_u64(src: &[u8], at: usize, out: &mut [u8], start: usize) -> C
 {
     match xdr::read_u64(src, at) {
         U64Read::Refused(r) => Copied::Unread(r),
-        U64Read::Took { value: v, next: n } => copied_to(
+        U64Read::Took { value: _, next: n } => copied_to(
             n,
             true,
             Marks::None,
-            xdr::write_u64(v, out, start),
+            write_span(src, at, n, out, start),
         ),
     }
 }
@@ -88,11 +94,11 @@ pub(crate) fn copy_eight(src: &[u8], at: usize, out: &mut [u8], start: usize) ->
 {
     match xdr::read_eight(src, at) {
         U64Read::Refused(r) => Copied::Unread(r),
-        U64Read::Took { value: v, next: n } => copied_to(
+        U64Read::Took { value: _, next: n } => copied_to(
             n,
             true,
             Marks::None,
-            xdr::write_eight(v, out, start),
+            write_span(src, at, n, out, start),
         ),
     }
 }
@@ -106,7 +112,12 @@ pub(crate) fn copy_opaque(src: &[u8], at: usize, out: &mut [u8], start: usize) -
             value: v,
             next: n,
             plain: p,
-        } => copied_to(n, p, v.marks(), xdr::write_opaque(src, v, out, start)),
+        } => {
+            if p {
+                return copied_to(n, p, v.marks(), write_span(src, at, n, out, start));
+            }
+            copied_to(n, p, v.marks(), xdr::write_opaque(src, v, out, start))
+        }
     }
 }
 
@@ -119,6 +130,11 @@ pub(crate) fn copy_words(src: &[u8], at: usize, out: &mut [u8], start: usize) ->
             value: v,
             next: n,
             plain: p,
-        } => copied_to(n, p, v.marks(), xdr::write_words(src, v, out, start)),
+        } => {
+            if p {
+                return copied_to(n, p, v.marks(), write_span(src, at, n, out, start));
+            }
+            copied_to(n, p, v.marks(), xdr::write_words(src, v, out, start))
+        }
     }
 }

@@ -3,6 +3,7 @@ pub mod copy;
 pub mod current;
 pub mod exports;
 mod figures;
+pub mod judge;
 // made by tools/generate: copiers
 mod files;
 mod items;
@@ -14,6 +15,7 @@ mod procedures;
 pub mod marks;
 pub mod mounting;
 pub mod replies;
+pub mod rewrite;
 pub mod values_read;
 pub mod values_write;
 

@@ -10,6 +10,7 @@ ghost use Rattle.rpc.specs.Meaning.Current.{current-accept-stat, current-auth-s
 ghost use Rattle.door.specs.Meaning.Copy.{viewCopied, Copies};
 use crate::copy::Copied;
 use crate::copy::copied_to;
+use crate::copy::write_span;
 use rpc::AcceptBodyRead;
 use rpc::AcceptStatRead;
 use rpc::AcceptedReplyRead;
@@ -41,11 +42,11 @@ pub(crate) fn copy_msg_type(src: &[u8], at: usize, out: &mut [u8], start: usize)
 {
     match rpc::read_msg_type(src, at) {
         MsgTypeRead::Refused(r) => Copied::Unread(r),
-        MsgTypeRead::Took { value: v, next: n } => copied_to(
+        MsgTypeRead::Took { value: _, next: n } => copied_to(
             n,
             true,
             Marks::None,
-            rpc::write_msg_type(v, out, start),
+            write_span(src, at, n, out, start),
         ),
     }
 }
@@ -55,11 +56,11 @@ pub(crate) fn copy_reply_stat(src: &[u8], at: usize, out: &mut [u8], start: usiz
 {
     match rpc::read_reply_stat(src, at) {
         ReplyStatRead::Refused(r) => Copied::Unread(r),
-        ReplyStatRead::Took { value: v, next: n } => copied_to(
+        ReplyStatRead::Took { value: _, next: n } => copied_to(
             n,
             true,
             Marks::None,
-            rpc::write_reply_stat(v, out, start),
+            write_span(src, at, n, out, start),
         ),
     }
 }
@@ -69,11 +70,11 @@ pub(crate) fn copy_accept_stat(src: &[u8], at: usize, out: &mut [u8], start: usi
 {
     match rpc::read_accept_stat(src, at) {
         AcceptStatRead::Refused(r) => Copied::Unread(r),
-        AcceptStatRead::Took { value: v, next: n } => copied_to(
+        AcceptStatRead::Took { value: _, next: n } => copied_to(
             n,
             true,
             Marks::None,
-            rpc::write_accept_stat(v, out, start),
+            write_span(src, at, n, out, start),
         ),
     }
 }
@@ -83,11 +84,11 @@ pub(crate) fn copy_reject_stat(src: &[u8], at: usize, out: &mut [u8], start: usi
 {
     match rpc::read_reject_stat(src, at) {
         RejectStatRead::Refused(r) => Copied::Unread(r),
-        RejectStatRead::Took { value: v, next: n } => copied_to(
+        RejectStatRead::Took { value: _, next: n } => copied_to(
             n,
             true,
             Marks::None,
-            rpc::write_reject_stat(v, out, start),
+            write_span(src, at, n, out, start),
         ),
     }
 }
@@ -97,11 +98,11 @@ pub(crate) fn copy_auth_stat(src: &[u8], at: usize, out: &mut [u8], start: usize
 {
     match rpc::read_auth_stat(src, at) {
         AuthStatRead::Refused(r) => Copied::Unread(r),
-        AuthStatRead::Took { value: v, next: n } => copied_to(
+        AuthStatRead::Took { value: _, next: n } => copied_to(
             n,
             true,
             Marks::None,
-            rpc::write_auth_stat(v, out, start),
+            write_span(src, at, n, out, start),
         ),
     }
 }
@@ -111,11 +112,11 @@ pub(crate) fn copy_auth_flavor(src: &[u8], at: usize, out: &mut [u8], start: usi
 {
     match rpc::read_auth_flavor(src, at) {
         AuthFlavorRead::Refused(r) => Copied::Unread(r),
-        AuthFlavorRead::Took { value: v, next: n } => copied_to(
+        AuthFlavorRead::Took { value: _, next: n } => copied_to(
             n,
             true,
             Marks::None,
-            rpc::write_auth_flavor(v, out, start),
+            write_span(src, at, n, out, start),
         ),
     }
 }
@@ -129,7 +130,12 @@ pub(crate) fn copy_auth_unix(src: &[u8], at: usize, out: &mut [u8], start: usize
             value: v,
             next: n,
             plain: p,
-        } => copied_to(n, p, v.marks(), rpc::write_auth_unix(src, v, out, start)),
+        } => {
+            if p {
+                return copied_to(n, p, v.marks(), write_span(src, at, n, out, start));
+            }
+            copied_to(n, p, v.marks(), rpc::write_auth_unix(src, v, out, start))
+        }
     }
 }
 
@@ -142,7 +148,12 @@ pub(crate) fn copy_opaque_auth(src: &[u8], at: usize, out: &mut [u8], start: usi
             value: v,
             next: n,
             plain: p,
-        } => copied_to(n, p, v.marks(), rpc::write_opaque_auth(src, v, out, start)),
+        } => {
+            if p {
+                return copied_to(n, p, v.marks(), write_span(src, at, n, out, start));
+            }
+            copied_to(n, p, v.marks(), rpc::write_opaque_auth(src, v, out, start))
+        }
     }
 }
 
@@ -155,7 +166,12 @@ pub(crate) fn copy_rpc_msg(src: &[u8], at: usize, out: &mut [u8], start: usize) 
             value: v,
             next: n,
             plain: p,
-        } => copied_to(n, p, v.marks(), rpc::write_rpc_msg(src, v, out, start)),
+        } => {
+            if p {
+                return copied_to(n, p, v.marks(), write_span(src, at, n, out, start));
+            }
+            copied_to(n, p, v.marks(), rpc::write_rpc_msg(src, v, out, start))
+        }
     }
 }
 
@@ -168,7 +184,12 @@ pub(crate) fn copy_rpc_body(src: &[u8], at: usize, out: &mut [u8], start: usize)
             value: v,
             next: n,
             plain: p,
-        } => copied_to(n, p, v.marks(), rpc::write_rpc_body(src, v, out, start)),
+        } => {
+            if p {
+                return copied_to(n, p, v.marks(), write_span(src, at, n, out, start));
+            }
+            copied_to(n, p, v.marks(), rpc::write_rpc_body(src, v, out, start))
+        }
     }
 }
 
@@ -181,7 +202,12 @@ pub(crate) fn copy_call_body(src: &[u8], at: usize, out: &mut [u8], start: usize
             value: v,
             next: n,
             plain: p,
-        } => copied_to(n, p, v.marks(), rpc::write_call_body(src, v, out, start)),
+        } => {
+            if p {
+                return copied_to(n, p, v.marks(), write_span(src, at, n, out, start));
+            }
+            copied_to(n, p, v.marks(), rpc::write_call_body(src, v, out, start))
+        }
     }
 }
 
@@ -194,7 +220,12 @@ pub(crate) fn copy_reply_body(src: &[u8], at: usize, out: &mut [u8], start: usiz
             value: v,
             next: n,
             plain: p,
-        } => copied_to(n, p, v.marks(), rpc::write_reply_body(src, v, out, start)),
+        } => {
+            if p {
+                return copied_to(n, p, v.marks(), write_span(src, at, n, out, start));
+            }
+            copied_to(n, p, v.marks(), rpc::write_reply_body(src, v, out, start))
+        }
     }
 }
 
@@ -207,12 +238,17 @@ pub(crate) fn copy_accepted_reply(src: &[u8], at: usize, out: &mut [u8], start: 
             value: v,
             next: n,
             plain: p,
-        } => copied_to(
-            n,
-            p,
-            v.marks(),
-            rpc::write_accepted_reply(src, v, out, start),
-        ),
+        } => {
+            if p {
+                return copied_to(n, p, v.marks(), write_span(src, at, n, out, start));
+            }
+            copied_to(
+                n,
+                p,
+                v.marks(),
+                rpc::write_accepted_reply(src, v, out, start),
+            )
+        }
     }
 }
 
@@ -225,7 +261,12 @@ pub(crate) fn copy_accept_body(src: &[u8], at: usize, out: &mut [u8], start: usi
             value: v,
             next: n,
             plain: p,
-        } => copied_to(n, p, Marks::None, rpc::write_accept_body(v, out, start)),
+        } => {
+            if p {
+                return copied_to(n, p, Marks::None, write_span(src, at, n, out, start));
+            }
+            copied_to(n, p, Marks::None, rpc::write_accept_body(v, out, start))
+        }
     }
 }
 
@@ -238,7 +279,12 @@ pub(crate) fn copy_rejected_reply(src: &[u8], at: usize, out: &mut [u8], start: 
             value: v,
             next: n,
             plain: p,
-        } => copied_to(n, p, Marks::None, rpc::write_rejected_reply(v, out, start)),
+        } => {
+            if p {
+                return copied_to(n, p, Marks::None, write_span(src, at, n, out, start));
+            }
+            copied_to(n, p, Marks::None, rpc::write_rejected_reply(v, out, start))
+        }
     }
 }
 
@@ -247,11 +293,11 @@ pub(crate) fn copy_mismatch_info(src: &[u8], at: usize, out: &mut [u8], start: u
 {
     match rpc::read_mismatch_info(src, at) {
         MismatchInfoRead::Refused(r) => Copied::Unread(r),
-        MismatchInfoRead::Took { value: v, next: n } => copied_to(
+        MismatchInfoRead::Took { value: _, next: n } => copied_to(
             n,
             true,
             Marks::None,
-            rpc::write_mismatch_info(v, out, start),
+            write_span(src, at, n, out, start),
         ),
     }
 }
@@ -266,11 +312,11 @@ pub(crate) fn copy_current_accept_stat(
 {
     match rpc::read_current_accept_stat(src, at) {
         CurrentAcceptStatRead::Refused(r) => Copied::Unread(r),
-        CurrentAcceptStatRead::Took { value: v, next: n } => copied_to(
+        CurrentAcceptStatRead::Took { value: _, next: n } => copied_to(
             n,
             true,
             Marks::None,
-            rpc::write_current_accept_stat(v, out, start),
+            write_span(src, at, n, out, start),
         ),
     }
 }
@@ -280,11 +326,11 @@ pub(crate) fn copy_current_auth_stat(src: &[u8], at: usize, out: &mut [u8], star
 {
     match rpc::read_current_auth_stat(src, at) {
         CurrentAuthStatRead::Refused(r) => Copied::Unread(r),
-        CurrentAuthStatRead::Took { value: v, next: n } => copied_to(
+        CurrentAuthStatRead::Took { value: _, next: n } => copied_to(
             n,
             true,
             Marks::None,
-            rpc::write_current_auth_stat(v, out, start),
+            write_span(src, at, n, out, start),
         ),
     }
 }
@@ -303,12 +349,17 @@ pub(crate) fn copy_current_accept_body(
             value: v,
             next: n,
             plain: p,
-        } => copied_to(
-            n,
-            p,
-            Marks::None,
-            rpc::write_current_accept_body(v, out, start),
-        ),
+        } => {
+            if p {
+                return copied_to(n, p, Marks::None, write_span(src, at, n, out, start));
+            }
+            copied_to(
+                n,
+                p,
+                Marks::None,
+                rpc::write_current_accept_body(v, out, start),
+            )
+        }
     }
 }
 
@@ -326,12 +377,17 @@ pub(crate) fn copy_current_accepted_reply(
             value: v,
             next: n,
             plain: p,
-        } => copied_to(
-            n,
-            p,
-            v.marks(),
-            rpc::write_current_accepted_reply(src, v, out, start),
-        ),
+        } => {
+            if p {
+                return copied_to(n, p, v.marks(), write_span(src, at, n, out, start));
+            }
+            copied_to(
+                n,
+                p,
+                v.marks(),
+                rpc::write_current_accepted_reply(src, v, out, start),
+            )
+        }
     }
 }
 
@@ -349,12 +405,17 @@ pub(crate) fn copy_current_rejected_reply(
             value: v,
             next: n,
             plain: p,
-        } => copied_to(
-            n,
-            p,
-            Marks::None,
-            rpc::write_current_rejected_reply(v, out, start),
-        ),
+        } => {
+            if p {
+                return copied_to(n, p, Marks::None, write_span(src, at, n, out, start));
+            }
+            copied_to(
+                n,
+                p,
+                Marks::None,
+                rpc::write_current_rejected_reply(v, out, start),
+            )
+        }
     }
 }
 
@@ -367,12 +428,17 @@ pub(crate) fn copy_current_reply_body(src: &[u8], at: usize, out: &mut [u8], sta
             value: v,
             next: n,
             plain: p,
-        } => copied_to(
-            n,
-            p,
-            v.marks(),
-            rpc::write_current_reply_body(src, v, out, start),
-        ),
+        } => {
+            if p {
+                return copied_to(n, p, v.marks(), write_span(src, at, n, out, start));
+            }
+            copied_to(
+                n,
+                p,
+                v.marks(),
+                rpc::write_current_reply_body(src, v, out, start),
+            )
+        }
     }
 }
 
@@ -385,12 +451,17 @@ pub(crate) fn copy_current_rpc_body(src: &[u8], at: usize, out: &mut [u8], start
             value: v,
             next: n,
             plain: p,
-        } => copied_to(
-            n,
-            p,
-            v.marks(),
-            rpc::write_current_rpc_body(src, v, out, start),
-        ),
+        } => {
+            if p {
+                return copied_to(n, p, v.marks(), write_span(src, at, n, out, start));
+            }
+            copied_to(
+                n,
+                p,
+                v.marks(),
+                rpc::write_current_rpc_body(src, v, out, start),
+            )
+        }
     }
 }
 
@@ -403,11 +474,16 @@ pub(crate) fn copy_current_rpc_msg(src: &[u8], at: usize, out: &mut [u8], start:
             value: v,
             next: n,
             plain: p,
-        } => copied_to(
-            n,
-            p,
-            v.marks(),
-            rpc::write_current_rpc_msg(src, v, out, start),
-        ),
+        } => {
+            if p {
+                return copied_to(n, p, v.marks(), write_span(src, at, n, out, start));
+            }
+            copied_to(
+                n,
+                p,
+                v.marks(),
+                rpc::write_current_rpc_msg(src, v, out, start),
+            )
+        }
     }
 }

@@ -8,6 +8,7 @@ ghost use Rattle.mount.specs.Meaning.Portmap.{port-mapping};
 ghost use Rattle.door.specs.Meaning.Copy.{viewCopied, Copies};
 use crate::copy::Copied;
 use crate::copy::copied_to;
+use crate::copy::write_span;
 use mount::MappingRead;
 use mount::Mountres3Read;
 use mount::Mountstat3Read;
@@ -23,7 +24,12 @@ pub(crate) fn copy_dirpath(src: &[u8], at: usize, out: &mut [u8], start: usize) 
             value: v,
             next: n,
             plain: p,
-        } => copied_to(n, p, v.marks(), mount::write_dirpath(src, v, out, start)),
+        } => {
+            if p {
+                return copied_to(n, p, v.marks(), write_span(src, at, n, out, start));
+            }
+            copied_to(n, p, v.marks(), mount::write_dirpath(src, v, out, start))
+        }
     }
 }
 
@@ -32,11 +38,11 @@ pub(crate) fn copy_mountstat3(src: &[u8], at: usize, out: &mut [u8], start: usiz
 {
     match mount::read_mountstat3(src, at) {
         Mountstat3Read::Refused(r) => Copied::Unread(r),
-        Mountstat3Read::Took { value: v, next: n } => copied_to(
+        Mountstat3Read::Took { value: _, next: n } => copied_to(
             n,
             true,
             Marks::None,
-            mount::write_mountstat3(v, out, start),
+            write_span(src, at, n, out, start),
         ),
     }
 }
@@ -50,7 +56,12 @@ pub(crate) fn copy_mountres3(src: &[u8], at: usize, out: &mut [u8], start: usize
             value: v,
             next: n,
             plain: p,
-        } => copied_to(n, p, v.marks(), mount::write_mountres3(src, v, out, start)),
+        } => {
+            if p {
+                return copied_to(n, p, v.marks(), write_span(src, at, n, out, start));
+            }
+            copied_to(n, p, v.marks(), mount::write_mountres3(src, v, out, start))
+        }
     }
 }
 
@@ -63,7 +74,12 @@ pub(crate) fn copy_exports(src: &[u8], at: usize, out: &mut [u8], start: usize) 
             value: v,
             next: n,
             plain: p,
-        } => copied_to(n, p, v.marks(), mount::write_exports(src, v, out, start)),
+        } => {
+            if p {
+                return copied_to(n, p, v.marks(), write_span(src, at, n, out, start));
+            }
+            copied_to(n, p, v.marks(), mount::write_exports(src, v, out, start))
+        }
     }
 }
 
@@ -72,11 +88,11 @@ pub(crate) fn copy_mapping(src: &[u8], at: usize, out: &mut [u8], start: usize) 
 {
     match mount::read_mapping(src, at) {
         MappingRead::Refused(r) => Copied::Unread(r),
-        MappingRead::Took { value: v, next: n } => copied_to(
+        MappingRead::Took { value: _, next: n } => copied_to(
             n,
             true,
             Marks::None,
-            mount::write_mapping(v, out, start),
+            write_span(src, at, n, out, start),
         ),
     }
 }

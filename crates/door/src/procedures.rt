@@ -9,6 +9,7 @@ ghost use Rattle.nfsdata.specs.Meaning.Read.{read-args, read-res};
 ghost use Rattle.door.specs.Meaning.Copy.{viewCopied, Copies};
 use crate::copy::Copied;
 use crate::copy::copied_to;
+use crate::copy::write_span;
 use nfsdata::Read3argsRead;
 use nfsdata::Read3resRead;
 use nfsdata::StableHowRead;
@@ -28,11 +29,11 @@ pub(crate) fn copy_stable_how(src: &[u8], at: usize, out: &mut [u8], start: usiz
 {
     match nfsdata::read_stable_how(src, at) {
         StableHowRead::Refused(r) => Copied::Unread(r),
-        StableHowRead::Took { value: v, next: n } => copied_to(
+        StableHowRead::Took { value: _, next: n } => copied_to(
             n,
             true,
             Marks::None,
-            nfsdata::write_stable_how(v, out, start),
+            write_span(src, at, n, out, start),
         ),
     }
 }
@@ -46,7 +47,12 @@ pub(crate) fn copy_sattrguard3(src: &[u8], at: usize, out: &mut [u8], start: usi
             value: v,
             next: n,
             plain: p,
-        } => copied_to(n, p, Marks::None, nfsfile::write_sattrguard3(v, out, start)),
+        } => {
+            if p {
+                return copied_to(n, p, Marks::None, write_span(src, at, n, out, start));
+            }
+            copied_to(n, p, Marks::None, nfsfile::write_sattrguard3(v, out, start))
+        }
     }
 }
 
@@ -59,12 +65,17 @@ pub(crate) fn copy_getattr3args(src: &[u8], at: usize, out: &mut [u8], start: us
             value: v,
             next: n,
             plain: p,
-        } => copied_to(
-            n,
-            p,
-            v.marks(),
-            nfsfile::write_getattr3args(src, v, out, start),
-        ),
+        } => {
+            if p {
+                return copied_to(n, p, v.marks(), write_span(src, at, n, out, start));
+            }
+            copied_to(
+                n,
+                p,
+                v.marks(),
+                nfsfile::write_getattr3args(src, v, out, start),
+            )
+        }
     }
 }
 
@@ -77,7 +88,7 @@ pub(crate) fn copy_getattr3res(src: &[u8], at: usize, out: &mut [u8], start: usi
             n,
             true,
             v.marks(),
-            nfsfile::write_getattr3res(src, v, out, start),
+            write_span(src, at, n, out, start),
         ),
     }
 }
@@ -91,12 +102,17 @@ pub(crate) fn copy_setattr3args(src: &[u8], at: usize, out: &mut [u8], start: us
             value: v,
             next: n,
             plain: p,
-        } => copied_to(
-            n,
-            p,
-            v.marks(),
-            nfsfile::write_setattr3args(src, v, out, start),
-        ),
+        } => {
+            if p {
+                return copied_to(n, p, v.marks(), write_span(src, at, n, out, start));
+            }
+            copied_to(
+                n,
+                p,
+                v.marks(),
+                nfsfile::write_setattr3args(src, v, out, start),
+            )
+        }
     }
 }
 
@@ -109,12 +125,17 @@ pub(crate) fn copy_setattr3res(src: &[u8], at: usize, out: &mut [u8], start: usi
             value: v,
             next: n,
             plain: p,
-        } => copied_to(
-            n,
-            p,
-            v.marks(),
-            nfsfile::write_setattr3res(src, v, out, start),
-        ),
+        } => {
+            if p {
+                return copied_to(n, p, v.marks(), write_span(src, at, n, out, start));
+            }
+            copied_to(
+                n,
+                p,
+                v.marks(),
+                nfsfile::write_setattr3res(src, v, out, start),
+            )
+        }
     }
 }
 
@@ -127,12 +148,17 @@ pub(crate) fn copy_lookup3args(src: &[u8], at: usize, out: &mut [u8], start: usi
             value: v,
             next: n,
             plain: p,
-        } => copied_to(
-            n,
-            p,
-            v.marks(),
-            nfsfile::write_lookup3args(src, v, out, start),
-        ),
+        } => {
+            if p {
+                return copied_to(n, p, v.marks(), write_span(src, at, n, out, start));
+            }
+            copied_to(
+                n,
+                p,
+                v.marks(),
+                nfsfile::write_lookup3args(src, v, out, start),
+            )
+        }
     }
 }
 
@@ -145,12 +171,17 @@ pub(crate) fn copy_lookup3res(src: &[u8], at: usize, out: &mut [u8], start: usiz
             value: v,
             next: n,
             plain: p,
-        } => copied_to(
-            n,
-            p,
-            v.marks(),
-            nfsfile::write_lookup3res(src, v, out, start),
-        ),
+        } => {
+            if p {
+                return copied_to(n, p, v.marks(), write_span(src, at, n, out, start));
+            }
+            copied_to(
+                n,
+                p,
+                v.marks(),
+                nfsfile::write_lookup3res(src, v, out, start),
+            )
+        }
     }
 }
 
@@ -163,12 +194,17 @@ pub(crate) fn copy_read3args(src: &[u8], at: usize, out: &mut [u8], start: usize
             value: v,
             next: n,
             plain: p,
-        } => copied_to(
-            n,
-            p,
-            v.marks(),
-            nfsdata::write_read3args(src, v, out, start),
-        ),
+        } => {
+            if p {
+                return copied_to(n, p, v.marks(), write_span(src, at, n, out, start));
+            }
+            copied_to(
+                n,
+                p,
+                v.marks(),
+                nfsdata::write_read3args(src, v, out, start),
+            )
+        }
     }
 }
 
@@ -181,7 +217,12 @@ pub(crate) fn copy_read3res(src: &[u8], at: usize, out: &mut [u8], start: usize)
             value: v,
             next: n,
             plain: p,
-        } => copied_to(n, p, v.marks(), nfsdata::write_read3res(src, v, out, start)),
+        } => {
+            if p {
+                return copied_to(n, p, v.marks(), write_span(src, at, n, out, start));
+            }
+            copied_to(n, p, v.marks(), nfsdata::write_read3res(src, v, out, start))
+        }
     }
 }
 
@@ -194,12 +235,17 @@ pub(crate) fn copy_write3args(src: &[u8], at: usize, out: &mut [u8], start: usiz
             value: v,
             next: n,
             plain: p,
-        } => copied_to(
-            n,
-            p,
-            v.marks(),
-            nfsdata::write_write3args(src, v, out, start),
-        ),
+        } => {
+            if p {
+                return copied_to(n, p, v.marks(), write_span(src, at, n, out, start));
+            }
+            copied_to(
+                n,
+                p,
+                v.marks(),
+                nfsdata::write_write3args(src, v, out, start),
+            )
+        }
     }
 }
 
@@ -212,11 +258,16 @@ pub(crate) fn copy_write3res(src: &[u8], at: usize, out: &mut [u8], start: usize
             value: v,
             next: n,
             plain: p,
-        } => copied_to(
-            n,
-            p,
-            v.marks(),
-            nfsdata::write_write3res(src, v, out, start),
-        ),
+        } => {
+            if p {
+                return copied_to(n, p, v.marks(), write_span(src, at, n, out, start));
+            }
+            copied_to(
+                n,
+                p,
+                v.marks(),
+                nfsdata::write_write3res(src, v, out, start),
+            )
+        }
     }
 }

@@ -197,9 +197,10 @@ pub struct Judged {
 ///
 /// # Errors
 /// `Ends`, `Undeclared`, `TooLong` and `PastEnd`, and `LongPath` of the kinds that hold paths.
+#[inline]
 pub fn judge(kind: Kind, bytes: &[u8], at: usize) -> Result<Judged, Refusal> {
     let mut info = [0; figures::JUDGE];
-    match sys::judge(kind.number(), bytes, at, &mut info) {
+    match sys::judge(kind, bytes, at, &mut info) {
         answer::DONE => Ok(Judged {
             next: info[figure::NEXT] as usize,
             plain: info[figure::PLAIN] == 1,
@@ -237,9 +238,10 @@ pub struct Rewritten {
 ///
 /// # Errors
 /// Those of [`judge`], and `NoRoom` where `out` is too short.
+#[inline]
 pub fn rewrite(kind: Kind, bytes: &[u8], at: usize, out: &mut [u8]) -> Result<Rewritten, Refusal> {
     let mut info = [0; figures::REWRITE];
-    match sys::rewrite(kind.number(), bytes, at, out, &mut info) {
+    match sys::rewrite(kind, bytes, at, out, &mut info) {
         answer::DONE => Ok(Rewritten {
             next: info[figure::NEXT] as usize,
             plain: info[figure::PLAIN] == 1,

@@ -6,16 +6,13 @@ use mathlib.Core.Option.{Option}
 use mathlib.Core.List.{List, [], _∷_, _++_}
 use Prim.Native.Nat.{ℕ, zero, suc, _+_, _-_, _≤_, _<_}
 use native.Mathlib.Omega.{arith}
-use lib.IntN.{ℤ}
 use lib.ListN.{length, take, drop}
 use borrow.Author.Tests.{le-leb}
 use Rattle.xdr.specs.Meaning.Answer.{Answer, took, refused, opened, most, Written, done, unwritten}
 use Rattle.xdr.specs.Meaning.Kind.{Codec}
 use Rattle.xdr.specs.Meaning.Format.{Format, Branch, exactly}
-use Rattle.xdr.specs.Meaning.Formats.{eightBytes, eightHeld}
 use Rattle.xdr.specs.Meaning.Order.{placing}
-use Rattle.xdr.specs.Meaning.Views.{viewU64, viewWrote}
-use Rattle.xdr.specs.declared.answer.U64Read.{U64Read}
+use Rattle.xdr.specs.Meaning.Views.{viewWrote}
 use Rattle.xdr.specs.declared.answer.Wrote.{Wrote}
 use Rattle.xdr.specs.Meaning.Public.{Answers, output, writing, Writes}
 use Rattle.xdr.specs.Meaning.Within.{WritesWithin}
@@ -91,22 +88,6 @@ module _ {M R : Type 0} (C : Codec M) (view : R → Answer M) (s : List ℕ) (at
   plain-read {w = w} c e d f v =
       was-read (exactly C) view s at start o c e v
       (freed (exactly C) s (short (exactly C) s at c (ap view e ∙ v)) (λ t. (refl, refl)) refl start o w d) (no-marks C _) f
-
--- a signed number, which is passed on by its bits
-module _ {R : Type 0} (C : Codec ℤ) (view : R → Answer ℤ) (take : ℤ → ℕ → R) (s : List ℕ) (at start : ℕ) (o : List ℕ) {r : R} where
-  pub signed-read : {x x′ : ℤ} {n : ℕ} {o′ : List ℕ} {w : Written} {a : Copy} → Answers (exactly C) s at (view r) → r ≡ take x n
-      → Writes (exactly C) [] x′ start o w o′ → x′ ≡ x → a ≡ saidOf n true [] w → view (take x n) ≡ took x n true → Copies (exactly C) s at start o a o′
-  signed-read {w = w} c e d g f v =
-      was-read (exactly C) view s at start o c e v
-      (freed (exactly C) s (short (exactly C) s at c (ap view e ∙ v)) (λ t. (refl, refl)) g start o w d) (no-marks C _) f
-
-module _ (s : List ℕ) (at start : ℕ) (o : List ℕ) {r t : U64Read} where
-  pub eight-read : {x n : ℕ} {b : Bool} {o′ : List ℕ} {w : Written} {a : Copy} → Answers eightBytes s at (viewU64 r) → r ≡ t
-      → Writes eightBytes [] x start o w o′ → a ≡ saidOf n b [] w → viewU64 t ≡ took x n b → Copies eightBytes s at start o a o′
-  unfolding eightHeld
-  eight-read {w = w} c e d f v =
-      was-read eightBytes viewU64 s at start o c e v
-      (freed eightBytes s (short eightBytes s at c (ap viewU64 e ∙ v)) (λ t. (refl, refl)) refl start o w d) (record { are = λ t. refl }) f
 
 -- a number that is none of the first is above them
 abbrev NoneOf : ℕ → ℕ → Type 0

@@ -2,11 +2,12 @@
 -- Assumes nothing.
 use mathlib.Core.Path.{_≡_}
 use mathlib.Core.Bool.{Bool, true, false}
-use mathlib.Core.List.{List, [], _∷_}
-use Prim.Native.Nat.{ℕ}
-use lib.ListN.{length}
+use mathlib.Core.List.{List, [], _∷_, _++_}
+use Prim.Native.Nat.{ℕ, _≤_}
+use lib.ListN.{length, take, drop}
 use Rattle.xdr.specs.Meaning.Answer.{Answer, took, refused, opened, Written, done, unwritten}
 use Rattle.xdr.specs.Meaning.Format.{Format}
+use Rattle.xdr.specs.Meaning.Order.{roomed}
 use Rattle.xdr.specs.Meaning.Public.{writing, leaving}
 use Rattle.xdr.specs.declared.refusal.Refusal.{Refusal}
 use Rattle.door.specs.declared.copy.Marking.{Marking}
@@ -60,3 +61,17 @@ module _ {M S : Type 0} (F : Format M S) (s : List ℕ) (start : ℕ) (o : List 
 pub record Copies {M S : Type 0} (F : Format M S) (s : List ℕ) (at start : ℕ) (o : List ℕ) (c : Copy) (o′ : List ℕ) : Type 0 where
   pub says : c ≡ copySaid F s start o (opened s at (F .held .read s at))
   pub leaves : o′ ≡ copyLeft F s start o (opened s at (F .held .read s at))
+
+-- from a place of s up to another
+pub record Span (s : List ℕ) (at next : ℕ) : Type 0 where
+  pub order : at ≤ next
+  pub inside : next ≤ length s
+
+-- bytes written as they stand, from a place of o on: the answer, and the buffer o′ that is left of o
+abbrev pub standing : List ℕ → ℕ → List ℕ → Written → List ℕ
+standing bs at o (done n) = take at o ++ (bs ++ drop n o)
+standing bs at o (unwritten r) = o
+
+pub record Stands (bs : List ℕ) (at : ℕ) (o : List ℕ) (w : Written) (o′ : List ℕ) : Type 0 where
+  pub says : w ≡ roomed (length o) at (length bs)
+  pub leaves : o′ ≡ standing bs at o w
