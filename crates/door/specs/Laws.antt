@@ -4,6 +4,8 @@ pub mod Marks
 pub mod Figures
 pub mod Values
 pub mod Given
+pub mod Parts
+pub mod Laid
 pub mod One
 pub mod Again
 pub mod Replies

@@ -5,11 +5,13 @@ ghost use mathlib.Core.Path.{_≡_};
 ghost use Prim.Native.Nat.{_≤_};
 ghost use lib.ListN.{length};
 ghost use Rattle.xdr.specs.Meaning.Combinators.{among};
+ghost use Rattle.xdr.specs.Meaning.Views.{viewWrote};
 ghost use Rattle.nfs.specs.Meaning.Change.{setModeTo, setUidTo, setGidTo, setSizeTo};
 ghost use Rattle.nfs.specs.Meaning.Set.{atimeTo, mtimeTo};
 ghost use Rattle.rpc.specs.Meaning.Closed.{flavorNumber, flavors};
 ghost use Rattle.door.specs.Meaning.Copy.{Is};
 ghost use Rattle.door.specs.Meaning.Given.{low, areWords, fattr3Words, fattr3By, fattr3Given, viewGivenFattr3, WriteFattr3Called, WriteDiropargs3Called, optionFits, timeFits, sattr3Fits, optionOf, timeOf, sattr3By, WriteSattr3Called, foundFlavor, callWords, callBy, callGiven, viewGivenCall, WriteCallCalled, unixWords, unixBy, unixGiven, viewGivenUnix, WriteUnixCalled};
+ghost use Rattle.door.specs.Laws.Parts.{Laid, sattr3Narrow, wordBytes, hyperBytes, timeBytes, ownerOf, changeOf, sattrOf, SattrWritten};
 use crate::exports::SHORT_LIST;
 use crate::exports::tell_wrote;
 use nfs::diropargs3;
@@ -36,6 +38,13 @@ use rpc::opaque_auth;
 use rpc::write_auth_unix_from;
 use rpc::write_call_from;
 use xdr::Piece;
+use xdr::Wrote;
+use xdr::inner::put_bool;
+use xdr::inner::put_u32;
+use xdr::inner::put_u32_pair;
+use xdr::inner::put_u32_three;
+use xdr::inner::put_u32_u64;
+use xdr::order::room;
 
 // A number of a list does not fit its field.
 pub const WIDE_NUMBER: u32 = 253;
@@ -284,6 +293,117 @@ fn sattr3_of(fields: &[u64]) -> sattr3
     }
 }
 
+// Every number that may be a word is one, and every tag is declared: what stands behind a flag of 0 too, so that it is one test.
+fn sattr3_narrow(fields: &[u64]) -> bool
+    requires { ⌜ 14 ≤ length (now fields) ⌝ }
+    ensures { λ r. ⌜ Is sattr3Narrow (now (fields .entry)) r ⌝ }
+{
+    (fields[1] < WORDS)
+        & (fields[3] < WORDS)
+        & (fields[5] < WORDS)
+        & (fields[9] < WORDS)
+        & (fields[10] < WORDS)
+        & (fields[12] < WORDS)
+        & (fields[13] < WORDS)
+        & (fields[8] < 3)
+        & (fields[11] < 3)
+}
+
+// The same answer as `sattr3_fits`: nearly every list is narrow, and that is tested sooner.
+fn sattr3_suits(fields: &[u64]) -> bool
+    requires { ⌜ 14 ≤ length (now fields) ⌝ }
+    ensures { λ r. ⌜ Is sattr3Fits (now (fields .entry)) r ⌝ }
+{
+    if sattr3_narrow(fields) {
+        return true;
+    }
+    sattr3_fits(fields)
+}
+
+// Laid straight from the figures: each answers how many bytes it laid. The room is for the most that it can be.
+fn lay_word(flag: u64, v: u64, out: &mut [u8]) -> usize
+    requires { ⌜ 8 ≤ length (now out) ⌝ }
+    ensures { λ r. ⌜ Laid 8 (wordBytes flag v) (now (out .entry)) r (now (out .exit)) ⌝ }
+{
+    if flag == 0 {
+        put_bool(false, out);
+        return 4;
+    }
+    put_u32_pair(1, (v % WORDS) as u32, out);
+    8
+}
+
+fn lay_hyper(flag: u64, v: u64, out: &mut [u8]) -> usize
+    requires { ⌜ 12 ≤ length (now out) ⌝ }
+    ensures { λ r. ⌜ Laid 12 (hyperBytes flag v) (now (out .entry)) r (now (out .exit)) ⌝ }
+{
+    if flag == 0 {
+        put_bool(false, out);
+        return 4;
+    }
+    put_u32_u64(1, v, out);
+    12
+}
+
+fn lay_time(tag: u64, seconds: u64, nseconds: u64, out: &mut [u8]) -> usize
+    requires { ⌜ 12 ≤ length (now out) ⌝ }
+    ensures { λ r. ⌜ Laid 12 (timeBytes tag seconds nseconds) (now (out .entry)) r (now (out .exit)) ⌝ }
+{
+    if tag == 0 {
+        put_u32(0, out);
+        return 4;
+    }
+    if tag == 1 {
+        put_u32(1, out);
+        return 4;
+    }
+    put_u32_three(2, (seconds % WORDS) as u32, (nseconds % WORDS) as u32, out);
+    12
+}
+
+fn lay_owner(fields: &[u64], out: &mut [u8]) -> usize
+    requires { ⌜ 14 ≤ length (now fields) ⌝ }
+    requires { ⌜ 24 ≤ length (now out) ⌝ }
+    ensures { λ r. ⌜ Laid 24 (ownerOf (now (fields .entry))) (now (out .entry)) r (now (out .exit)) ⌝ }
+{
+    let n1 = lay_word(fields[0], fields[1], &mut out[0..]);
+    let n2 = n1 + lay_word(fields[2], fields[3], &mut out[n1..]);
+    n2 + lay_word(fields[4], fields[5], &mut out[n2..])
+}
+
+fn lay_change(fields: &[u64], out: &mut [u8]) -> usize
+    requires { ⌜ 14 ≤ length (now fields) ⌝ }
+    requires { ⌜ 36 ≤ length (now out) ⌝ }
+    ensures { λ r. ⌜ Laid 36 (changeOf (now (fields .entry))) (now (out .entry)) r (now (out .exit)) ⌝ }
+{
+    let n1 = lay_hyper(fields[6], fields[7], &mut out[0..]);
+    let n2 = n1 + lay_time(fields[8], fields[9], fields[10], &mut out[n1..]);
+    n2 + lay_time(fields[11], fields[12], fields[13], &mut out[n2..])
+}
+
+fn lay_sattr3(fields: &[u64], out: &mut [u8]) -> usize
+    requires { ⌜ 14 ≤ length (now fields) ⌝ }
+    requires { ⌜ 60 ≤ length (now out) ⌝ }
+    ensures { λ r. ⌜ Laid 60 (sattrOf (now (fields .entry))) (now (out .entry)) r (now (out .exit)) ⌝ }
+{
+    let n = lay_owner(fields, &mut out[0..]);
+    n + lay_change(fields, &mut out[n..])
+}
+
+// Where there is room for the longest sattr3, no sattr3 is made and its size is not asked.
+fn write_sattr3_by(fields: &[u64], out: &mut [u8], start: usize) -> Wrote
+    requires { ⌜ 14 ≤ length (now fields) ⌝ }
+    ensures { λ r. ⌜ SattrWritten (now (fields .entry)) start (now (out .entry)) (viewWrote r) (now (out .exit)) ⌝ }
+{
+    let w = room(out.len(), start, 60);
+    let Wrote::Done(_) = w else {
+        let v = sattr3_of(fields);
+        return write_sattr3(v, out, start);
+    };
+    let n = lay_sattr3(fields, &mut out[start..]);
+    Wrote::Done(start + n)
+}
+
 // A flag other than 0 is true. What stands behind a flag of 0, or a time's tag of 0 or 1, is passed over.
 #[no_mangle]
 pub extern "C" fn yugerzat_write_sattr3(
@@ -300,11 +420,10 @@ pub extern "C" fn yugerzat_write_sattr3(
     if info.len() < 1 {
         return SHORT_LIST;
     }
-    if !sattr3_fits(fields) {
+    if !sattr3_suits(fields) {
         return WIDE_NUMBER;
     }
-    let v = sattr3_of(fields);
-    let w = write_sattr3(v, out, start);
+    let w = write_sattr3_by(fields, out, start);
     tell_wrote(w, info)
 }
 
