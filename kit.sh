@@ -134,9 +134,11 @@ how_long() {
     seconds=0
     for crate in "$@"; do
         case $crate in
-        door | answers) seconds=$((seconds + 170)) ;;
+        door) seconds=$((seconds + 450)) ;;
+        answers) seconds=$((seconds + 250)) ;;
+        rpc) seconds=$((seconds + 150)) ;;
         limits) seconds=$((seconds + 110)) ;;
-        xdr | rpc | nfsattr | nfs | nfsfile | nfsdata | mount) seconds=$((seconds + 80)) ;;
+        xdr | nfsattr | nfs | nfsfile | nfsdata | mount) seconds=$((seconds + 80)) ;;
         *) seconds=$((seconds + 20)) ;;
         esac
     done
