@@ -318,7 +318,8 @@ fn rewritten_rows(m: Memory) -> Vec<Row> {
     rewritings! { rows m
         "call rewritten" call (with yugerzat_rewrite_rpc_msg 20 floor_copy_rpc_msg) crate rpc_msg
             peers Libtirpc tirpc_copy_rpc_msg Libnfs libnfs_copy_rpc_msg;
-        "auth_unix rewritten" auth (with yugerzat_rewrite_auth_unix 18 floor_copy_auth_unix) crate auth_unix peers Libtirpc tirpc_copy_auth_unix;
+        "auth_unix rewritten" auth (with yugerzat_rewrite_auth_unix 18 floor_copy_auth_unix) crate auth_unix
+            peers Libtirpc tirpc_copy_auth_unix;
         "fattr3 rewritten" attributes (with yugerzat_rewrite_fattr3 31 floor_copy_fattr3) crate fattr3
             peers Libtirpc tirpc_copy_fattr3 Libnfs libnfs_copy_fattr3;
         "sattr3 full rewritten" full (with yugerzat_rewrite_sattr3 44 floor_copy_sattr3) crate sattr3

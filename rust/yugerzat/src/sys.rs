@@ -507,7 +507,14 @@ mod tests {
                         taken += u32::from(own.0 == 0);
                         let own = left(|_, info| judge(kind, bytes, at, info));
                         let by_number = left(|_, info| unsafe {
-                            raw::yugerzat_judge(kind.number(), bytes.as_ptr(), bytes.len(), at, info.as_mut_ptr(), info.len())
+                            raw::yugerzat_judge(
+                                kind.number(),
+                                bytes.as_ptr(),
+                                bytes.len(),
+                                at,
+                                info.as_mut_ptr(),
+                                info.len(),
+                            )
                         });
                         assert_eq!(own, by_number, "{kind} of {bytes:?} at {at}, judged");
                     }
