@@ -35,8 +35,7 @@
  * lent. A caller must hold to this, which no proof can see:
  *   - `length` bytes lie at the address and stay there during the call; where the library writes, they may be written;
  *   - what the library writes (not const) overlaps nothing else that is lent in the same call, nor the pieces of a
- *     value that is written. The library is compiled on that (noalias), so what a call does that breaks it is anybody's
- *     guess;
+ *     value that is written. The compiler relies on this (noalias): otherwise the behaviour is undefined;
  *   - where the length is 0 the address is not looked at: NULL is fine.
  *
  * PLACES are offsets: counts of bytes from the start of a slice. A message is read from a place `at` on, and the
