@@ -1,8 +1,9 @@
 // Export lists (RFC 1813, appendix I): the results of EXPORT. A list is held as the place of its first flag and the count of its entries, and is
 // walked with `next_export`. A path above 1,024 bytes is refused with 10 once the whole list is read.
 ghost use mathlib.Core.Path.{_≡_};
-ghost use Prim.Native.Nat.{_+_, _≤_};
+ghost use Prim.Native.Nat.{_+_, _-_, _≤_};
 ghost use mathlib.Core.Bool.{true};
+ghost use lib.ListN.{length};
 ghost use Rattle.xdr.specs.Meaning.Items.{flag};
 ghost use Rattle.xdr.specs.Meaning.Format.{exactly, _⨟_};
 ghost use Rattle.xdr.specs.Meaning.Formats.{bytes};
@@ -13,7 +14,7 @@ ghost use Rattle.xdr.specs.Laws.Fields.{Lays};
 ghost use Rattle.xdr.specs.Laws.Laying.{LaysFrom};
 ghost use Rattle.mount.specs.Meaning.Group.{groups};
 ghost use Rattle.mount.specs.Laws.Export.{overBound};
-ghost use Rattle.mount.specs.Meaning.Export.{node, nodes, longList, next-node, next-export, exports, viewNode, lostNode, viewNextExport, lostNextExport, orLong, finished, walkOf, WalkedWithin};
+ghost use Rattle.mount.specs.Meaning.Export.{node, nodes, longList, next-node, next-export, exports, viewNode, lostNode, viewNextExport, lostNextExport, orLong, finished, walkOf, WalkedWithin, NodesTo};
 use crate::group::groups_at;
 use crate::group::put_groups;
 use crate::path::MNTPATHLEN;
@@ -367,6 +368,19 @@ fn put_exports(src: &[u8], at: usize, out: &mut [u8])
     }
 }
 
+// The same of a list that was walked, where there is room for it. What came in published form is its own rewriting, so it is copied as it stands.
+fn lay_exports(src: &[u8], at: usize, next: usize, plain: bool, out: &mut [u8])
+    requires { ⌜ NodesTo (now src) at next plain ⌝ }
+    requires { ⌜ next - at ≤ length (now out) ⌝ }
+    ensures { λ _. ⌜ LaysFrom node (now (src .entry)) at (now (out .entry)) (now (out .exit)) ⌝ }
+{
+    if plain {
+        bytes::copy(&src[at..next], out);
+        return;
+    }
+    put_exports(src, at, out);
+}
+
 // A list that does not read, or in which a path is over the bound: 9, 3 for the source, 4, and then 10.
 fn refuse_long(source: usize, inside: bool, room: usize, at: usize) -> Wrote
     ensures { λ r. ⌜ viewWrote r ≡ overBound source inside room at ⌝ }
@@ -379,17 +393,23 @@ fn refuse_long(source: usize, inside: bool, room: usize, at: usize) -> Wrote
 }
 
 // A list that was walked, and is within the bound.
-fn write_walked(src: &[u8], x: Piece, count: usize, next: usize, out: &mut [u8], at: usize) -> Wrote
-    requires { ⌜ WalkedWithin (now src) (x .at) count next ⌝ }
+fn write_walked(
+    src: &[u8],
+    x: Piece,
+    count: usize,
+    next: usize,
+    plain: bool,
+    out: &mut [u8],
+    at: usize,
+) -> Wrote
+    requires { ⌜ WalkedWithin (now src) (x .at) count next plain ⌝ }
     ensures { λ r. ⌜ WritesWithin nodes longList (now (src .entry)) x at (now (out .entry)) (viewWrote r) (now (out .exit)) ⌝ }
 {
-    let from = x.at;
-    let many = x.count;
-    let w = place(src.len(), count == many, next - from, out.len(), at);
+    let w = place(src.len(), count == x.count, next - x.at, out.len(), at);
     let Wrote::Done(_) = w else {
         return w;
     };
-    put_exports(src, from, &mut out[at..]);
+    lay_exports(src, x.at, next, plain, &mut out[at..]);
     w
 }
 
@@ -402,9 +422,9 @@ pub fn write_exports(src: &[u8], x: Piece, out: &mut [u8], at: usize) -> Wrote
         Walked::Within {
             count,
             next,
-            plain: _,
+            plain,
             clean: _,
-        } => write_walked(src, x, count, next, out, at),
+        } => write_walked(src, x, count, next, plain, out, at),
         Walked::Over { count, place: _ } => refuse_long(src.len(), count == x.count, out.len(), at),
     }
 }

@@ -3,16 +3,16 @@
 use mathlib.Core.Path.{_≡_, refl, sym, ap, ap₂, subst, _∙_}
 use mathlib.Core.Bool.{Bool, true, false, _&&_, and-true}
 use mathlib.Core.Option.{Option, none, some}
-use mathlib.Core.List.{List, [], _∷_}
+use mathlib.Core.List.{List, [], _∷_, _++_}
 use Prim.Native.Nat.{ℕ, suc, _+_, _-_, _≤_, _<_}
 use native.Mathlib.Nat.{add-zero, zero-add, add-assoc}
 use native.Mathlib.Omega.{arith}
 use lib.Dec.{leb, eqb}
-use lib.ListN.{length, getD}
+use lib.ListN.{length, getD, take, drop, length-take, length-drop}
 use borrow.Author.Tests.{le-leb, lt-leb}
 use mir.Syntax.{w8, w64}
 use mir.Val.{Fits}
-use Rattle.xdr.specs.Meaning.Bytes.{Bytes}
+use Rattle.xdr.specs.Meaning.Bytes.{Bytes, part}
 use Rattle.xdr.specs.Meaning.Answer.{Answer, took, refused, most, Written, done, unwritten}
 use Rattle.xdr.specs.Meaning.Format.{Format, _⨟_, optional}
 use Rattle.xdr.specs.Meaning.Formats.{bytes, pieceHeld}
@@ -25,18 +25,21 @@ use Rattle.xdr.specs.Laws.Even.{Even, opaque-even, chain-even, named-even, list
 use Rattle.xdr.specs.Laws.Held.{taken-inside}
 use Rattle.xdr.specs.Laws.Lengths.{Within}
 use Rattle.xdr.specs.Laws.Linked.{put, optional-some}
-use Rattle.xdr.specs.Laws.Lists.{known-bytes}
+use Rattle.xdr.specs.Laws.Linked as linked·
+use Rattle.xdr.specs.Laws.Lists.{known-bytes, room}
 use Rattle.xdr.specs.Laws.Fields.{Lays, lays-named}
 use Rattle.xdr.specs.Laws.Laying.{LaysFrom, Partly, partly-start, partly-refused, partly-short, partly-end, partly-on, list-lays}
 use Rattle.xdr.specs.Laws.Optional.{OptionalHeld}
 use Rattle.xdr.specs.Laws.Placing.{at-place, has-room}
 use Rattle.xdr.specs.Laws.Placing as placing·
+use Rattle.xdr.specs.Laws.Promise.{keeps}
 use Rattle.xdr.specs.Laws.Within.{Bounded, within-as, over-refused, over-done}
-use Rattle.xdr.specs.Laws.Write.{Put, Ready}
+use Rattle.xdr.specs.Laws.Write.{Put, Ready, copy-put}
 use Rattle.xdr.specs.Meaning.Kind.{Found, Sound}
 use Rattle.xdr.specs.Meaning.Public.{output}
 use Rattle.xdr.specs.Meaning.Within.{isWithin, WritesWithin}
 use Rattle.xdr.specs.Meaning.Order.{placing}
+use Rattle.xdr.specs.Meaning.Promise.{Reading}
 use Rattle.xdr.specs.declared.answer.Wrote.{Wrote}
 use Rattle.xdr.specs.declared.answer.Wrote.the-variants as wrote
 use borrow.Rule.Slice.PartMut.{midOf, putMid}
@@ -50,7 +53,7 @@ use Rattle.xdr.specs.declared.refusal.Refusal.{Refusal}
 use Rattle.xdr.specs.declared.refusal.Refusal.the-variants.{LongPath}
 use Rattle.mount.specs.Meaning.Path.{mostPath, longPath}
 use Rattle.mount.specs.Meaning.Group.{groups}
-use Rattle.mount.specs.Meaning.Export.{Exportnode, nodeNames, node, nodes, farther, longEntry, firstLong, longList, exports, nextExportCases, next-node, next-export, viewNode, lostNode, viewNextExport, lostNextExport, finished, longAt, walked, walkOf, WalkedWithin, orLong}
+use Rattle.mount.specs.Meaning.Export.{Exportnode, nodeNames, node, nodes, farther, longEntry, firstLong, longList, exports, nextExportCases, next-node, next-export, viewNode, lostNode, viewNextExport, lostNextExport, finished, longAt, walked, walkOf, WalkedWithin, NodesTo, orLong}
 use Rattle.mount.specs.Laws.Path.{piece-length, short-path, over-path}
 use Rattle.mount.specs.Laws.Group.{groups-even}
 use Rattle.mount.specs.declared.export.exportnode.{exportnode}
@@ -397,6 +400,49 @@ module _ (s : List ℕ) (at : ℕ) (o : List ℕ) where
         unfolding next-node
         put-on x i = partly-on node nextExportCases s (known-bytes s given) at o here z inv entry-read node-even laid x (ap (nextExportCases .from) i)
 
+-- a list that is read from p to n: it lies inside, and in published form its bytes are laid as they stand
+module _ (s : List ℕ) (p n : ℕ) (b : Bool) (e : NodesTo s p n b) (given : (i : ℕ) → Fits w8 (getD s i 0)) where
+  its-form : Found (linked node .kind) s p (e .list) n b
+  unfolding nodes
+  its-form = subst (Sound (linked node .kind) s p) (e .reads) (linked node .laws .sound s p (known-bytes s given))
+
+  its-place : (p ≤ n) × (n ≤ length s)
+  its-place =
+      let f = its-form in
+      omega (
+        arith,
+        f .next,
+        linked·.long (optional node .codec) (optional-some node) (suc (length (e .list))) (e .list) (f .loose) (f .used) (f .form),
+        room (f .used) (f .left) s p (f .stands),
+      )
+
+  pub lay-ahead : p ≤ n
+  lay-ahead = its-place .0
+
+  pub lay-end : n ≤ length s
+  lay-end = its-place .1
+
+  module _ (plain : b ≡ true) where
+    -- they are its rewriting
+    rewriting-is : part s p n ≡ linked node .kind .write (e .list)
+    unfolding nodes
+    rewriting-is =
+        let r : Reading (linked node .kind) =
+        record { input = s; place = p; message = e .list; next = n; plain = b; bytes = known-bytes s given; inside = omega (arith, its-place); reads = e .reads } in
+        keeps (linked node) .plain-iff r .0 plain
+
+    pub lay-copied : (o z : List ℕ) → z ≡ take (length (part s p n)) (part s p n) ++ drop (length (part s p n)) o → LaysFrom node s p o z
+    unfolding nodes
+    lay-copied o z c =
+        record {
+          put = λ h {l} f r.
+              let i : e .list ≡ l = cc (f, e .reads) in
+              subst (λ bs. Put o z (length bs) bs) (rewriting-is ∙ ap (linked node .kind .write) i) (copy-put c);
+        }
+
+pub lay-room : (s : List ℕ) (p n : ℕ) (o : List ℕ) → n - p ≤ length o → length (part s p n) ≤ length o
+lay-room s p n o h = simp (length-take, length-drop) (omega arith)
+
 -- what a writer says of a list that does not read, or has a path over the bound
 abbrev pub overBound : ℕ → Bool → ℕ → ℕ → Written
 overBound source inside room at = by (placing source inside 0 room at)
@@ -491,14 +537,18 @@ module _ (s : List ℕ) (x : Piece) where
           let i = over (linked node .kind .read s (x .at)) refl (cleanList node s (x .at)) c k (sym f ∙ e) in
           over-writes (eqb c (x .count)) g (sym (i .0)) (λ t. i .1)
 
-  pub walk-is : (z : Walked) (c n : ℕ) (b d : Bool) → z ≡ walkOf s (x .at) → z ≡ walked·.Within c n b d → WalkedWithin s (x .at) c n
-  walk-is z c n b d e f = record { plain = b; clean = d; is = sym f ∙ e }
+  pub walk-is : (z : Walked) (c n : ℕ) (b d : Bool) → z ≡ walkOf s (x .at) → z ≡ walked·.Within c n b d → WalkedWithin s (x .at) c n b
+  walk-is z c n b d e f = record { clean = d; is = sym f ∙ e }
 
   -- writing a list that is within the bound
-  module _ (c n : ℕ) (e : WalkedWithin s (x .at) c n) where
-    its : Whole c n (e .plain)
+  module _ (c n : ℕ) (b : Bool) (e : WalkedWithin s (x .at) c n b) where
+    its : Whole c n b
     unfolding nodes
-    its = whole (linked node .kind .read s (x .at)) refl (cleanList node s (x .at)) c n (e .plain) (e .clean) (e .is)
+    its = whole (linked node .kind .read s (x .at)) refl (cleanList node s (x .at)) c n b (e .clean) (e .is)
+
+    pub list-read : NodesTo s (x .at) n b
+    unfolding nodes
+    list-read = record { list = its .list; reads = its .reads }
 
     list-inside : nodes .held .inside s x ≡ eqb c (x .count)
     unfolding nodes
@@ -509,24 +559,21 @@ module _ (s : List ℕ) (x : Piece) where
     list-short = ap (λ z. longList (elementsOf z)) (its .reads) ∙ its .short
 
     module _ (given : (i : ℕ) → Fits w8 (getD s i 0)) where
-      its-form : Found (linked node .kind) s (x .at) (its .list) n (e .plain)
-      its-form = subst (Sound (linked node .kind) s (x .at)) (its .reads) (linked node .laws .sound s (x .at) (known-bytes s given))
-
       pub list-ahead : x .at ≤ n
-      list-ahead = omega (arith, its-form .next)
+      list-ahead = lay-ahead s (x .at) n b list-read given
 
       list-good : nodes .codec .kind .Good (nodes .held .mean s x)
       unfolding nodes
       list-good =
-          let f = its-form in
-          subst (linked node .kind .Good) (ap elementsOf (sym (its .reads))) (linked node .laws .good (its .list) (f .loose) (f .used) (f .form))
+          let f = its-form s (x .at) n b list-read given in
+          subst (linked node .kind .Good) (ap elementsOf (sym (list-read .reads))) (linked node .laws .good (list-read .list) (f .loose) (f .used) (f .form))
 
       list-size : length (output nodes s x) ≡ n - x .at
       unfolding nodes
       list-size =
-          let f = its-form in
-          let l : length (f .used) ≡ length (linked node .kind .write (its .list)) = nodes-even .of (its .list) (f .loose) (f .used) (f .form) in
-          ap (λ z. length (linked node .kind .write (elementsOf z))) (its .reads) ∙ omega (arith, l, f .next)
+          let f = its-form s (x .at) n b list-read given in
+          let l : length (f .used) ≡ length (linked node .kind .write (list-read .list)) = nodes-even .of (list-read .list) (f .loose) (f .used) (f .form) in
+          ap (λ z. length (linked node .kind .write (elementsOf z))) (list-read .reads) ∙ omega (arith, l, f .next)
 
       module _ (at : ℕ) (o : List ℕ) (w : Wrote) (g : viewWrote w ≡ placing (length s) (eqb c (x .count)) (n - x .at) (length o) at) where
         said : viewWrote w ≡ placing (length s) (nodes .held .inside s x) (n - x .at) (length o) at
@@ -539,13 +586,15 @@ module _ (s : List ℕ) (x : Piece) where
         pub list-place : (k : ℕ) → w ≡ wrote.Done k → at ≤ length o
         list-place k f = at-place nodes s x (λ r. list-size) at o said (ap viewWrote f)
 
+        pub list-room : (k : ℕ) → w ≡ wrote.Done k → n - x .at ≤ length (midOf at (length o - at) o)
+        list-room k f = has-room nodes s x (λ r. list-size) at o said (ap viewWrote f)
+
         pub list-writes : (k : ℕ) (zs : List ℕ) → w ≡ wrote.Done k → LaysFrom node s (x .at) (midOf at (length o - at) o) zs
             → WritesWithin nodes longList s x at o (viewWrote w) (putMid at (length o - at) o zs)
         unfolding nodes
         list-writes k zs f a =
             let d = placing·.ready nodes s x (λ r. list-size) at o said (ap viewWrote f) in
-            let m : length (output nodes s x) ≤ length (midOf at (length o - at) o) =
-            omega (arith, has-room nodes s x (λ r. list-size) at o said (ap viewWrote f), list-size) in
+            let m : length (output nodes s x) ≤ length (midOf at (length o - at) o) = omega (arith, list-room k f, list-size) in
             let p = list-lays node s x (midOf at (length o - at) o) zs a .put d m in
             let q : Put (midOf at (length o - at) o) zs (n - x .at) (output nodes s x) =
             subst (λ j. Put (midOf at (length o - at) o) zs j (output nodes s x)) list-size p in

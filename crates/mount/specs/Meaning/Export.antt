@@ -136,11 +136,15 @@ walked p d (refused r) = walked·.Refused r
 abbrev pub walkOf : List ℕ → ℕ → Walked
 walkOf s p = walked p (cleanList node s p) (nodes .codec .kind .read s p)
 
--- a list is within the bound, and the walk finds its count and its end
-pub record WalkedWithin (s : List ℕ) (p c n : ℕ) : Type 0 where
-  pub plain : Bool
+-- a list is within the bound, and the walk finds its count, its end, and whether it is in published form
+pub record WalkedWithin (s : List ℕ) (p c n : ℕ) (b : Bool) : Type 0 where
   pub clean : Bool
-  pub is : walked·.Within c n plain clean ≡ walkOf s p
+  pub is : walked·.Within c n b clean ≡ walkOf s p
+
+-- from p to n a list is read, whatever the lengths of its paths, and b says if it is in published form
+pub record NodesTo (s : List ℕ) (p n : ℕ) (b : Bool) : Type 0 where
+  pub list : List Exportnode
+  pub reads : nodes .codec .kind .read s p ≡ took list n b
 
 -- the first so far, or else a path of n bytes in an entry whose flag stands at q
 abbrev pub orLong : Long → ℕ → ℕ → Long
