@@ -5,6 +5,7 @@ pub mod Figures
 pub mod Values
 pub mod Given
 pub mod Parts
+pub mod Taken
 pub mod Laid
 pub mod One
 pub mod Again

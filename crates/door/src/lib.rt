@@ -16,6 +16,7 @@ pub mod marks;
 pub mod mounting;
 pub mod replies;
 pub mod rewrite;
+mod sattr3;
 pub mod values_read;
 pub mod values_write;
 

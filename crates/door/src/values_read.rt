@@ -17,6 +17,9 @@ ghost use Rattle.door.specs.Meaning.Values.{pieceFigures, diropargs3Figu
 use crate::exports::SHORT_LIST;
 use crate::figures::bit;
 use crate::figures::put_figures;
+use crate::sattr3::Step;
+use crate::sattr3::put_two;
+use crate::sattr3::take_sattr3;
 use nfs::Diropargs3Read;
 use nfs::Fattr3Read;
 use nfs::Sattr3Read;
@@ -557,6 +560,21 @@ fn put_sattr3(v: sattr3, next: usize, plain: bool, info: &mut [u64])
     );
 }
 
+// By the reader that says why it refuses.
+fn read_sattr3_carefully(src: &[u8], at: usize, info: &mut [u64]) -> u32
+    requires { ⌜ 16 ≤ length (now info) ⌝ }
+    ensures { λ r. ⌜ Sattr3Called (now (src .entry)) at (now (info .entry)) r (now (info .exit)) ⌝ }
+{
+    let v = read_sattr3(src, at);
+    match v {
+        Sattr3Read::Refused(r) => tell_refused(r, 14, info),
+        Sattr3Read::Took { value, next, plain } => {
+            put_sattr3(value, next, plain, info);
+            0
+        }
+    }
+}
+
 // The figures of a sattr3: for mode, uid, gid and size 1 and the number that is set, or zeros; for atime and mtime the tag, then seconds and
 // nanoseconds where the client sets them.
 #[no_mangle]
@@ -566,12 +584,10 @@ pub extern "C" fn yugerzat_read_sattr3(src: &[u8], at: usize, info: &mut [u64]) 
     if info.len() < 16 {
         return SHORT_LIST;
     }
-    let v = read_sattr3(src, at);
-    match v {
-        Sattr3Read::Refused(r) => tell_refused(r, 14, info),
-        Sattr3Read::Took { value, next, plain } => {
-            put_sattr3(value, next, plain, info);
-            0
-        }
-    }
+    let t = take_sattr3(src, at, info);
+    let Step::Took { next, plain } = t else {
+        return read_sattr3_carefully(src, at, info);
+    };
+    put_two(next as u64, bit(plain), info, 0);
+    0
 }
