@@ -65,6 +65,11 @@ def outputs(root):
         made += [(f"crates/door/proofs/{file}/copy_{fact.kind.name}/Proof.antt", copier_proof(file, fact)) for fact in own]
     made += [(f"crates/door/src/{export.name}.rt", export_file(export, kinds, copiers)) for export in EXPORTS]
     made += [
+        (f"crates/door/proofs/{export.name}/{name}/Proof.antt", export_number_proof(export, name, own))
+        for export in EXPORTS
+        for name, own, others in by_number(export, kinds)
+    ]
+    made += [
         (f"crates/door/proofs/{export.name}/{export.function(kind)}/Proof.antt", export_proof(export, kind))
         for export in EXPORTS
         for kind in kinds
@@ -292,27 +297,41 @@ def modules():
 
 
 class Export:
-    """A function that the door exports for each kind, beside the one that takes a kind's number. It promises what that one does."""
+    """A function that the door exports for each kind, and one that takes a kind's number and calls that of the kind."""
 
-    def __init__(self, name, comment, called, tell, out):
-        self.name, self.comment, self.called, self.tell, self.out = name, comment, called, tell, out
+    def __init__(self, name, comment, does, called, tell, out):
+        self.name, self.comment, self.does, self.called, self.tell, self.out = name, comment, does, called, tell, out
+        self.given = ("src", "at", *(["out"] if out else []), "info")
         self.parameters = ("src: &[u8]", "at: usize", *(["out: &mut [u8]"] if out else []), "info: &mut [u64]")
 
     def function(self, kind):
         return f"yugerzat_{self.name}_{kind.name}"
 
+    def promise(self, number):
+        out = ("(now (out .entry)) ", "(now (out .exit)) ") if self.out else ("", "")
+        return f"{self.called} {number} (now (src .entry)) at {out[0]}(now (info .entry)) r {out[1]}(now (info .exit))"
+
 
 EXPORTS = (
     Export(
         "rewrite",
-        "`yugerzat_rewrite` for each kind by itself: it does the same, and need not find the kind by its number.",
+        "Rewriting, by the number of a kind and for each kind by itself.",
+        (
+            "Reads a message of a kind from place `at` of src, and writes it in published form from the start of out. 0: info holds the place after",
+            "what was read, 1 if that was in published form and else 0, and the count of bytes written. A refusal of the reading: info holds its",
+            "place, how many bytes it wants, and 0. A refusal of the writing: two zeros, and how many bytes are needed (5), or 0.",
+        ),
         "RewriteCalled",
         "tell_copied",
         True,
     ),
     Export(
         "judge",
-        "`yugerzat_judge` for each kind by itself.",
+        "Judging, by the number of a kind and for each kind by itself.",
+        (
+            "Reads a message of a kind from place `at` of src, and writes nothing. 0: info holds the place after what was read, 1 if that was in",
+            "published form and else 0, and how many bytes its rewriting has. A refusal: its place, how many bytes it wants, and 0.",
+        ),
         "JudgeCalled",
         "tell_judged",
         False,
@@ -323,31 +342,78 @@ EXPORTS = (
 def export_file(export, kinds, copiers):
     by_name = {kind.name: kind for kind in kinds}
     called = {f"crate::{file_of(by_name[name])}::copy_{name}" for name in copiers.values()}
-    items = {"crate::exports::SHORT_LIST", f"crate::exports::{export.tell}", *called}
+    items = {"crate::exports::SHORT_LIST", f"crate::exports::{export.name}_any", f"crate::exports::{export.tell}", *called}
     return lines(
         f"// {HEADER}",
         f"// {export.comment}",
         f"ghost use Rattle.door.specs.Meaning.Exports.{{{export.called}}};",
         *(f"use {item};" for item in sorted_paths(items)),
+        *export_by_number(export, kinds),
         *(line for kind in kinds for line in export_function(export, kind, copiers[kind.name])),
     )
 
 
+def function_head(words, name, parameters):
+    head = f"{words} {name}({', '.join(parameters)}) -> u32"
+    broken = [f"{words} {name}(", *(f"    {parameter}," for parameter in parameters), ") -> u32"]
+    return [head] if len(head) <= 100 else broken
+
+
+def export_head(name, parameters):
+    return ["#[no_mangle]", *function_head('pub extern "C" fn', name, parameters)]
+
+
+def by_number(export, kinds):
+    """The functions that find a kind by its number: (name, kinds, who is asked for other numbers). A proof over all kinds is too large."""
+    third = len(kinds) // 3
+    return (
+        (f"yugerzat_{export.name}", kinds[:third], f"{export.name}_more"),
+        (f"{export.name}_more", kinds[third : 2 * third], f"{export.name}_rest"),
+        (f"{export.name}_rest", kinds[2 * third :], f"{export.name}_any"),
+    )
+
+
+def export_by_number(export, kinds):
+    """A match each, which the compiler joins: a kind is found by one jump, and a call saves no more than that of its kind does."""
+    parameters = ("kind: u32", *export.parameters)
+    made = []
+    for name, own, others in by_number(export, kinds):
+        exported = name.startswith("yugerzat_")
+        made += [
+            "",
+            *(f"// {line}" for line in export.does if exported),
+            *(export_head(name, parameters) if exported else function_head("fn", name, parameters)),
+            f"    ensures {{ λ r. ⌜ {export.promise('kind')} ⌝ }}",
+            "{",
+            "    match kind {",
+            *(f"        {kind.number} => {export.function(kind)}({', '.join(export.given)})," for kind in own),
+            f"        _ => {others}(kind, {', '.join(export.given)}),",
+            "    }",
+            "}",
+        ]
+    return made
+
+
+def export_number_proof(export, name, kinds):
+    imports = [
+        "borrow.Author.Needs.{needs}",
+        f"Rattle.door.specs.Laws.Exports.{{{export.name}-at}}",
+    ]
+    arms = len(kinds) + 1
+    asked = ["(search needs)"] * arms
+    told = ["(search needs)"] * (2 if export.out else 1) + [f"(λ c. search {export.name}-at)"]
+    return proof(export.name, name, imports, [f"tie.close (tie.spec {' '.join(asked + told * arms)})"])
+
+
 def export_function(export, kind, copier):
-    left = "(now (info .entry)) r "
     if export.out:
-        promise = f"{export.called} {kind.number} (now (src .entry)) at (now (out .entry)) {left}(now (out .exit)) (now (info .exit))"
         body = [f"    let c = copy_{copier}(src, at, out, 0);"]
     else:
-        promise = f"{export.called} {kind.number} (now (src .entry)) at {left}(now (info .exit))"
         body = ["    let mut none: [u8; 1] = [0];", f"    let c = copy_{copier}(src, at, &mut none[0..0], 0);"]
-    head = f'pub extern "C" fn {export.function(kind)}({", ".join(export.parameters)}) -> u32'
-    broken = [f'pub extern "C" fn {export.function(kind)}(', *(f"    {parameter}," for parameter in export.parameters), ") -> u32"]
     return [
         "",
-        "#[no_mangle]",
-        *([head] if len(head) <= 100 else broken),
-        f"    ensures {{ λ r. ⌜ {promise} ⌝ }}",
+        *export_head(export.function(kind), export.parameters),
+        f"    ensures {{ λ r. ⌜ {export.promise(kind.number)} ⌝ }}",
         "{",
         "    if info.len() < 3 {",
         "        return SHORT_LIST;",

@@ -13,6 +13,7 @@ use crate::copy::Copied;
 use crate::figures::bit;
 use crate::figures::put_figures;
 use crate::kinds::copy_kind;
+use crate::values_read::tell_refused;
 use rpcwire::Assembler;
 use rpcwire::Caller;
 use rpcwire::Choice;
@@ -39,10 +40,7 @@ pub(crate) fn tell_copied(c: Copied, info: &mut [u64]) -> u32
             put_figures(&[], 3, info);
             UNKNOWN_KIND
         }
-        Copied::Unread(r) => {
-            put_figures(&[r.place() as u64, r.wanting() as u64], 1, info);
-            r.number()
-        }
+        Copied::Unread(r) => tell_refused(r, 1, info),
         Copied::Unwritten {
             refusal,
             next: _,
@@ -64,17 +62,8 @@ pub(crate) fn tell_copied(c: Copied, info: &mut [u64]) -> u32
     }
 }
 
-// Reads a message of a kind from place `at` of src, and writes it in published form from the start of out. 0: info holds the place after
-// what was read, 1 if that was in published form and else 0, and the count of bytes written. A refusal of the reading: info holds its
-// place, how many bytes it wants, and 0. A refusal of the writing: two zeros, and how many bytes are needed (5), or 0.
-#[no_mangle]
-pub extern "C" fn yugerzat_rewrite(
-    kind: u32,
-    src: &[u8],
-    at: usize,
-    out: &mut [u8],
-    info: &mut [u64],
-) -> u32
+// A kind by its place in the list of kinds: `yugerzat_rewrite` asks so where the number is no kind's.
+pub(crate) fn rewrite_any(kind: u32, src: &[u8], at: usize, out: &mut [u8], info: &mut [u64]) -> u32
     ensures { λ r. ⌜ RewriteCalled kind (now (src .entry)) at (now (out .entry)) (now (info .entry)) r (now (out .exit)) (now (info .exit)) ⌝ }
 {
     if info.len() < 3 {
@@ -108,10 +97,7 @@ pub(crate) fn tell_judged(c: Copied, info: &mut [u64]) -> u32
             put_figures(&[], 3, info);
             UNKNOWN_KIND
         }
-        Copied::Unread(r) => {
-            put_figures(&[r.place() as u64, r.wanting() as u64], 1, info);
-            r.number()
-        }
+        Copied::Unread(r) => tell_refused(r, 1, info),
         Copied::Unwritten {
             refusal,
             next,
@@ -130,10 +116,8 @@ pub(crate) fn tell_judged(c: Copied, info: &mut [u64]) -> u32
     }
 }
 
-// Reads a message of a kind from place `at` of src, and writes nothing. 0: info holds the place after what was read, 1 if that was in
-// published form and else 0, and how many bytes its rewriting has. A refusal: its place, how many bytes it wants, and 0.
-#[no_mangle]
-pub extern "C" fn yugerzat_judge(kind: u32, src: &[u8], at: usize, info: &mut [u64]) -> u32
+// The same for `yugerzat_judge`.
+pub(crate) fn judge_any(kind: u32, src: &[u8], at: usize, info: &mut [u64]) -> u32
     ensures { λ r. ⌜ JudgeCalled kind (now (src .entry)) at (now (info .entry)) r (now (info .exit)) ⌝ }
 {
     if info.len() < 3 {

@@ -1,7 +1,8 @@
 // made by tools/generate from kinds.txt
-// `yugerzat_judge` for each kind by itself.
+// Judging, by the number of a kind and for each kind by itself.
 ghost use Rattle.door.specs.Meaning.Exports.{JudgeCalled};
 use crate::exports::SHORT_LIST;
+use crate::exports::judge_any;
 use crate::exports::tell_judged;
 use crate::files::copy_diropargs3;
 use crate::files::copy_fattr3;
@@ -74,6 +75,105 @@ use crate::procedures::copy_setattr3res;
 use crate::procedures::copy_stable_how;
 use crate::procedures::copy_write3args;
 use crate::procedures::copy_write3res;
+
+// Reads a message of a kind from place `at` of src, and writes nothing. 0: info holds the place after what was read, 1 if that was in
+// published form and else 0, and how many bytes its rewriting has. A refusal: its place, how many bytes it wants, and 0.
+#[no_mangle]
+pub extern "C" fn yugerzat_judge(kind: u32, src: &[u8], at: usize, info: &mut [u64]) -> u32
+    ensures { λ r. ⌜ JudgeCalled kind (now (src .entry)) at (now (info .entry)) r (now (info .exit)) ⌝ }
+{
+    match kind {
+        0 => yugerzat_judge_bool(src, at, info),
+        1 => yugerzat_judge_i32(src, at, info),
+        2 => yugerzat_judge_i64(src, at, info),
+        3 => yugerzat_judge_u32(src, at, info),
+        4 => yugerzat_judge_u64(src, at, info),
+        5 => yugerzat_judge_eight(src, at, info),
+        6 => yugerzat_judge_opaque(src, at, info),
+        7 => yugerzat_judge_nfsstring(src, at, info),
+        8 => yugerzat_judge_words(src, at, info),
+        9 => yugerzat_judge_msg_type(src, at, info),
+        10 => yugerzat_judge_reply_stat(src, at, info),
+        11 => yugerzat_judge_accept_stat(src, at, info),
+        12 => yugerzat_judge_reject_stat(src, at, info),
+        13 => yugerzat_judge_auth_stat(src, at, info),
+        14 => yugerzat_judge_auth_flavor(src, at, info),
+        15 => yugerzat_judge_time_how(src, at, info),
+        16 => yugerzat_judge_nfsstat3(src, at, info),
+        17 => yugerzat_judge_ftype3(src, at, info),
+        18 => yugerzat_judge_auth_unix(src, at, info),
+        19 => yugerzat_judge_opaque_auth(src, at, info),
+        20 => yugerzat_judge_rpc_msg(src, at, info),
+        21 => yugerzat_judge_rpc_body(src, at, info),
+        22 => yugerzat_judge_call_body(src, at, info),
+        23 => yugerzat_judge_reply_body(src, at, info),
+        _ => judge_more(kind, src, at, info),
+    }
+}
+
+fn judge_more(kind: u32, src: &[u8], at: usize, info: &mut [u64]) -> u32
+    ensures { λ r. ⌜ JudgeCalled kind (now (src .entry)) at (now (info .entry)) r (now (info .exit)) ⌝ }
+{
+    match kind {
+        24 => yugerzat_judge_accepted_reply(src, at, info),
+        25 => yugerzat_judge_accept_body(src, at, info),
+        26 => yugerzat_judge_rejected_reply(src, at, info),
+        27 => yugerzat_judge_mismatch_info(src, at, info),
+        28 => yugerzat_judge_specdata3(src, at, info),
+        29 => yugerzat_judge_nfs_fh3(src, at, info),
+        30 => yugerzat_judge_nfstime3(src, at, info),
+        31 => yugerzat_judge_fattr3(src, at, info),
+        32 => yugerzat_judge_fsinfo3(src, at, info),
+        33 => yugerzat_judge_wcc_attr(src, at, info),
+        34 => yugerzat_judge_pre_op_attr(src, at, info),
+        35 => yugerzat_judge_post_op_attr(src, at, info),
+        36 => yugerzat_judge_wcc_data(src, at, info),
+        37 => yugerzat_judge_post_op_fh3(src, at, info),
+        38 => yugerzat_judge_set_mode3(src, at, info),
+        39 => yugerzat_judge_set_uid3(src, at, info),
+        40 => yugerzat_judge_set_gid3(src, at, info),
+        41 => yugerzat_judge_set_size3(src, at, info),
+        42 => yugerzat_judge_set_atime(src, at, info),
+        43 => yugerzat_judge_set_mtime(src, at, info),
+        44 => yugerzat_judge_sattr3(src, at, info),
+        45 => yugerzat_judge_diropargs3(src, at, info),
+        46 => yugerzat_judge_symlinkdata3(src, at, info),
+        47 => yugerzat_judge_stable_how(src, at, info),
+        _ => judge_rest(kind, src, at, info),
+    }
+}
+
+fn judge_rest(kind: u32, src: &[u8], at: usize, info: &mut [u64]) -> u32
+    ensures { λ r. ⌜ JudgeCalled kind (now (src .entry)) at (now (info .entry)) r (now (info .exit)) ⌝ }
+{
+    match kind {
+        48 => yugerzat_judge_sattrguard3(src, at, info),
+        49 => yugerzat_judge_getattr3args(src, at, info),
+        50 => yugerzat_judge_getattr3res(src, at, info),
+        51 => yugerzat_judge_setattr3args(src, at, info),
+        52 => yugerzat_judge_setattr3res(src, at, info),
+        53 => yugerzat_judge_lookup3args(src, at, info),
+        54 => yugerzat_judge_lookup3res(src, at, info),
+        55 => yugerzat_judge_read3args(src, at, info),
+        56 => yugerzat_judge_read3res(src, at, info),
+        57 => yugerzat_judge_write3args(src, at, info),
+        58 => yugerzat_judge_write3res(src, at, info),
+        59 => yugerzat_judge_current_accept_stat(src, at, info),
+        60 => yugerzat_judge_current_auth_stat(src, at, info),
+        61 => yugerzat_judge_current_accept_body(src, at, info),
+        62 => yugerzat_judge_current_accepted_reply(src, at, info),
+        63 => yugerzat_judge_current_rejected_reply(src, at, info),
+        64 => yugerzat_judge_current_reply_body(src, at, info),
+        65 => yugerzat_judge_current_rpc_body(src, at, info),
+        66 => yugerzat_judge_current_rpc_msg(src, at, info),
+        67 => yugerzat_judge_dirpath(src, at, info),
+        68 => yugerzat_judge_mountstat3(src, at, info),
+        69 => yugerzat_judge_mountres3(src, at, info),
+        70 => yugerzat_judge_exports(src, at, info),
+        71 => yugerzat_judge_mapping(src, at, info),
+        _ => judge_any(kind, src, at, info),
+    }
+}
 
 #[no_mangle]
 pub extern "C" fn yugerzat_judge_bool(src: &[u8], at: usize, info: &mut [u64]) -> u32

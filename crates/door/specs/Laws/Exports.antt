@@ -1,6 +1,6 @@
 -- What the exported functions' proofs cite: by the room for the figures, and by what is told.
 -- Assumes nothing.
-use mathlib.Core.Path.{_≡_, refl, sym, ap, _∙_}
+use mathlib.Core.Path.{_≡_, refl, sym, ap, subst, _∙_}
 use mathlib.Core.List.{List, [], _∷_}
 use mathlib.Core.Logic.{⊎-elim}
 use Prim.Native.Nat.{ℕ, _≤_, _<_}
@@ -34,6 +34,13 @@ module _ (kind at : ℕ) (s o i : List ℕ) where
         room = λ g. record { copy = _; copies = c; number = t .number; list = t .shown .list };
         short = λ g. absurd (omega arith);
       }
+
+-- by the number that a kind has
+pub rewrite-at : {kind k at : ℕ} {s o i : List ℕ} {r : ℕ} {o′ i′ : List ℕ} → kind ≡ k → RewriteCalled k s at o i r o′ i′ → RewriteCalled kind s at o i r o′ i′
+rewrite-at {at = at} {s} {o} {i} {r} {o′} {i′} e c = subst (λ n. RewriteCalled n s at o i r o′ i′) (sym e) c
+
+pub judge-at : {kind k at : ℕ} {s i : List ℕ} {r : ℕ} {i′ : List ℕ} → kind ≡ k → JudgeCalled k s at i r i′ → JudgeCalled kind s at i r i′
+judge-at {at = at} {s} {i} {r} {i′} e c = subst (λ n. JudgeCalled n s at i r i′) (sym e) c
 
 -- a refusal by its number: only 5 says how long the rewriting is
 module _ (n k : ℕ) (b : Bool) (r : Refusal) (i i′ : List ℕ) where
