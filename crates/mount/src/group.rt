@@ -2,6 +2,7 @@
 // of its first flag and the count of its names, with one mark over them all.
 ghost use mathlib.Core.Path.{_≡_};
 ghost use mathlib.Core.Bool.{true};
+ghost use Prim.Native.Nat.{_+_, _≤_};
 ghost use Rattle.xdr.specs.Meaning.Items.{flag};
 ghost use Rattle.xdr.specs.Meaning.Format.{exactly, _⨟_};
 ghost use Rattle.xdr.specs.Meaning.Formats.{bytes};
@@ -9,6 +10,7 @@ ghost use Rattle.xdr.specs.Meaning.Public.{Answers};
 ghost use Rattle.xdr.specs.Meaning.Views.{viewPiece};
 ghost use Rattle.xdr.specs.Laws.Fields.{Lays};
 ghost use Rattle.xdr.specs.Laws.Laying.{LaysFrom};
+ghost use Rattle.mount.specs.Laws.Group.{namesOn};
 ghost use Rattle.mount.specs.Meaning.Group.{groups, next-group, viewNextGroup, lostNextGroup};
 use xdr::BoolRead;
 use xdr::Piece;
@@ -86,14 +88,16 @@ pub fn next_group_at(src: &[u8], at: usize) -> NextGroupRead
     }
 }
 
-// All names from a place on: a loop, and no recursion, so a long list needs no stack.
-pub fn groups_at(src: &[u8], at: usize) -> PieceRead
+// All names from the second on, which stands at a place if there is one: a loop, and no recursion, so a long list needs no stack.
+fn names_behind(src: &[u8], at: usize, from: usize, first: bool, mark: bool) -> PieceRead
+    requires { ⌜ groups .held .read (now src) at ≡ namesOn (now src) at from 1 first mark ⌝ }
+    requires { ⌜ at + 1 ≤ from ⌝ }
     ensures { λ r. ⌜ viewPiece r ≡ groups .held .read (now (src .entry)) at ⌝ }
 {
-    let mut here = at;
-    let mut count: usize = 0;
-    let mut plain = true;
-    let mut clean = true;
+    let mut here = from;
+    let mut count: usize = 1;
+    let mut plain = first;
+    let mut clean = mark;
     loop {
         let step = next_group_at(src, here);
         let NextGroupRead::Took {
@@ -116,6 +120,28 @@ pub fn groups_at(src: &[u8], at: usize) -> PieceRead
         plain = plain & p;
         clean = clean & name.clean;
     }
+}
+
+// All names from a place on. Most exports have none, so what stands first is asked before the loop.
+pub fn groups_at(src: &[u8], at: usize) -> PieceRead
+    ensures { λ r. ⌜ viewPiece r ≡ groups .held .read (now (src .entry)) at ⌝ }
+{
+    let step = next_group_at(src, at);
+    let NextGroupRead::Took { value, next, plain } = step else {
+        return PieceRead::Refused(step.refusal());
+    };
+    let NextGroup::Name(name) = value else {
+        return PieceRead::Took {
+            value: Piece {
+                at,
+                count: 0,
+                clean: true,
+            },
+            next,
+            plain,
+        };
+    };
+    names_behind(src, at, next, plain, name.clean)
 }
 
 // The name at a place of a list, and where the next one stands. A list that was read is walked by it from its place on.

@@ -95,6 +95,22 @@ module _ (s : List ℕ) (at : ℕ) where
           pub names-fit : Fits w64 n → Fits w64 (count + 1)
           names-fit f = omega (arith, name-inside)
 
+-- what stands first
+module _ (s : List ℕ) (at : ℕ) (given : (i : ℕ) → Fits w8 (getD s i 0)) (a : NextGroupRead) (e : viewNextGroup a ≡ next-group .held .read s at) where
+  pub names-lost : (r q : Refusal) → a ≡ NextGroup·.Refused r → q ≡ lostNextGroup a → viewPiece (Piece.Refused q) ≡ groups .held .read s at
+  names-lost = names-refused s at at 0 true true (names-start s at) a given e
+
+  module _ (v : NextGroup) (n : ℕ) (p : Bool) (f : a ≡ NextGroup·.Took v n p) where
+    pub names-none : v ≡ nextGroupIs.End → viewPiece (Piece.Took (record { at = at; count = 0; clean = true }) n p) ≡ groups .held .read s at
+    names-none = names-end s at at 0 true true (names-start s at) a given e v n p f
+
+    module _ (x : Piece) (i : v ≡ nextGroupIs.Name x) where
+      pub names-first : groups .held .read s at ≡ namesOn s at n 1 p (x .clean)
+      names-first = names-on s at at 0 true true (names-start s at) a given e v n p f x i
+
+      pub names-one : at + 1 ≤ n
+      names-one = omega (arith, name-inside s at at 0 true true (names-start s at) a given e v n p f x i)
+
 -- what is laid of a list, name by name
 pub next-group-optional : OptionalHeld bytes nextGroupCases next-group
 unfolding next-group
