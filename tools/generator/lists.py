@@ -409,7 +409,7 @@ def export_function(export, kind, copier):
     if export.out:
         body = [f"    let c = copy_{copier}(src, at, out, 0);"]
     else:
-        body = ["    let mut none: [u8; 1] = [0];", f"    let c = copy_{copier}(src, at, &mut none[0..0], 0);"]
+        body = [f"    let c = copy_{copier}(src, at, &mut [], 0);"]
     return [
         "",
         *export_head(export.function(kind), export.parameters),
@@ -432,7 +432,7 @@ def export_proof(export, kind):
     ]
     short = f"(λ c. search ({export.name}-short, needs))"
     told = f"(λ c. search ({export.name}-told {kind.number}, needs))"
-    needs = ["(search needs)"] * (4 if export.out else 6)
+    needs = ["(search needs)"] * 4
     return proof(export.name, export.function(kind), imports, [f"tie.close (tie.spec {' '.join([short, *needs, told])})"])
 
 

@@ -182,8 +182,7 @@ pub extern "C" fn yugerzat_judge_bool(src: &[u8], at: usize, info: &mut [u64]) -
     if info.len() < 3 {
         return SHORT_LIST;
     }
-    let mut none: [u8; 1] = [0];
-    let c = copy_bool(src, at, &mut none[0..0], 0);
+    let c = copy_bool(src, at, &mut [], 0);
     tell_judged(c, info)
 }
 
@@ -194,8 +193,7 @@ pub extern "C" fn yugerzat_judge_i32(src: &[u8], at: usize, info: &mut [u64]) ->
     if info.len() < 3 {
         return SHORT_LIST;
     }
-    let mut none: [u8; 1] = [0];
-    let c = copy_i32(src, at, &mut none[0..0], 0);
+    let c = copy_i32(src, at, &mut [], 0);
     tell_judged(c, info)
 }
 
@@ -206,8 +204,7 @@ pub extern "C" fn yugerzat_judge_i64(src: &[u8], at: usize, info: &mut [u64]) ->
     if info.len() < 3 {
         return SHORT_LIST;
     }
-    let mut none: [u8; 1] = [0];
-    let c = copy_i64(src, at, &mut none[0..0], 0);
+    let c = copy_i64(src, at, &mut [], 0);
     tell_judged(c, info)
 }
 
@@ -218,8 +215,7 @@ pub extern "C" fn yugerzat_judge_u32(src: &[u8], at: usize, info: &mut [u64]) ->
     if info.len() < 3 {
         return SHORT_LIST;
     }
-    let mut none: [u8; 1] = [0];
-    let c = copy_u32(src, at, &mut none[0..0], 0);
+    let c = copy_u32(src, at, &mut [], 0);
     tell_judged(c, info)
 }
 
@@ -230,8 +226,7 @@ pub extern "C" fn yugerzat_judge_u64(src: &[u8], at: usize, info: &mut [u64]) ->
     if info.len() < 3 {
         return SHORT_LIST;
     }
-    let mut none: [u8; 1] = [0];
-    let c = copy_u64(src, at, &mut none[0..0], 0);
+    let c = copy_u64(src, at, &mut [], 0);
     tell_judged(c, info)
 }
 
@@ -242,8 +237,7 @@ pub extern "C" fn yugerzat_judge_eight(src: &[u8], at: usize, info: &mut [u64]) 
     if info.len() < 3 {
         return SHORT_LIST;
     }
-    let mut none: [u8; 1] = [0];
-    let c = copy_eight(src, at, &mut none[0..0], 0);
+    let c = copy_eight(src, at, &mut [], 0);
     tell_judged(c, info)
 }
 
@@ -254,8 +248,7 @@ pub extern "C" fn yugerzat_judge_opaque(src: &[u8], at: usize, info: &mut [u64])
     if info.len() < 3 {
         return SHORT_LIST;
     }
-    let mut none: [u8; 1] = [0];
-    let c = copy_opaque(src, at, &mut none[0..0], 0);
+    let c = copy_opaque(src, at, &mut [], 0);
     tell_judged(c, info)
 }
 
@@ -266,8 +259,7 @@ pub extern "C" fn yugerzat_judge_nfsstring(src: &[u8], at: usize, info: &mut [u6
     if info.len() < 3 {
         return SHORT_LIST;
     }
-    let mut none: [u8; 1] = [0];
-    let c = copy_opaque(src, at, &mut none[0..0], 0);
+    let c = copy_opaque(src, at, &mut [], 0);
     tell_judged(c, info)
 }
 
@@ -278,8 +270,7 @@ pub extern "C" fn yugerzat_judge_words(src: &[u8], at: usize, info: &mut [u64]) 
     if info.len() < 3 {
         return SHORT_LIST;
     }
-    let mut none: [u8; 1] = [0];
-    let c = copy_words(src, at, &mut none[0..0], 0);
+    let c = copy_words(src, at, &mut [], 0);
     tell_judged(c, info)
 }
 
@@ -290,8 +281,7 @@ pub extern "C" fn yugerzat_judge_msg_type(src: &[u8], at: usize, info: &mut [u64
     if info.len() < 3 {
         return SHORT_LIST;
     }
-    let mut none: [u8; 1] = [0];
-    let c = copy_msg_type(src, at, &mut none[0..0], 0);
+    let c = copy_msg_type(src, at, &mut [], 0);
     tell_judged(c, info)
 }
 
@@ -302,8 +292,7 @@ pub extern "C" fn yugerzat_judge_reply_stat(src: &[u8], at: usize, info: &mut [u
     if info.len() < 3 {
         return SHORT_LIST;
     }
-    let mut none: [u8; 1] = [0];
-    let c = copy_reply_stat(src, at, &mut none[0..0], 0);
+    let c = copy_reply_stat(src, at, &mut [], 0);
     tell_judged(c, info)
 }
 
@@ -314,8 +303,7 @@ pub extern "C" fn yugerzat_judge_accept_stat(src: &[u8], at: usize, info: &mut [
     if info.len() < 3 {
         return SHORT_LIST;
     }
-    let mut none: [u8; 1] = [0];
-    let c = copy_accept_stat(src, at, &mut none[0..0], 0);
+    let c = copy_accept_stat(src, at, &mut [], 0);
     tell_judged(c, info)
 }
 
@@ -326,8 +314,7 @@ pub extern "C" fn yugerzat_judge_reject_stat(src: &[u8], at: usize, info: &mut [
     if info.len() < 3 {
         return SHORT_LIST;
     }
-    let mut none: [u8; 1] = [0];
-    let c = copy_reject_stat(src, at, &mut none[0..0], 0);
+    let c = copy_reject_stat(src, at, &mut [], 0);
     tell_judged(c, info)
 }
 
@@ -338,8 +325,7 @@ pub extern "C" fn yugerzat_judge_auth_stat(src: &[u8], at: usize, info: &mut [u6
     if info.len() < 3 {
         return SHORT_LIST;
     }
-    let mut none: [u8; 1] = [0];
-    let c = copy_auth_stat(src, at, &mut none[0..0], 0);
+    let c = copy_auth_stat(src, at, &mut [], 0);
     tell_judged(c, info)
 }
 
@@ -350,8 +336,7 @@ pub extern "C" fn yugerzat_judge_auth_flavor(src: &[u8], at: usize, info: &mut [
     if info.len() < 3 {
         return SHORT_LIST;
     }
-    let mut none: [u8; 1] = [0];
-    let c = copy_auth_flavor(src, at, &mut none[0..0], 0);
+    let c = copy_auth_flavor(src, at, &mut [], 0);
     tell_judged(c, info)
 }
 
@@ -362,8 +347,7 @@ pub extern "C" fn yugerzat_judge_time_how(src: &[u8], at: usize, info: &mut [u64
     if info.len() < 3 {
         return SHORT_LIST;
     }
-    let mut none: [u8; 1] = [0];
-    let c = copy_time_how(src, at, &mut none[0..0], 0);
+    let c = copy_time_how(src, at, &mut [], 0);
     tell_judged(c, info)
 }
 
@@ -374,8 +358,7 @@ pub extern "C" fn yugerzat_judge_nfsstat3(src: &[u8], at: usize, info: &mut [u64
     if info.len() < 3 {
         return SHORT_LIST;
     }
-    let mut none: [u8; 1] = [0];
-    let c = copy_nfsstat3(src, at, &mut none[0..0], 0);
+    let c = copy_nfsstat3(src, at, &mut [], 0);
     tell_judged(c, info)
 }
 
@@ -386,8 +369,7 @@ pub extern "C" fn yugerzat_judge_ftype3(src: &[u8], at: usize, info: &mut [u64])
     if info.len() < 3 {
         return SHORT_LIST;
     }
-    let mut none: [u8; 1] = [0];
-    let c = copy_ftype3(src, at, &mut none[0..0], 0);
+    let c = copy_ftype3(src, at, &mut [], 0);
     tell_judged(c, info)
 }
 
@@ -398,8 +380,7 @@ pub extern "C" fn yugerzat_judge_auth_unix(src: &[u8], at: usize, info: &mut [u6
     if info.len() < 3 {
         return SHORT_LIST;
     }
-    let mut none: [u8; 1] = [0];
-    let c = copy_auth_unix(src, at, &mut none[0..0], 0);
+    let c = copy_auth_unix(src, at, &mut [], 0);
     tell_judged(c, info)
 }
 
@@ -410,8 +391,7 @@ pub extern "C" fn yugerzat_judge_opaque_auth(src: &[u8], at: usize, info: &mut [
     if info.len() < 3 {
         return SHORT_LIST;
     }
-    let mut none: [u8; 1] = [0];
-    let c = copy_opaque_auth(src, at, &mut none[0..0], 0);
+    let c = copy_opaque_auth(src, at, &mut [], 0);
     tell_judged(c, info)
 }
 
@@ -422,8 +402,7 @@ pub extern "C" fn yugerzat_judge_rpc_msg(src: &[u8], at: usize, info: &mut [u64]
     if info.len() < 3 {
         return SHORT_LIST;
     }
-    let mut none: [u8; 1] = [0];
-    let c = copy_rpc_msg(src, at, &mut none[0..0], 0);
+    let c = copy_rpc_msg(src, at, &mut [], 0);
     tell_judged(c, info)
 }
 
@@ -434,8 +413,7 @@ pub extern "C" fn yugerzat_judge_rpc_body(src: &[u8], at: usize, info: &mut [u64
     if info.len() < 3 {
         return SHORT_LIST;
     }
-    let mut none: [u8; 1] = [0];
-    let c = copy_rpc_body(src, at, &mut none[0..0], 0);
+    let c = copy_rpc_body(src, at, &mut [], 0);
     tell_judged(c, info)
 }
 
@@ -446,8 +424,7 @@ pub extern "C" fn yugerzat_judge_call_body(src: &[u8], at: usize, info: &mut [u6
     if info.len() < 3 {
         return SHORT_LIST;
     }
-    let mut none: [u8; 1] = [0];
-    let c = copy_call_body(src, at, &mut none[0..0], 0);
+    let c = copy_call_body(src, at, &mut [], 0);
     tell_judged(c, info)
 }
 
@@ -458,8 +435,7 @@ pub extern "C" fn yugerzat_judge_reply_body(src: &[u8], at: usize, info: &mut [u
     if info.len() < 3 {
         return SHORT_LIST;
     }
-    let mut none: [u8; 1] = [0];
-    let c = copy_reply_body(src, at, &mut none[0..0], 0);
+    let c = copy_reply_body(src, at, &mut [], 0);
     tell_judged(c, info)
 }
 
@@ -470,8 +446,7 @@ pub extern "C" fn yugerzat_judge_accepted_reply(src: &[u8], at: usize, info: &mu
     if info.len() < 3 {
         return SHORT_LIST;
     }
-    let mut none: [u8; 1] = [0];
-    let c = copy_accepted_reply(src, at, &mut none[0..0], 0);
+    let c = copy_accepted_reply(src, at, &mut [], 0);
     tell_judged(c, info)
 }
 
@@ -482,8 +457,7 @@ pub extern "C" fn yugerzat_judge_accept_body(src: &[u8], at: usize, info: &mut [
     if info.len() < 3 {
         return SHORT_LIST;
     }
-    let mut none: [u8; 1] = [0];
-    let c = copy_accept_body(src, at, &mut none[0..0], 0);
+    let c = copy_accept_body(src, at, &mut [], 0);
     tell_judged(c, info)
 }
 
@@ -494,8 +468,7 @@ pub extern "C" fn yugerzat_judge_rejected_reply(src: &[u8], at: usize, info: &mu
     if info.len() < 3 {
         return SHORT_LIST;
     }
-    let mut none: [u8; 1] = [0];
-    let c = copy_rejected_reply(src, at, &mut none[0..0], 0);
+    let c = copy_rejected_reply(src, at, &mut [], 0);
     tell_judged(c, info)
 }
 
@@ -506,8 +479,7 @@ pub extern "C" fn yugerzat_judge_mismatch_info(src: &[u8], at: usize, info: &mut
     if info.len() < 3 {
         return SHORT_LIST;
     }
-    let mut none: [u8; 1] = [0];
-    let c = copy_mismatch_info(src, at, &mut none[0..0], 0);
+    let c = copy_mismatch_info(src, at, &mut [], 0);
     tell_judged(c, info)
 }
 
@@ -518,8 +490,7 @@ pub extern "C" fn yugerzat_judge_specdata3(src: &[u8], at: usize, info: &mut [u6
     if info.len() < 3 {
         return SHORT_LIST;
     }
-    let mut none: [u8; 1] = [0];
-    let c = copy_specdata3(src, at, &mut none[0..0], 0);
+    let c = copy_specdata3(src, at, &mut [], 0);
     tell_judged(c, info)
 }
 
@@ -530,8 +501,7 @@ pub extern "C" fn yugerzat_judge_nfs_fh3(src: &[u8], at: usize, info: &mut [u64]
     if info.len() < 3 {
         return SHORT_LIST;
     }
-    let mut none: [u8; 1] = [0];
-    let c = copy_nfs_fh3(src, at, &mut none[0..0], 0);
+    let c = copy_nfs_fh3(src, at, &mut [], 0);
     tell_judged(c, info)
 }
 
@@ -542,8 +512,7 @@ pub extern "C" fn yugerzat_judge_nfstime3(src: &[u8], at: usize, info: &mut [u64
     if info.len() < 3 {
         return SHORT_LIST;
     }
-    let mut none: [u8; 1] = [0];
-    let c = copy_nfstime3(src, at, &mut none[0..0], 0);
+    let c = copy_nfstime3(src, at, &mut [], 0);
     tell_judged(c, info)
 }
 
@@ -554,8 +523,7 @@ pub extern "C" fn yugerzat_judge_fattr3(src: &[u8], at: usize, info: &mut [u64])
     if info.len() < 3 {
         return SHORT_LIST;
     }
-    let mut none: [u8; 1] = [0];
-    let c = copy_fattr3(src, at, &mut none[0..0], 0);
+    let c = copy_fattr3(src, at, &mut [], 0);
     tell_judged(c, info)
 }
 
@@ -566,8 +534,7 @@ pub extern "C" fn yugerzat_judge_fsinfo3(src: &[u8], at: usize, info: &mut [u64]
     if info.len() < 3 {
         return SHORT_LIST;
     }
-    let mut none: [u8; 1] = [0];
-    let c = copy_fsinfo3(src, at, &mut none[0..0], 0);
+    let c = copy_fsinfo3(src, at, &mut [], 0);
     tell_judged(c, info)
 }
 
@@ -578,8 +545,7 @@ pub extern "C" fn yugerzat_judge_wcc_attr(src: &[u8], at: usize, info: &mut [u64
     if info.len() < 3 {
         return SHORT_LIST;
     }
-    let mut none: [u8; 1] = [0];
-    let c = copy_wcc_attr(src, at, &mut none[0..0], 0);
+    let c = copy_wcc_attr(src, at, &mut [], 0);
     tell_judged(c, info)
 }
 
@@ -590,8 +556,7 @@ pub extern "C" fn yugerzat_judge_pre_op_attr(src: &[u8], at: usize, info: &mut [
     if info.len() < 3 {
         return SHORT_LIST;
     }
-    let mut none: [u8; 1] = [0];
-    let c = copy_pre_op_attr(src, at, &mut none[0..0], 0);
+    let c = copy_pre_op_attr(src, at, &mut [], 0);
     tell_judged(c, info)
 }
 
@@ -602,8 +567,7 @@ pub extern "C" fn yugerzat_judge_post_op_attr(src: &[u8], at: usize, info: &mut 
     if info.len() < 3 {
         return SHORT_LIST;
     }
-    let mut none: [u8; 1] = [0];
-    let c = copy_post_op_attr(src, at, &mut none[0..0], 0);
+    let c = copy_post_op_attr(src, at, &mut [], 0);
     tell_judged(c, info)
 }
 
@@ -614,8 +578,7 @@ pub extern "C" fn yugerzat_judge_wcc_data(src: &[u8], at: usize, info: &mut [u64
     if info.len() < 3 {
         return SHORT_LIST;
     }
-    let mut none: [u8; 1] = [0];
-    let c = copy_wcc_data(src, at, &mut none[0..0], 0);
+    let c = copy_wcc_data(src, at, &mut [], 0);
     tell_judged(c, info)
 }
 
@@ -626,8 +589,7 @@ pub extern "C" fn yugerzat_judge_post_op_fh3(src: &[u8], at: usize, info: &mut [
     if info.len() < 3 {
         return SHORT_LIST;
     }
-    let mut none: [u8; 1] = [0];
-    let c = copy_post_op_fh3(src, at, &mut none[0..0], 0);
+    let c = copy_post_op_fh3(src, at, &mut [], 0);
     tell_judged(c, info)
 }
 
@@ -638,8 +600,7 @@ pub extern "C" fn yugerzat_judge_set_mode3(src: &[u8], at: usize, info: &mut [u6
     if info.len() < 3 {
         return SHORT_LIST;
     }
-    let mut none: [u8; 1] = [0];
-    let c = copy_set_mode3(src, at, &mut none[0..0], 0);
+    let c = copy_set_mode3(src, at, &mut [], 0);
     tell_judged(c, info)
 }
 
@@ -650,8 +611,7 @@ pub extern "C" fn yugerzat_judge_set_uid3(src: &[u8], at: usize, info: &mut [u64
     if info.len() < 3 {
         return SHORT_LIST;
     }
-    let mut none: [u8; 1] = [0];
-    let c = copy_set_uid3(src, at, &mut none[0..0], 0);
+    let c = copy_set_uid3(src, at, &mut [], 0);
     tell_judged(c, info)
 }
 
@@ -662,8 +622,7 @@ pub extern "C" fn yugerzat_judge_set_gid3(src: &[u8], at: usize, info: &mut [u64
     if info.len() < 3 {
         return SHORT_LIST;
     }
-    let mut none: [u8; 1] = [0];
-    let c = copy_set_gid3(src, at, &mut none[0..0], 0);
+    let c = copy_set_gid3(src, at, &mut [], 0);
     tell_judged(c, info)
 }
 
@@ -674,8 +633,7 @@ pub extern "C" fn yugerzat_judge_set_size3(src: &[u8], at: usize, info: &mut [u6
     if info.len() < 3 {
         return SHORT_LIST;
     }
-    let mut none: [u8; 1] = [0];
-    let c = copy_set_size3(src, at, &mut none[0..0], 0);
+    let c = copy_set_size3(src, at, &mut [], 0);
     tell_judged(c, info)
 }
 
@@ -686,8 +644,7 @@ pub extern "C" fn yugerzat_judge_set_atime(src: &[u8], at: usize, info: &mut [u6
     if info.len() < 3 {
         return SHORT_LIST;
     }
-    let mut none: [u8; 1] = [0];
-    let c = copy_set_atime(src, at, &mut none[0..0], 0);
+    let c = copy_set_atime(src, at, &mut [], 0);
     tell_judged(c, info)
 }
 
@@ -698,8 +655,7 @@ pub extern "C" fn yugerzat_judge_set_mtime(src: &[u8], at: usize, info: &mut [u6
     if info.len() < 3 {
         return SHORT_LIST;
     }
-    let mut none: [u8; 1] = [0];
-    let c = copy_set_mtime(src, at, &mut none[0..0], 0);
+    let c = copy_set_mtime(src, at, &mut [], 0);
     tell_judged(c, info)
 }
 
@@ -710,8 +666,7 @@ pub extern "C" fn yugerzat_judge_sattr3(src: &[u8], at: usize, info: &mut [u64])
     if info.len() < 3 {
         return SHORT_LIST;
     }
-    let mut none: [u8; 1] = [0];
-    let c = copy_sattr3(src, at, &mut none[0..0], 0);
+    let c = copy_sattr3(src, at, &mut [], 0);
     tell_judged(c, info)
 }
 
@@ -722,8 +677,7 @@ pub extern "C" fn yugerzat_judge_diropargs3(src: &[u8], at: usize, info: &mut [u
     if info.len() < 3 {
         return SHORT_LIST;
     }
-    let mut none: [u8; 1] = [0];
-    let c = copy_diropargs3(src, at, &mut none[0..0], 0);
+    let c = copy_diropargs3(src, at, &mut [], 0);
     tell_judged(c, info)
 }
 
@@ -734,8 +688,7 @@ pub extern "C" fn yugerzat_judge_symlinkdata3(src: &[u8], at: usize, info: &mut 
     if info.len() < 3 {
         return SHORT_LIST;
     }
-    let mut none: [u8; 1] = [0];
-    let c = copy_symlinkdata3(src, at, &mut none[0..0], 0);
+    let c = copy_symlinkdata3(src, at, &mut [], 0);
     tell_judged(c, info)
 }
 
@@ -746,8 +699,7 @@ pub extern "C" fn yugerzat_judge_stable_how(src: &[u8], at: usize, info: &mut [u
     if info.len() < 3 {
         return SHORT_LIST;
     }
-    let mut none: [u8; 1] = [0];
-    let c = copy_stable_how(src, at, &mut none[0..0], 0);
+    let c = copy_stable_how(src, at, &mut [], 0);
     tell_judged(c, info)
 }
 
@@ -758,8 +710,7 @@ pub extern "C" fn yugerzat_judge_sattrguard3(src: &[u8], at: usize, info: &mut [
     if info.len() < 3 {
         return SHORT_LIST;
     }
-    let mut none: [u8; 1] = [0];
-    let c = copy_sattrguard3(src, at, &mut none[0..0], 0);
+    let c = copy_sattrguard3(src, at, &mut [], 0);
     tell_judged(c, info)
 }
 
@@ -770,8 +721,7 @@ pub extern "C" fn yugerzat_judge_getattr3args(src: &[u8], at: usize, info: &mut 
     if info.len() < 3 {
         return SHORT_LIST;
     }
-    let mut none: [u8; 1] = [0];
-    let c = copy_getattr3args(src, at, &mut none[0..0], 0);
+    let c = copy_getattr3args(src, at, &mut [], 0);
     tell_judged(c, info)
 }
 
@@ -782,8 +732,7 @@ pub extern "C" fn yugerzat_judge_getattr3res(src: &[u8], at: usize, info: &mut [
     if info.len() < 3 {
         return SHORT_LIST;
     }
-    let mut none: [u8; 1] = [0];
-    let c = copy_getattr3res(src, at, &mut none[0..0], 0);
+    let c = copy_getattr3res(src, at, &mut [], 0);
     tell_judged(c, info)
 }
 
@@ -794,8 +743,7 @@ pub extern "C" fn yugerzat_judge_setattr3args(src: &[u8], at: usize, info: &mut 
     if info.len() < 3 {
         return SHORT_LIST;
     }
-    let mut none: [u8; 1] = [0];
-    let c = copy_setattr3args(src, at, &mut none[0..0], 0);
+    let c = copy_setattr3args(src, at, &mut [], 0);
     tell_judged(c, info)
 }
 
@@ -806,8 +754,7 @@ pub extern "C" fn yugerzat_judge_setattr3res(src: &[u8], at: usize, info: &mut [
     if info.len() < 3 {
         return SHORT_LIST;
     }
-    let mut none: [u8; 1] = [0];
-    let c = copy_setattr3res(src, at, &mut none[0..0], 0);
+    let c = copy_setattr3res(src, at, &mut [], 0);
     tell_judged(c, info)
 }
 
@@ -818,8 +765,7 @@ pub extern "C" fn yugerzat_judge_lookup3args(src: &[u8], at: usize, info: &mut [
     if info.len() < 3 {
         return SHORT_LIST;
     }
-    let mut none: [u8; 1] = [0];
-    let c = copy_lookup3args(src, at, &mut none[0..0], 0);
+    let c = copy_lookup3args(src, at, &mut [], 0);
     tell_judged(c, info)
 }
 
@@ -830,8 +776,7 @@ pub extern "C" fn yugerzat_judge_lookup3res(src: &[u8], at: usize, info: &mut [u
     if info.len() < 3 {
         return SHORT_LIST;
     }
-    let mut none: [u8; 1] = [0];
-    let c = copy_lookup3res(src, at, &mut none[0..0], 0);
+    let c = copy_lookup3res(src, at, &mut [], 0);
     tell_judged(c, info)
 }
 
@@ -842,8 +787,7 @@ pub extern "C" fn yugerzat_judge_read3args(src: &[u8], at: usize, info: &mut [u6
     if info.len() < 3 {
         return SHORT_LIST;
     }
-    let mut none: [u8; 1] = [0];
-    let c = copy_read3args(src, at, &mut none[0..0], 0);
+    let c = copy_read3args(src, at, &mut [], 0);
     tell_judged(c, info)
 }
 
@@ -854,8 +798,7 @@ pub extern "C" fn yugerzat_judge_read3res(src: &[u8], at: usize, info: &mut [u64
     if info.len() < 3 {
         return SHORT_LIST;
     }
-    let mut none: [u8; 1] = [0];
-    let c = copy_read3res(src, at, &mut none[0..0], 0);
+    let c = copy_read3res(src, at, &mut [], 0);
     tell_judged(c, info)
 }
 
@@ -866,8 +809,7 @@ pub extern "C" fn yugerzat_judge_write3args(src: &[u8], at: usize, info: &mut [u
     if info.len() < 3 {
         return SHORT_LIST;
     }
-    let mut none: [u8; 1] = [0];
-    let c = copy_write3args(src, at, &mut none[0..0], 0);
+    let c = copy_write3args(src, at, &mut [], 0);
     tell_judged(c, info)
 }
 
@@ -878,8 +820,7 @@ pub extern "C" fn yugerzat_judge_write3res(src: &[u8], at: usize, info: &mut [u6
     if info.len() < 3 {
         return SHORT_LIST;
     }
-    let mut none: [u8; 1] = [0];
-    let c = copy_write3res(src, at, &mut none[0..0], 0);
+    let c = copy_write3res(src, at, &mut [], 0);
     tell_judged(c, info)
 }
 
@@ -890,8 +831,7 @@ pub extern "C" fn yugerzat_judge_current_accept_stat(src: &[u8], at: usize, info
     if info.len() < 3 {
         return SHORT_LIST;
     }
-    let mut none: [u8; 1] = [0];
-    let c = copy_current_accept_stat(src, at, &mut none[0..0], 0);
+    let c = copy_current_accept_stat(src, at, &mut [], 0);
     tell_judged(c, info)
 }
 
@@ -902,8 +842,7 @@ pub extern "C" fn yugerzat_judge_current_auth_stat(src: &[u8], at: usize, info: 
     if info.len() < 3 {
         return SHORT_LIST;
     }
-    let mut none: [u8; 1] = [0];
-    let c = copy_current_auth_stat(src, at, &mut none[0..0], 0);
+    let c = copy_current_auth_stat(src, at, &mut [], 0);
     tell_judged(c, info)
 }
 
@@ -914,8 +853,7 @@ pub extern "C" fn yugerzat_judge_current_accept_body(src: &[u8], at: usize, info
     if info.len() < 3 {
         return SHORT_LIST;
     }
-    let mut none: [u8; 1] = [0];
-    let c = copy_current_accept_body(src, at, &mut none[0..0], 0);
+    let c = copy_current_accept_body(src, at, &mut [], 0);
     tell_judged(c, info)
 }
 
@@ -930,8 +868,7 @@ pub extern "C" fn yugerzat_judge_current_accepted_reply(
     if info.len() < 3 {
         return SHORT_LIST;
     }
-    let mut none: [u8; 1] = [0];
-    let c = copy_current_accepted_reply(src, at, &mut none[0..0], 0);
+    let c = copy_current_accepted_reply(src, at, &mut [], 0);
     tell_judged(c, info)
 }
 
@@ -946,8 +883,7 @@ pub extern "C" fn yugerzat_judge_current_rejected_reply(
     if info.len() < 3 {
         return SHORT_LIST;
     }
-    let mut none: [u8; 1] = [0];
-    let c = copy_current_rejected_reply(src, at, &mut none[0..0], 0);
+    let c = copy_current_rejected_reply(src, at, &mut [], 0);
     tell_judged(c, info)
 }
 
@@ -958,8 +894,7 @@ pub extern "C" fn yugerzat_judge_current_reply_body(src: &[u8], at: usize, info:
     if info.len() < 3 {
         return SHORT_LIST;
     }
-    let mut none: [u8; 1] = [0];
-    let c = copy_current_reply_body(src, at, &mut none[0..0], 0);
+    let c = copy_current_reply_body(src, at, &mut [], 0);
     tell_judged(c, info)
 }
 
@@ -970,8 +905,7 @@ pub extern "C" fn yugerzat_judge_current_rpc_body(src: &[u8], at: usize, info: &
     if info.len() < 3 {
         return SHORT_LIST;
     }
-    let mut none: [u8; 1] = [0];
-    let c = copy_current_rpc_body(src, at, &mut none[0..0], 0);
+    let c = copy_current_rpc_body(src, at, &mut [], 0);
     tell_judged(c, info)
 }
 
@@ -982,8 +916,7 @@ pub extern "C" fn yugerzat_judge_current_rpc_msg(src: &[u8], at: usize, info: &m
     if info.len() < 3 {
         return SHORT_LIST;
     }
-    let mut none: [u8; 1] = [0];
-    let c = copy_current_rpc_msg(src, at, &mut none[0..0], 0);
+    let c = copy_current_rpc_msg(src, at, &mut [], 0);
     tell_judged(c, info)
 }
 
@@ -994,8 +927,7 @@ pub extern "C" fn yugerzat_judge_dirpath(src: &[u8], at: usize, info: &mut [u64]
     if info.len() < 3 {
         return SHORT_LIST;
     }
-    let mut none: [u8; 1] = [0];
-    let c = copy_dirpath(src, at, &mut none[0..0], 0);
+    let c = copy_dirpath(src, at, &mut [], 0);
     tell_judged(c, info)
 }
 
@@ -1006,8 +938,7 @@ pub extern "C" fn yugerzat_judge_mountstat3(src: &[u8], at: usize, info: &mut [u
     if info.len() < 3 {
         return SHORT_LIST;
     }
-    let mut none: [u8; 1] = [0];
-    let c = copy_mountstat3(src, at, &mut none[0..0], 0);
+    let c = copy_mountstat3(src, at, &mut [], 0);
     tell_judged(c, info)
 }
 
@@ -1018,8 +949,7 @@ pub extern "C" fn yugerzat_judge_mountres3(src: &[u8], at: usize, info: &mut [u6
     if info.len() < 3 {
         return SHORT_LIST;
     }
-    let mut none: [u8; 1] = [0];
-    let c = copy_mountres3(src, at, &mut none[0..0], 0);
+    let c = copy_mountres3(src, at, &mut [], 0);
     tell_judged(c, info)
 }
 
@@ -1030,8 +960,7 @@ pub extern "C" fn yugerzat_judge_exports(src: &[u8], at: usize, info: &mut [u64]
     if info.len() < 3 {
         return SHORT_LIST;
     }
-    let mut none: [u8; 1] = [0];
-    let c = copy_exports(src, at, &mut none[0..0], 0);
+    let c = copy_exports(src, at, &mut [], 0);
     tell_judged(c, info)
 }
 
@@ -1042,7 +971,6 @@ pub extern "C" fn yugerzat_judge_mapping(src: &[u8], at: usize, info: &mut [u64]
     if info.len() < 3 {
         return SHORT_LIST;
     }
-    let mut none: [u8; 1] = [0];
-    let c = copy_mapping(src, at, &mut none[0..0], 0);
+    let c = copy_mapping(src, at, &mut [], 0);
     tell_judged(c, info)
 }

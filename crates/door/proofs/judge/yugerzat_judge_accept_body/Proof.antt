@@ -5,4 +5,4 @@ use Rattle.door.proofs.judge.yugerzat_judge_accept_body.Statement.{stat
 use Rattle.door.proofs.judge.yugerzat_judge_accept_body.Tie as tie
 
 pub yugerzat-judge-accept-body-spec : {M : Type 1} → statement M
-yugerzat-judge-accept-body-spec = tie.close (tie.spec (λ c. search (judge-short, needs)) (search needs) (search needs) (search needs) (search needs) (search needs) (search needs) (λ c. search (judge-told 25, needs)))
+yugerzat-judge-accept-body-spec = tie.close (tie.spec (λ c. search (judge-short, needs)) (search needs) (search needs) (search needs) (search needs) (λ c. search (judge-told 25, needs)))

@@ -5,4 +5,4 @@ use Rattle.door.proofs.judge.yugerzat_judge_accept_stat.Statement.{stat
 use Rattle.door.proofs.judge.yugerzat_judge_accept_stat.Tie as tie
 
 pub yugerzat-judge-accept-stat-spec : {M : Type 1} → statement M
-yugerzat-judge-accept-stat-spec = tie.close (tie.spec (λ c. search (judge-short, needs)) (search needs) (search needs) (search needs) (search needs) (search needs) (search needs) (λ c. search (judge-told 11, needs)))
+yugerzat-judge-accept-stat-spec = tie.close (tie.spec (λ c. search (judge-short, needs)) (search needs) (search needs) (search needs) (search needs) (λ c. search (judge-told 11, needs)))

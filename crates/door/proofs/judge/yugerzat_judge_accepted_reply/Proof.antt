@@ -5,4 +5,4 @@ use Rattle.door.proofs.judge.yugerzat_judge_accepted_reply.Statement.{s
 use Rattle.door.proofs.judge.yugerzat_judge_accepted_reply.Tie as tie
 
 pub yugerzat-judge-accepted-reply-spec : {M : Type 1} → statement M
-yugerzat-judge-accepted-reply-spec = tie.close (tie.spec (λ c. search (judge-short, needs)) (search needs) (search needs) (search needs) (search needs) (search needs) (search needs) (λ c. search (judge-told 24, needs)))
+yugerzat-judge-accepted-reply-spec = tie.close (tie.spec (λ c. search (judge-short, needs)) (search needs) (search needs) (search needs) (search needs) (λ c. search (judge-told 24, needs)))

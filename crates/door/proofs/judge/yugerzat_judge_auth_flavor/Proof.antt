@@ -5,4 +5,4 @@ use Rattle.door.proofs.judge.yugerzat_judge_auth_flavor.Statement.{stat
 use Rattle.door.proofs.judge.yugerzat_judge_auth_flavor.Tie as tie
 
 pub yugerzat-judge-auth-flavor-spec : {M : Type 1} → statement M
-yugerzat-judge-auth-flavor-spec = tie.close (tie.spec (λ c. search (judge-short, needs)) (search needs) (search needs) (search needs) (search needs) (search needs) (search needs) (λ c. search (judge-told 14, needs)))
+yugerzat-judge-auth-flavor-spec = tie.close (tie.spec (λ c. search (judge-short, needs)) (search needs) (search needs) (search needs) (search needs) (λ c. search (judge-told 14, needs)))

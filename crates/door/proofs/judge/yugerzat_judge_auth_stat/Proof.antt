@@ -5,4 +5,4 @@ use Rattle.door.proofs.judge.yugerzat_judge_auth_stat.Statement.{statem
 use Rattle.door.proofs.judge.yugerzat_judge_auth_stat.Tie as tie
 
 pub yugerzat-judge-auth-stat-spec : {M : Type 1} → statement M
-yugerzat-judge-auth-stat-spec = tie.close (tie.spec (λ c. search (judge-short, needs)) (search needs) (search needs) (search needs) (search needs) (search needs) (search needs) (λ c. search (judge-told 13, needs)))
+yugerzat-judge-auth-stat-spec = tie.close (tie.spec (λ c. search (judge-short, needs)) (search needs) (search needs) (search needs) (search needs) (λ c. search (judge-told 13, needs)))

@@ -5,4 +5,4 @@ use Rattle.door.proofs.judge.yugerzat_judge_auth_unix.Statement.{statem
 use Rattle.door.proofs.judge.yugerzat_judge_auth_unix.Tie as tie
 
 pub yugerzat-judge-auth-unix-spec : {M : Type 1} → statement M
-yugerzat-judge-auth-unix-spec = tie.close (tie.spec (λ c. search (judge-short, needs)) (search needs) (search needs) (search needs) (search needs) (search needs) (search needs) (λ c. search (judge-told 18, needs)))
+yugerzat-judge-auth-unix-spec = tie.close (tie.spec (λ c. search (judge-short, needs)) (search needs) (search needs) (search needs) (search needs) (λ c. search (judge-told 18, needs)))

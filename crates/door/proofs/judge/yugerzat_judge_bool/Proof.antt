@@ -5,4 +5,4 @@ use Rattle.door.proofs.judge.yugerzat_judge_bool.Statement.{statement}
 use Rattle.door.proofs.judge.yugerzat_judge_bool.Tie as tie
 
 pub yugerzat-judge-bool-spec : {M : Type 1} → statement M
-yugerzat-judge-bool-spec = tie.close (tie.spec (λ c. search (judge-short, needs)) (search needs) (search needs) (search needs) (search needs) (search needs) (search needs) (λ c. search (judge-told 0, needs)))
+yugerzat-judge-bool-spec = tie.close (tie.spec (λ c. search (judge-short, needs)) (search needs) (search needs) (search needs) (search needs) (λ c. search (judge-told 0, needs)))

@@ -5,4 +5,4 @@ use Rattle.door.proofs.judge.yugerzat_judge_call_body.Statement.{statem
 use Rattle.door.proofs.judge.yugerzat_judge_call_body.Tie as tie
 
 pub yugerzat-judge-call-body-spec : {M : Type 1} → statement M
-yugerzat-judge-call-body-spec = tie.close (tie.spec (λ c. search (judge-short, needs)) (search needs) (search needs) (search needs) (search needs) (search needs) (search needs) (λ c. search (judge-told 22, needs)))
+yugerzat-judge-call-body-spec = tie.close (tie.spec (λ c. search (judge-short, needs)) (search needs) (search needs) (search needs) (search needs) (λ c. search (judge-told 22, needs)))

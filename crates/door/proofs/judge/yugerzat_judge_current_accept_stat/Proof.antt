@@ -5,4 +5,4 @@ use Rattle.door.proofs.judge.yugerzat_judge_current_accept_stat.Stateme
 use Rattle.door.proofs.judge.yugerzat_judge_current_accept_stat.Tie as tie
 
 pub yugerzat-judge-current-accept-stat-spec : {M : Type 1} → statement M
-yugerzat-judge-current-accept-stat-spec = tie.close (tie.spec (λ c. search (judge-short, needs)) (search needs) (search needs) (search needs) (search needs) (search needs) (search needs) (λ c. search (judge-told 59, needs)))
+yugerzat-judge-current-accept-stat-spec = tie.close (tie.spec (λ c. search (judge-short, needs)) (search needs) (search needs) (search needs) (search needs) (λ c. search (judge-told 59, needs)))

@@ -5,4 +5,4 @@ use Rattle.door.proofs.judge.yugerzat_judge_current_auth_stat.Statement
 use Rattle.door.proofs.judge.yugerzat_judge_current_auth_stat.Tie as tie
 
 pub yugerzat-judge-current-auth-stat-spec : {M : Type 1} → statement M
-yugerzat-judge-current-auth-stat-spec = tie.close (tie.spec (λ c. search (judge-short, needs)) (search needs) (search needs) (search needs) (search needs) (search needs) (search needs) (λ c. search (judge-told 60, needs)))
+yugerzat-judge-current-auth-stat-spec = tie.close (tie.spec (λ c. search (judge-short, needs)) (search needs) (search needs) (search needs) (search needs) (λ c. search (judge-told 60, needs)))

@@ -5,4 +5,4 @@ use Rattle.door.proofs.judge.yugerzat_judge_current_rejected_reply.Stat
 use Rattle.door.proofs.judge.yugerzat_judge_current_rejected_reply.Tie as tie
 
 pub yugerzat-judge-current-rejected-reply-spec : {M : Type 1} → statement M
-yugerzat-judge-current-rejected-reply-spec = tie.close (tie.spec (λ c. search (judge-short, needs)) (search needs) (search needs) (search needs) (search needs) (search needs) (search needs) (λ c. search (judge-told 63, needs)))
+yugerzat-judge-current-rejected-reply-spec = tie.close (tie.spec (λ c. search (judge-short, needs)) (search needs) (search needs) (search needs) (search needs) (λ c. search (judge-told 63, needs)))

@@ -5,4 +5,4 @@ use Rattle.door.proofs.judge.yugerzat_judge_current_reply_body.Statemen
 use Rattle.door.proofs.judge.yugerzat_judge_current_reply_body.Tie as tie
 
 pub yugerzat-judge-current-reply-body-spec : {M : Type 1} → statement M
-yugerzat-judge-current-reply-body-spec = tie.close (tie.spec (λ c. search (judge-short, needs)) (search needs) (search needs) (search needs) (search needs) (search needs) (search needs) (λ c. search (judge-told 64, needs)))
+yugerzat-judge-current-reply-body-spec = tie.close (tie.spec (λ c. search (judge-short, needs)) (search needs) (search needs) (search needs) (search needs) (λ c. search (judge-told 64, needs)))

@@ -5,4 +5,4 @@ use Rattle.door.proofs.judge.yugerzat_judge_current_rpc_msg.Statement.{
 use Rattle.door.proofs.judge.yugerzat_judge_current_rpc_msg.Tie as tie
 
 pub yugerzat-judge-current-rpc-msg-spec : {M : Type 1} → statement M
-yugerzat-judge-current-rpc-msg-spec = tie.close (tie.spec (λ c. search (judge-short, needs)) (search needs) (search needs) (search needs) (search needs) (search needs) (search needs) (λ c. search (judge-told 66, needs)))
+yugerzat-judge-current-rpc-msg-spec = tie.close (tie.spec (λ c. search (judge-short, needs)) (search needs) (search needs) (search needs) (search needs) (λ c. search (judge-told 66, needs)))

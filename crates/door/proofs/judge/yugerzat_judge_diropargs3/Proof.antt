@@ -5,4 +5,4 @@ use Rattle.door.proofs.judge.yugerzat_judge_diropargs3.Statement.{state
 use Rattle.door.proofs.judge.yugerzat_judge_diropargs3.Tie as tie
 
 pub yugerzat-judge-diropargs3-spec : {M : Type 1} → statement M
-yugerzat-judge-diropargs3-spec = tie.close (tie.spec (λ c. search (judge-short, needs)) (search needs) (search needs) (search needs) (search needs) (search needs) (search needs) (λ c. search (judge-told 45, needs)))
+yugerzat-judge-diropargs3-spec = tie.close (tie.spec (λ c. search (judge-short, needs)) (search needs) (search needs) (search needs) (search needs) (λ c. search (judge-told 45, needs)))

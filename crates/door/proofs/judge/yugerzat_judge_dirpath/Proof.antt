@@ -5,4 +5,4 @@ use Rattle.door.proofs.judge.yugerzat_judge_dirpath.Statement.{statemen
 use Rattle.door.proofs.judge.yugerzat_judge_dirpath.Tie as tie
 
 pub yugerzat-judge-dirpath-spec : {M : Type 1} → statement M
-yugerzat-judge-dirpath-spec = tie.close (tie.spec (λ c. search (judge-short, needs)) (search needs) (search needs) (search needs) (search needs) (search needs) (search needs) (λ c. search (judge-told 67, needs)))
+yugerzat-judge-dirpath-spec = tie.close (tie.spec (λ c. search (judge-short, needs)) (search needs) (search needs) (search needs) (search needs) (λ c. search (judge-told 67, needs)))

@@ -5,4 +5,4 @@ use Rattle.door.proofs.judge.yugerzat_judge_eight.Statement.{statement}
 use Rattle.door.proofs.judge.yugerzat_judge_eight.Tie as tie
 
 pub yugerzat-judge-eight-spec : {M : Type 1} → statement M
-yugerzat-judge-eight-spec = tie.close (tie.spec (λ c. search (judge-short, needs)) (search needs) (search needs) (search needs) (search needs) (search needs) (search needs) (λ c. search (judge-told 5, needs)))
+yugerzat-judge-eight-spec = tie.close (tie.spec (λ c. search (judge-short, needs)) (search needs) (search needs) (search needs) (search needs) (λ c. search (judge-told 5, needs)))

@@ -5,4 +5,4 @@ use Rattle.door.proofs.judge.yugerzat_judge_exports.Statement.{statemen
 use Rattle.door.proofs.judge.yugerzat_judge_exports.Tie as tie
 
 pub yugerzat-judge-exports-spec : {M : Type 1} → statement M
-yugerzat-judge-exports-spec = tie.close (tie.spec (λ c. search (judge-short, needs)) (search needs) (search needs) (search needs) (search needs) (search needs) (search needs) (λ c. search (judge-told 70, needs)))
+yugerzat-judge-exports-spec = tie.close (tie.spec (λ c. search (judge-short, needs)) (search needs) (search needs) (search needs) (search needs) (λ c. search (judge-told 70, needs)))

@@ -5,4 +5,4 @@ use Rattle.door.proofs.judge.yugerzat_judge_fattr3.Statement.{statement
 use Rattle.door.proofs.judge.yugerzat_judge_fattr3.Tie as tie
 
 pub yugerzat-judge-fattr3-spec : {M : Type 1} → statement M
-yugerzat-judge-fattr3-spec = tie.close (tie.spec (λ c. search (judge-short, needs)) (search needs) (search needs) (search needs) (search needs) (search needs) (search needs) (λ c. search (judge-told 31, needs)))
+yugerzat-judge-fattr3-spec = tie.close (tie.spec (λ c. search (judge-short, needs)) (search needs) (search needs) (search needs) (search needs) (λ c. search (judge-told 31, needs)))

@@ -5,4 +5,4 @@ use Rattle.door.proofs.judge.yugerzat_judge_fsinfo3.Statement.{statemen
 use Rattle.door.proofs.judge.yugerzat_judge_fsinfo3.Tie as tie
 
 pub yugerzat-judge-fsinfo3-spec : {M : Type 1} → statement M
-yugerzat-judge-fsinfo3-spec = tie.close (tie.spec (λ c. search (judge-short, needs)) (search needs) (search needs) (search needs) (search needs) (search needs) (search needs) (λ c. search (judge-told 32, needs)))
+yugerzat-judge-fsinfo3-spec = tie.close (tie.spec (λ c. search (judge-short, needs)) (search needs) (search needs) (search needs) (search needs) (λ c. search (judge-told 32, needs)))

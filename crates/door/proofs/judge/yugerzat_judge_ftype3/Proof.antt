@@ -5,4 +5,4 @@ use Rattle.door.proofs.judge.yugerzat_judge_ftype3.Statement.{statement
 use Rattle.door.proofs.judge.yugerzat_judge_ftype3.Tie as tie
 
 pub yugerzat-judge-ftype3-spec : {M : Type 1} → statement M
-yugerzat-judge-ftype3-spec = tie.close (tie.spec (λ c. search (judge-short, needs)) (search needs) (search needs) (search needs) (search needs) (search needs) (search needs) (λ c. search (judge-told 17, needs)))
+yugerzat-judge-ftype3-spec = tie.close (tie.spec (λ c. search (judge-short, needs)) (search needs) (search needs) (search needs) (search needs) (λ c. search (judge-told 17, needs)))

@@ -5,4 +5,4 @@ use Rattle.door.proofs.judge.yugerzat_judge_getattr3res.Statement.{stat
 use Rattle.door.proofs.judge.yugerzat_judge_getattr3res.Tie as tie
 
 pub yugerzat-judge-getattr3res-spec : {M : Type 1} → statement M
-yugerzat-judge-getattr3res-spec = tie.close (tie.spec (λ c. search (judge-short, needs)) (search needs) (search needs) (search needs) (search needs) (search needs) (search needs) (λ c. search (judge-told 50, needs)))
+yugerzat-judge-getattr3res-spec = tie.close (tie.spec (λ c. search (judge-short, needs)) (search needs) (search needs) (search needs) (search needs) (λ c. search (judge-told 50, needs)))

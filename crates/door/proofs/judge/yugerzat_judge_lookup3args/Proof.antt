@@ -5,4 +5,4 @@ use Rattle.door.proofs.judge.yugerzat_judge_lookup3args.Statement.{stat
 use Rattle.door.proofs.judge.yugerzat_judge_lookup3args.Tie as tie
 
 pub yugerzat-judge-lookup3args-spec : {M : Type 1} → statement M
-yugerzat-judge-lookup3args-spec = tie.close (tie.spec (λ c. search (judge-short, needs)) (search needs) (search needs) (search needs) (search needs) (search needs) (search needs) (λ c. search (judge-told 53, needs)))
+yugerzat-judge-lookup3args-spec = tie.close (tie.spec (λ c. search (judge-short, needs)) (search needs) (search needs) (search needs) (search needs) (λ c. search (judge-told 53, needs)))

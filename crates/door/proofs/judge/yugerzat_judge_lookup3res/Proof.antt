@@ -5,4 +5,4 @@ use Rattle.door.proofs.judge.yugerzat_judge_lookup3res.Statement.{state
 use Rattle.door.proofs.judge.yugerzat_judge_lookup3res.Tie as tie
 
 pub yugerzat-judge-lookup3res-spec : {M : Type 1} → statement M
-yugerzat-judge-lookup3res-spec = tie.close (tie.spec (λ c. search (judge-short, needs)) (search needs) (search needs) (search needs) (search needs) (search needs) (search needs) (λ c. search (judge-told 54, needs)))
+yugerzat-judge-lookup3res-spec = tie.close (tie.spec (λ c. search (judge-short, needs)) (search needs) (search needs) (search needs) (search needs) (λ c. search (judge-told 54, needs)))

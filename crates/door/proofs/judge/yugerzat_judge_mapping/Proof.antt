@@ -5,4 +5,4 @@ use Rattle.door.proofs.judge.yugerzat_judge_mapping.Statement.{statemen
 use Rattle.door.proofs.judge.yugerzat_judge_mapping.Tie as tie
 
 pub yugerzat-judge-mapping-spec : {M : Type 1} → statement M
-yugerzat-judge-mapping-spec = tie.close (tie.spec (λ c. search (judge-short, needs)) (search needs) (search needs) (search needs) (search needs) (search needs) (search needs) (λ c. search (judge-told 71, needs)))
+yugerzat-judge-mapping-spec = tie.close (tie.spec (λ c. search (judge-short, needs)) (search needs) (search needs) (search needs) (search needs) (λ c. search (judge-told 71, needs)))

@@ -5,4 +5,4 @@ use Rattle.door.proofs.judge.yugerzat_judge_mismatch_info.Statement.{st
 use Rattle.door.proofs.judge.yugerzat_judge_mismatch_info.Tie as tie
 
 pub yugerzat-judge-mismatch-info-spec : {M : Type 1} → statement M
-yugerzat-judge-mismatch-info-spec = tie.close (tie.spec (λ c. search (judge-short, needs)) (search needs) (search needs) (search needs) (search needs) (search needs) (search needs) (λ c. search (judge-told 27, needs)))
+yugerzat-judge-mismatch-info-spec = tie.close (tie.spec (λ c. search (judge-short, needs)) (search needs) (search needs) (search needs) (search needs) (λ c. search (judge-told 27, needs)))

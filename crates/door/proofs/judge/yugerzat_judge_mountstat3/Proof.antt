@@ -5,4 +5,4 @@ use Rattle.door.proofs.judge.yugerzat_judge_mountstat3.Statement.{state
 use Rattle.door.proofs.judge.yugerzat_judge_mountstat3.Tie as tie
 
 pub yugerzat-judge-mountstat3-spec : {M : Type 1} → statement M
-yugerzat-judge-mountstat3-spec = tie.close (tie.spec (λ c. search (judge-short, needs)) (search needs) (search needs) (search needs) (search needs) (search needs) (search needs) (λ c. search (judge-told 68, needs)))
+yugerzat-judge-mountstat3-spec = tie.close (tie.spec (λ c. search (judge-short, needs)) (search needs) (search needs) (search needs) (search needs) (λ c. search (judge-told 68, needs)))

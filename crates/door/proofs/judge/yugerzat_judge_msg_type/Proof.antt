@@ -5,4 +5,4 @@ use Rattle.door.proofs.judge.yugerzat_judge_msg_type.Statement.{stateme
 use Rattle.door.proofs.judge.yugerzat_judge_msg_type.Tie as tie
 
 pub yugerzat-judge-msg-type-spec : {M : Type 1} → statement M
-yugerzat-judge-msg-type-spec = tie.close (tie.spec (λ c. search (judge-short, needs)) (search needs) (search needs) (search needs) (search needs) (search needs) (search needs) (λ c. search (judge-told 9, needs)))
+yugerzat-judge-msg-type-spec = tie.close (tie.spec (λ c. search (judge-short, needs)) (search needs) (search needs) (search needs) (search needs) (λ c. search (judge-told 9, needs)))

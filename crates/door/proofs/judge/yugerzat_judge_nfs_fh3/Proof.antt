@@ -5,4 +5,4 @@ use Rattle.door.proofs.judge.yugerzat_judge_nfs_fh3.Statement.{statemen
 use Rattle.door.proofs.judge.yugerzat_judge_nfs_fh3.Tie as tie
 
 pub yugerzat-judge-nfs-fh3-spec : {M : Type 1} → statement M
-yugerzat-judge-nfs-fh3-spec = tie.close (tie.spec (λ c. search (judge-short, needs)) (search needs) (search needs) (search needs) (search needs) (search needs) (search needs) (λ c. search (judge-told 29, needs)))
+yugerzat-judge-nfs-fh3-spec = tie.close (tie.spec (λ c. search (judge-short, needs)) (search needs) (search needs) (search needs) (search needs) (λ c. search (judge-told 29, needs)))

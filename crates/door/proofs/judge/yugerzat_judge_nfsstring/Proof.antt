@@ -5,4 +5,4 @@ use Rattle.door.proofs.judge.yugerzat_judge_nfsstring.Statement.{statem
 use Rattle.door.proofs.judge.yugerzat_judge_nfsstring.Tie as tie
 
 pub yugerzat-judge-nfsstring-spec : {M : Type 1} → statement M
-yugerzat-judge-nfsstring-spec = tie.close (tie.spec (λ c. search (judge-short, needs)) (search needs) (search needs) (search needs) (search needs) (search needs) (search needs) (λ c. search (judge-told 7, needs)))
+yugerzat-judge-nfsstring-spec = tie.close (tie.spec (λ c. search (judge-short, needs)) (search needs) (search needs) (search needs) (search needs) (λ c. search (judge-told 7, needs)))

@@ -5,4 +5,4 @@ use Rattle.door.proofs.judge.yugerzat_judge_opaque.Statement.{statement
 use Rattle.door.proofs.judge.yugerzat_judge_opaque.Tie as tie
 
 pub yugerzat-judge-opaque-spec : {M : Type 1} → statement M
-yugerzat-judge-opaque-spec = tie.close (tie.spec (λ c. search (judge-short, needs)) (search needs) (search needs) (search needs) (search needs) (search needs) (search needs) (λ c. search (judge-told 6, needs)))
+yugerzat-judge-opaque-spec = tie.close (tie.spec (λ c. search (judge-short, needs)) (search needs) (search needs) (search needs) (search needs) (λ c. search (judge-told 6, needs)))

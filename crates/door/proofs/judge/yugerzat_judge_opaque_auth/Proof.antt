@@ -5,4 +5,4 @@ use Rattle.door.proofs.judge.yugerzat_judge_opaque_auth.Statement.{stat
 use Rattle.door.proofs.judge.yugerzat_judge_opaque_auth.Tie as tie
 
 pub yugerzat-judge-opaque-auth-spec : {M : Type 1} → statement M
-yugerzat-judge-opaque-auth-spec = tie.close (tie.spec (λ c. search (judge-short, needs)) (search needs) (search needs) (search needs) (search needs) (search needs) (search needs) (λ c. search (judge-told 19, needs)))
+yugerzat-judge-opaque-auth-spec = tie.close (tie.spec (λ c. search (judge-short, needs)) (search needs) (search needs) (search needs) (search needs) (λ c. search (judge-told 19, needs)))

@@ -5,4 +5,4 @@ use Rattle.door.proofs.judge.yugerzat_judge_post_op_attr.Statement.{sta
 use Rattle.door.proofs.judge.yugerzat_judge_post_op_attr.Tie as tie
 
 pub yugerzat-judge-post-op-attr-spec : {M : Type 1} → statement M
-yugerzat-judge-post-op-attr-spec = tie.close (tie.spec (λ c. search (judge-short, needs)) (search needs) (search needs) (search needs) (search needs) (search needs) (search needs) (λ c. search (judge-told 35, needs)))
+yugerzat-judge-post-op-attr-spec = tie.close (tie.spec (λ c. search (judge-short, needs)) (search needs) (search needs) (search needs) (search needs) (λ c. search (judge-told 35, needs)))

@@ -5,4 +5,4 @@ use Rattle.door.proofs.judge.yugerzat_judge_post_op_fh3.Statement.{stat
 use Rattle.door.proofs.judge.yugerzat_judge_post_op_fh3.Tie as tie
 
 pub yugerzat-judge-post-op-fh3-spec : {M : Type 1} → statement M
-yugerzat-judge-post-op-fh3-spec = tie.close (tie.spec (λ c. search (judge-short, needs)) (search needs) (search needs) (search needs) (search needs) (search needs) (search needs) (λ c. search (judge-told 37, needs)))
+yugerzat-judge-post-op-fh3-spec = tie.close (tie.spec (λ c. search (judge-short, needs)) (search needs) (search needs) (search needs) (search needs) (λ c. search (judge-told 37, needs)))

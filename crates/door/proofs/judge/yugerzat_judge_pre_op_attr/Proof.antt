@@ -5,4 +5,4 @@ use Rattle.door.proofs.judge.yugerzat_judge_pre_op_attr.Statement.{stat
 use Rattle.door.proofs.judge.yugerzat_judge_pre_op_attr.Tie as tie
 
 pub yugerzat-judge-pre-op-attr-spec : {M : Type 1} → statement M
-yugerzat-judge-pre-op-attr-spec = tie.close (tie.spec (λ c. search (judge-short, needs)) (search needs) (search needs) (search needs) (search needs) (search needs) (search needs) (λ c. search (judge-told 34, needs)))
+yugerzat-judge-pre-op-attr-spec = tie.close (tie.spec (λ c. search (judge-short, needs)) (search needs) (search needs) (search needs) (search needs) (λ c. search (judge-told 34, needs)))

@@ -5,4 +5,4 @@ use Rattle.door.proofs.judge.yugerzat_judge_read3args.Statement.{statem
 use Rattle.door.proofs.judge.yugerzat_judge_read3args.Tie as tie
 
 pub yugerzat-judge-read3args-spec : {M : Type 1} → statement M
-yugerzat-judge-read3args-spec = tie.close (tie.spec (λ c. search (judge-short, needs)) (search needs) (search needs) (search needs) (search needs) (search needs) (search needs) (λ c. search (judge-told 55, needs)))
+yugerzat-judge-read3args-spec = tie.close (tie.spec (λ c. search (judge-short, needs)) (search needs) (search needs) (search needs) (search needs) (λ c. search (judge-told 55, needs)))

@@ -5,4 +5,4 @@ use Rattle.door.proofs.judge.yugerzat_judge_read3res.Statement.{stateme
 use Rattle.door.proofs.judge.yugerzat_judge_read3res.Tie as tie
 
 pub yugerzat-judge-read3res-spec : {M : Type 1} → statement M
-yugerzat-judge-read3res-spec = tie.close (tie.spec (λ c. search (judge-short, needs)) (search needs) (search needs) (search needs) (search needs) (search needs) (search needs) (λ c. search (judge-told 56, needs)))
+yugerzat-judge-read3res-spec = tie.close (tie.spec (λ c. search (judge-short, needs)) (search needs) (search needs) (search needs) (search needs) (λ c. search (judge-told 56, needs)))

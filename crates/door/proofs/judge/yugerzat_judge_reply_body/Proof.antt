@@ -5,4 +5,4 @@ use Rattle.door.proofs.judge.yugerzat_judge_reply_body.Statement.{state
 use Rattle.door.proofs.judge.yugerzat_judge_reply_body.Tie as tie
 
 pub yugerzat-judge-reply-body-spec : {M : Type 1} → statement M
-yugerzat-judge-reply-body-spec = tie.close (tie.spec (λ c. search (judge-short, needs)) (search needs) (search needs) (search needs) (search needs) (search needs) (search needs) (λ c. search (judge-told 23, needs)))
+yugerzat-judge-reply-body-spec = tie.close (tie.spec (λ c. search (judge-short, needs)) (search needs) (search needs) (search needs) (search needs) (λ c. search (judge-told 23, needs)))

@@ -5,4 +5,4 @@ use Rattle.door.proofs.judge.yugerzat_judge_reply_stat.Statement.{state
 use Rattle.door.proofs.judge.yugerzat_judge_reply_stat.Tie as tie
 
 pub yugerzat-judge-reply-stat-spec : {M : Type 1} → statement M
-yugerzat-judge-reply-stat-spec = tie.close (tie.spec (λ c. search (judge-short, needs)) (search needs) (search needs) (search needs) (search needs) (search needs) (search needs) (λ c. search (judge-told 10, needs)))
+yugerzat-judge-reply-stat-spec = tie.close (tie.spec (λ c. search (judge-short, needs)) (search needs) (search needs) (search needs) (search needs) (λ c. search (judge-told 10, needs)))

@@ -5,4 +5,4 @@ use Rattle.door.proofs.judge.yugerzat_judge_rpc_msg.Statement.{statemen
 use Rattle.door.proofs.judge.yugerzat_judge_rpc_msg.Tie as tie
 
 pub yugerzat-judge-rpc-msg-spec : {M : Type 1} → statement M
-yugerzat-judge-rpc-msg-spec = tie.close (tie.spec (λ c. search (judge-short, needs)) (search needs) (search needs) (search needs) (search needs) (search needs) (search needs) (λ c. search (judge-told 20, needs)))
+yugerzat-judge-rpc-msg-spec = tie.close (tie.spec (λ c. search (judge-short, needs)) (search needs) (search needs) (search needs) (search needs) (λ c. search (judge-told 20, needs)))

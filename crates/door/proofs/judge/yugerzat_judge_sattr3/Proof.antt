@@ -5,4 +5,4 @@ use Rattle.door.proofs.judge.yugerzat_judge_sattr3.Statement.{statement
 use Rattle.door.proofs.judge.yugerzat_judge_sattr3.Tie as tie
 
 pub yugerzat-judge-sattr3-spec : {M : Type 1} → statement M
-yugerzat-judge-sattr3-spec = tie.close (tie.spec (λ c. search (judge-short, needs)) (search needs) (search needs) (search needs) (search needs) (search needs) (search needs) (λ c. search (judge-told 44, needs)))
+yugerzat-judge-sattr3-spec = tie.close (tie.spec (λ c. search (judge-short, needs)) (search needs) (search needs) (search needs) (search needs) (λ c. search (judge-told 44, needs)))

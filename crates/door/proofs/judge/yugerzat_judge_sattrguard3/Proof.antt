@@ -5,4 +5,4 @@ use Rattle.door.proofs.judge.yugerzat_judge_sattrguard3.Statement.{stat
 use Rattle.door.proofs.judge.yugerzat_judge_sattrguard3.Tie as tie
 
 pub yugerzat-judge-sattrguard3-spec : {M : Type 1} → statement M
-yugerzat-judge-sattrguard3-spec = tie.close (tie.spec (λ c. search (judge-short, needs)) (search needs) (search needs) (search needs) (search needs) (search needs) (search needs) (λ c. search (judge-told 48, needs)))
+yugerzat-judge-sattrguard3-spec = tie.close (tie.spec (λ c. search (judge-short, needs)) (search needs) (search needs) (search needs) (search needs) (λ c. search (judge-told 48, needs)))

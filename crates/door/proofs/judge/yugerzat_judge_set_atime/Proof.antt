@@ -5,4 +5,4 @@ use Rattle.door.proofs.judge.yugerzat_judge_set_atime.Statement.{statem
 use Rattle.door.proofs.judge.yugerzat_judge_set_atime.Tie as tie
 
 pub yugerzat-judge-set-atime-spec : {M : Type 1} → statement M
-yugerzat-judge-set-atime-spec = tie.close (tie.spec (λ c. search (judge-short, needs)) (search needs) (search needs) (search needs) (search needs) (search needs) (search needs) (λ c. search (judge-told 42, needs)))
+yugerzat-judge-set-atime-spec = tie.close (tie.spec (λ c. search (judge-short, needs)) (search needs) (search needs) (search needs) (search needs) (λ c. search (judge-told 42, needs)))

@@ -5,4 +5,4 @@ use Rattle.door.proofs.judge.yugerzat_judge_set_mtime.Statement.{statem
 use Rattle.door.proofs.judge.yugerzat_judge_set_mtime.Tie as tie
 
 pub yugerzat-judge-set-mtime-spec : {M : Type 1} → statement M
-yugerzat-judge-set-mtime-spec = tie.close (tie.spec (λ c. search (judge-short, needs)) (search needs) (search needs) (search needs) (search needs) (search needs) (search needs) (λ c. search (judge-told 43, needs)))
+yugerzat-judge-set-mtime-spec = tie.close (tie.spec (λ c. search (judge-short, needs)) (search needs) (search needs) (search needs) (search needs) (λ c. search (judge-told 43, needs)))

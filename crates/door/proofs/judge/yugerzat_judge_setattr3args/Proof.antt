@@ -5,4 +5,4 @@ use Rattle.door.proofs.judge.yugerzat_judge_setattr3args.Statement.{sta
 use Rattle.door.proofs.judge.yugerzat_judge_setattr3args.Tie as tie
 
 pub yugerzat-judge-setattr3args-spec : {M : Type 1} → statement M
-yugerzat-judge-setattr3args-spec = tie.close (tie.spec (λ c. search (judge-short, needs)) (search needs) (search needs) (search needs) (search needs) (search needs) (search needs) (λ c. search (judge-told 51, needs)))
+yugerzat-judge-setattr3args-spec = tie.close (tie.spec (λ c. search (judge-short, needs)) (search needs) (search needs) (search needs) (search needs) (λ c. search (judge-told 51, needs)))

@@ -5,4 +5,4 @@ use Rattle.door.proofs.judge.yugerzat_judge_setattr3res.Statement.{stat
 use Rattle.door.proofs.judge.yugerzat_judge_setattr3res.Tie as tie
 
 pub yugerzat-judge-setattr3res-spec : {M : Type 1} → statement M
-yugerzat-judge-setattr3res-spec = tie.close (tie.spec (λ c. search (judge-short, needs)) (search needs) (search needs) (search needs) (search needs) (search needs) (search needs) (λ c. search (judge-told 52, needs)))
+yugerzat-judge-setattr3res-spec = tie.close (tie.spec (λ c. search (judge-short, needs)) (search needs) (search needs) (search needs) (search needs) (λ c. search (judge-told 52, needs)))

@@ -5,4 +5,4 @@ use Rattle.door.proofs.judge.yugerzat_judge_stable_how.Statement.{state
 use Rattle.door.proofs.judge.yugerzat_judge_stable_how.Tie as tie
 
 pub yugerzat-judge-stable-how-spec : {M : Type 1} → statement M
-yugerzat-judge-stable-how-spec = tie.close (tie.spec (λ c. search (judge-short, needs)) (search needs) (search needs) (search needs) (search needs) (search needs) (search needs) (λ c. search (judge-told 47, needs)))
+yugerzat-judge-stable-how-spec = tie.close (tie.spec (λ c. search (judge-short, needs)) (search needs) (search needs) (search needs) (search needs) (λ c. search (judge-told 47, needs)))

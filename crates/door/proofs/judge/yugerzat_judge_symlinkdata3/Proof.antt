@@ -5,4 +5,4 @@ use Rattle.door.proofs.judge.yugerzat_judge_symlinkdata3.Statement.{sta
 use Rattle.door.proofs.judge.yugerzat_judge_symlinkdata3.Tie as tie
 
 pub yugerzat-judge-symlinkdata3-spec : {M : Type 1} → statement M
-yugerzat-judge-symlinkdata3-spec = tie.close (tie.spec (λ c. search (judge-short, needs)) (search needs) (search needs) (search needs) (search needs) (search needs) (search needs) (λ c. search (judge-told 46, needs)))
+yugerzat-judge-symlinkdata3-spec = tie.close (tie.spec (λ c. search (judge-short, needs)) (search needs) (search needs) (search needs) (search needs) (λ c. search (judge-told 46, needs)))

@@ -5,4 +5,4 @@ use Rattle.door.proofs.judge.yugerzat_judge_time_how.Statement.{stateme
 use Rattle.door.proofs.judge.yugerzat_judge_time_how.Tie as tie
 
 pub yugerzat-judge-time-how-spec : {M : Type 1} → statement M
-yugerzat-judge-time-how-spec = tie.close (tie.spec (λ c. search (judge-short, needs)) (search needs) (search needs) (search needs) (search needs) (search needs) (search needs) (λ c. search (judge-told 15, needs)))
+yugerzat-judge-time-how-spec = tie.close (tie.spec (λ c. search (judge-short, needs)) (search needs) (search needs) (search needs) (search needs) (λ c. search (judge-told 15, needs)))

@@ -5,4 +5,4 @@ use Rattle.door.proofs.judge.yugerzat_judge_wcc_attr.Statement.{stateme
 use Rattle.door.proofs.judge.yugerzat_judge_wcc_attr.Tie as tie
 
 pub yugerzat-judge-wcc-attr-spec : {M : Type 1} → statement M
-yugerzat-judge-wcc-attr-spec = tie.close (tie.spec (λ c. search (judge-short, needs)) (search needs) (search needs) (search needs) (search needs) (search needs) (search needs) (λ c. search (judge-told 33, needs)))
+yugerzat-judge-wcc-attr-spec = tie.close (tie.spec (λ c. search (judge-short, needs)) (search needs) (search needs) (search needs) (search needs) (λ c. search (judge-told 33, needs)))

@@ -5,4 +5,4 @@ use Rattle.door.proofs.judge.yugerzat_judge_wcc_data.Statement.{stateme
 use Rattle.door.proofs.judge.yugerzat_judge_wcc_data.Tie as tie
 
 pub yugerzat-judge-wcc-data-spec : {M : Type 1} → statement M
-yugerzat-judge-wcc-data-spec = tie.close (tie.spec (λ c. search (judge-short, needs)) (search needs) (search needs) (search needs) (search needs) (search needs) (search needs) (λ c. search (judge-told 36, needs)))
+yugerzat-judge-wcc-data-spec = tie.close (tie.spec (λ c. search (judge-short, needs)) (search needs) (search needs) (search needs) (search needs) (λ c. search (judge-told 36, needs)))

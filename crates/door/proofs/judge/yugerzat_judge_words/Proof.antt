@@ -5,4 +5,4 @@ use Rattle.door.proofs.judge.yugerzat_judge_words.Statement.{statement}
 use Rattle.door.proofs.judge.yugerzat_judge_words.Tie as tie
 
 pub yugerzat-judge-words-spec : {M : Type 1} → statement M
-yugerzat-judge-words-spec = tie.close (tie.spec (λ c. search (judge-short, needs)) (search needs) (search needs) (search needs) (search needs) (search needs) (search needs) (λ c. search (judge-told 8, needs)))
+yugerzat-judge-words-spec = tie.close (tie.spec (λ c. search (judge-short, needs)) (search needs) (search needs) (search needs) (search needs) (λ c. search (judge-told 8, needs)))

@@ -5,4 +5,4 @@ use Rattle.door.proofs.judge.yugerzat_judge_write3args.Statement.{state
 use Rattle.door.proofs.judge.yugerzat_judge_write3args.Tie as tie
 
 pub yugerzat-judge-write3args-spec : {M : Type 1} → statement M
-yugerzat-judge-write3args-spec = tie.close (tie.spec (λ c. search (judge-short, needs)) (search needs) (search needs) (search needs) (search needs) (search needs) (search needs) (λ c. search (judge-told 57, needs)))
+yugerzat-judge-write3args-spec = tie.close (tie.spec (λ c. search (judge-short, needs)) (search needs) (search needs) (search needs) (search needs) (λ c. search (judge-told 57, needs)))

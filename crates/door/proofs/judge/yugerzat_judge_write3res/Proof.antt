@@ -5,4 +5,4 @@ use Rattle.door.proofs.judge.yugerzat_judge_write3res.Statement.{statem
 use Rattle.door.proofs.judge.yugerzat_judge_write3res.Tie as tie
 
 pub yugerzat-judge-write3res-spec : {M : Type 1} → statement M
-yugerzat-judge-write3res-spec = tie.close (tie.spec (λ c. search (judge-short, needs)) (search needs) (search needs) (search needs) (search needs) (search needs) (search needs) (λ c. search (judge-told 58, needs)))
+yugerzat-judge-write3res-spec = tie.close (tie.spec (λ c. search (judge-short, needs)) (search needs) (search needs) (search needs) (search needs) (λ c. search (judge-told 58, needs)))
