@@ -6,6 +6,7 @@ pub mod Values
 pub mod Given
 pub mod Parts
 pub mod Taken
+pub mod TakenFattr
 pub mod Laid
 pub mod One
 pub mod Again

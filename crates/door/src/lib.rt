@@ -2,6 +2,7 @@
 pub mod copy;
 pub mod current;
 pub mod exports;
+mod fattr3;
 mod figures;
 pub mod judge;
 // made by tools/generate: copiers

@@ -7,9 +7,9 @@ ghost use Prim.Native.Nat.{_+_, _≤_};
 ghost use lib.ListN.{length};
 ghost use lib.Seq.{sets};
 ghost use Rattle.xdr.specs.Meaning.Items.{word, hyper, option};
-ghost use Rattle.nfs.specs.Meaning.Set.{set-time};
-ghost use Rattle.door.specs.Meaning.Values.{optionFigures, timeFigures};
-ghost use Rattle.door.specs.Laws.Taken.{Takes, OwnerTakes, ChangeTakes, SattrTakes, SattrAnswers};
+ghost use Rattle.nfs.specs.Meaning.Set.{set-time, sattr};
+ghost use Rattle.door.specs.Meaning.Values.{optionFigures, timeFigures, sattr3Figures};
+ghost use Rattle.door.specs.Laws.Taken.{Takes, OwnerTakes, ChangeTakes, Whole, WholeAnswers};
 use nfs::Nfstime3Read;
 use nfsattr::inner::attr::nfstime3_at;
 use xdr::BoolRead;
@@ -36,7 +36,7 @@ pub(crate) fn put_two(a: u64, b: u64, info: &mut [u64], k: usize)
     info[k + 1] = b;
 }
 
-fn put_three(a: u64, b: u64, c: u64, info: &mut [u64], k: usize)
+pub(crate) fn put_three(a: u64, b: u64, c: u64, info: &mut [u64], k: usize)
     requires { ⌜ k + 3 ≤ length (now info) ⌝ }
     ensures { λ _. ⌜ now (info .exit) ≡ sets (now (info .entry)) k (a ∷ b ∷ c ∷ []) ⌝ }
 {
@@ -222,7 +222,7 @@ fn take_change(src: &[u8], at: usize, info: &mut [u64]) -> Step
 
 fn take_fields(src: &[u8], at: usize, info: &mut [u64]) -> Step
     requires { ⌜ 16 ≤ length (now info) ⌝ }
-    ensures { λ r. ⌜ SattrTakes (now (src .entry)) at (now (info .entry)) r (now (info .exit)) ⌝ }
+    ensures { λ r. ⌜ Whole sattr sattr3Figures 14 (now (src .entry)) at (now (info .entry)) r (now (info .exit)) ⌝ }
 {
     let r1 = take_owner(src, at, info);
     let Step::Took {
@@ -248,7 +248,7 @@ fn take_fields(src: &[u8], at: usize, info: &mut [u64]) -> Step
 
 pub(crate) fn take_sattr3(src: &[u8], at: usize, info: &mut [u64]) -> Step
     requires { ⌜ 16 ≤ length (now info) ⌝ }
-    ensures { λ r. ⌜ SattrAnswers (now (src .entry)) at (now (info .entry)) r (now (info .exit)) ⌝ }
+    ensures { λ r. ⌜ WholeAnswers sattr sattr3Figures 14 (now (src .entry)) at (now (info .entry)) r (now (info .exit)) ⌝ }
 {
     match open_at(src, at) {
         Opening::Refused(_) => Step::Lost,

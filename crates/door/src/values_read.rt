@@ -15,6 +15,7 @@ ghost use Rattle.rpc.specs.declared.reply.reply_body.the-variants.{«MSG_ACCEPT
 ghost use Rattle.door.specs.Meaning.Figures.{Shown, Shows};
 ghost use Rattle.door.specs.Meaning.Values.{pieceFigures, diropargs3Figures, Diropargs3Called, fattr3Figures, Fattr3Called, optionFigures, timeFigures, sattr3Figures, Sattr3Called, callFigures, acceptFigures, bodyFigures, RpcMsgCalled, unixFigures, UnixCalled, PartCalled};
 use crate::exports::SHORT_LIST;
+use crate::fattr3::take_fattr3;
 use crate::figures::bit;
 use crate::figures::put_figures;
 use crate::sattr3::Step;
@@ -160,6 +161,21 @@ fn put_fattr3(v: fattr3, next: usize, info: &mut [u64])
     put_figures(&fattr3_figures(v, ftype.number(), next), 0, info);
 }
 
+// By the reader that says why it refuses.
+fn read_fattr3_carefully(src: &[u8], at: usize, info: &mut [u64]) -> u32
+    requires { ⌜ 19 ≤ length (now info) ⌝ }
+    ensures { λ r. ⌜ Fattr3Called (now (src .entry)) at (now (info .entry)) r (now (info .exit)) ⌝ }
+{
+    let v = read_fattr3(src, at);
+    match v {
+        Fattr3Read::Refused(r) => tell_refused(r, 17, info),
+        Fattr3Read::Took { value, next } => {
+            put_fattr3(value, next, info);
+            0
+        }
+    }
+}
+
 // The figures of a fattr3, which is always in published form: the number of its type, mode, nlink, uid, gid, size, used, the two numbers of
 // rdev, fsid, fileid, then seconds and nanoseconds of atime, mtime and ctime.
 #[no_mangle]
@@ -169,14 +185,12 @@ pub extern "C" fn yugerzat_read_fattr3(src: &[u8], at: usize, info: &mut [u64]) 
     if info.len() < 19 {
         return SHORT_LIST;
     }
-    let v = read_fattr3(src, at);
-    match v {
-        Fattr3Read::Refused(r) => tell_refused(r, 17, info),
-        Fattr3Read::Took { value, next } => {
-            put_fattr3(value, next, info);
-            0
-        }
-    }
+    let t = take_fattr3(src, at, info);
+    let Step::Took { next, plain } = t else {
+        return read_fattr3_carefully(src, at, info);
+    };
+    put_two(next as u64, bit(plain), info, 0);
+    0
 }
 
 fn call_figures(m: call_body, cred: u32, verf: u32, xid: u32, next: usize, plain: u64) -> [u64; 14]

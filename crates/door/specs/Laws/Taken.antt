@@ -1,4 +1,5 @@
--- A sattr3 taken straight into the list of its figures: what the private functions of its reader promise, and what their proofs cite.
+-- Values taken straight into the list of their figures, and a sattr3 so taken: what the private functions of the readers promise, and what
+-- their proofs cite.
 -- Assumes nothing.
 use mathlib.Core.Path.{_≡_, refl, sym, ap, ap₂, subst, _∙_}
 use mathlib.Core.Bool.{Bool, true, false, not, cond, _&&_, and-true}
@@ -8,7 +9,7 @@ use Prim.Native.Nat.{ℕ, zero, suc, _+_, _≤_, _<_}
 use native.Mathlib.Omega.{arith}
 use native.Mathlib.Nat.{add-zero, zero-add, suc-add, add-suc}
 use native.Mathlib.Numerals.{add-one}
-use lib.ListN.{getD, length, drop, set, length-set, replicate, length-replicate, length-append}
+use lib.ListN.{getD, length, drop, set, length-replicate, length-append}
 use mir.Syntax.{w8}
 use mir.Val.{Fits}
 use lib.Seq.{sets, length-sets, sets-eq, set-comm}
@@ -36,7 +37,7 @@ use Rattle.nfs.specs.Meaning.Change.{setModeCases, setUidCases, setGidCases, se
 use Rattle.nfs.specs.Meaning.Set.{SetTime, dont-change, server-time, client-time, set-time, Times, timed, atimeCases, mtimeCases, set-atime, set-mtime, atime-from-to, mtime-from-to, atimeFrom, mtimeFrom, sattr}
 use Rattle.nfs.specs.Laws.Plans.{sattr-plan}
 use Rattle.nfs.specs.declared.set.sattr3.{sattr3}
-use Rattle.door.specs.Meaning.Values.{optionFigures, timeFigures, sattr3Figures, readCode, readFigures, ValueCalled, ValueTold, Sattr3Called}
+use Rattle.door.specs.Meaning.Values.{optionFigures, timeFigures, sattr3Figures, readFigures, ValueCalled}
 use Rattle.door.specs.declared.sattr3.Step.{Step}
 use Rattle.door.specs.declared.sattr3.Step.the-variants as step
 
@@ -106,27 +107,27 @@ module _ (s : List ℕ) (p : ℕ) (i : List ℕ) where
   pub record ChangeTakes (r : Step) (i′ : List ℕ) : Type 0 where
     pub by : ChangeBy r i′
 
--- a sattr3 has fourteen figures, from the third on
-module _ (s : List ℕ) (p : ℕ) (i : List ℕ) where
-  abbrev pub SattrTakesBy : Step → List ℕ → Type 0
-  SattrTakesBy step.Lost i′ = Within 16 i i′
-  SattrTakesBy (step.Took n b) i′ = Taken sattr sattr3Figures s p 2 i n b i′
+-- a whole value, which has k figures, from the third on
+module _ {X : Type 0} (C : Codec X) (f : X → List ℕ) (k : ℕ) (s : List ℕ) (p : ℕ) (i : List ℕ) where
+  abbrev pub WholeBy : Step → List ℕ → Type 0
+  WholeBy step.Lost i′ = Within (2 + k) i i′
+  WholeBy (step.Took n b) i′ = Taken C f s p 2 i n b i′
 
-  pub record SattrTakes (r : Step) (i′ : List ℕ) : Type 0 where
-    pub by : SattrTakesBy r i′
+  pub record Whole (r : Step) (i′ : List ℕ) : Type 0 where
+    pub by : WholeBy r i′
 
   -- the same as a public reader's answer
-  pub record SattrAnswered (n : ℕ) (b : Bool) (i′ : List ℕ) : Type 0 where
-    pub value : sattr3
-    pub answers : Answers (exactly sattr) s p (took value n b)
-    pub list : i′ ≡ sets i 2 (sattr3Figures value)
+  pub record Answered (n : ℕ) (b : Bool) (i′ : List ℕ) : Type 0 where
+    pub value : X
+    pub answers : Answers (exactly C) s p (took value n b)
+    pub list : i′ ≡ sets i 2 (f value)
 
-  abbrev pub SattrAnswersBy : Step → List ℕ → Type 0
-  SattrAnswersBy step.Lost i′ = Within 16 i i′
-  SattrAnswersBy (step.Took n b) i′ = SattrAnswered n b i′
+  abbrev pub WholeAnswersBy : Step → List ℕ → Type 0
+  WholeAnswersBy step.Lost i′ = Within (2 + k) i i′
+  WholeAnswersBy (step.Took n b) i′ = Answered n b i′
 
-  pub record SattrAnswers (r : Step) (i′ : List ℕ) : Type 0 where
-    pub by : SattrAnswersBy r i′
+  pub record WholeAnswers (r : Step) (i′ : List ℕ) : Type 0 where
+    pub by : WholeAnswersBy r i′
 
 -- stores: one run behind another, one before another, and what stands behind them all
 sets-append : (f : List ℕ) (l : List ℕ) (k : ℕ) (g : List ℕ) → sets (sets l k f) (k + length f) g ≡ sets l k (f ++ g)
@@ -168,6 +169,11 @@ pub three-set : (i : List ℕ) (k a b c : ℕ) → set (set (set i k a) (k + 1) 
 three-set i k a b c =
     let e : k + 2 ≡ suc (suc k) = omega arith in
     rw (add-one k, e) refl
+
+-- six, by threes
+pub six-set : (i : List ℕ) {i₁ i₂ : List ℕ} (k a b c d e f : ℕ) → i₁ ≡ sets i k (a ∷ b ∷ c ∷ []) → i₂ ≡ sets i₁ (k + 3) (d ∷ e ∷ f ∷ [])
+    → i₂ ≡ sets i k (a ∷ b ∷ c ∷ d ∷ e ∷ f ∷ [])
+six-set i k a b c d e f g h = h ∙ ap (λ l. sets l (k + 3) (d ∷ e ∷ f ∷ [])) g ∙ sets-append (a ∷ b ∷ c ∷ []) i k (d ∷ e ∷ f ∷ [])
 
 -- a flag, and what it sets
 module _ {M : Type 0} (C : Codec M) (s : List ℕ) (p : ℕ) {n : ℕ} {b : Bool} where
@@ -222,7 +228,13 @@ module _ {X : Type 0} {C : Codec X} {f : X → List ℕ} {s : List ℕ} {p k : �
 pub sets-long : (i : List ℕ) {i′ : List ℕ} (k : ℕ) (f : List ℕ) → i′ ≡ sets i k f → length i′ ≡ length i
 sets-long i k f e = ap length e ∙ length-sets i k f
 
--- a list whose first sixteen figures are being put
+pub sets-both-long : (i : List ℕ) {i₁ i₂ : List ℕ} (k m : ℕ) (f g : List ℕ) → i₁ ≡ sets i k f → i₂ ≡ sets i₁ m g → length i₂ ≡ length i
+sets-both-long i {i₁} k m f g e h = sets-long i₁ m g h ∙ sets-long i k f e
+
+pub sets-fits : (i : List ℕ) {i′ : List ℕ} (k m n : ℕ) (f : List ℕ) → i′ ≡ sets i k f → n ≤ length i → m ≤ n → m ≤ length i′
+sets-fits i k m n f e h g = let l = sets-long i k f e in omega arith
+
+-- a list whose first figures are being put
 pub within-long : {k : ℕ} {i i′ : List ℕ} → Within k i i′ → length i′ ≡ length i
 within-long w = w .same
 
@@ -233,7 +245,7 @@ within-sets : {m : ℕ} {i i′ : List ℕ} (k : ℕ) (f : List ℕ) → Within 
 within-sets {m} {i} {i′} k f w h =
     record { same = length-sets i′ k f ∙ w .same; rest = drop-sets f i′ k m h ∙ w .rest }
 
-within-by : {m : ℕ} {X : Type 0} (C : Codec X) (f : X → List ℕ) (s : List ℕ) (p k : ℕ) {i i′ i″ : List ℕ} (r : Step) → Within m i i′
+pub within-by : {m : ℕ} {X : Type 0} (C : Codec X) (f : X → List ℕ) (s : List ℕ) (p k : ℕ) {i i′ i″ : List ℕ} (r : Step) → Within m i i′
     → ((x : X) → k + length (f x) ≤ m) → TakesBy C f s p k i′ r i″ → Within m i i″
 within-by {m} C f s p k {i} step.Lost w h e = subst (Within m i) (sym e) w
 within-by {m} C f s p k {i} (step.Took n b) w h t = subst (Within m i) (sym (t .list)) (within-sets k (f (t .value)) w (h (t .value)))
@@ -430,7 +442,7 @@ module _ {s : List ℕ} {p : ℕ} {i i₁ : List ℕ} {r₁ : Step} (t : OwnerTa
         let w : Within 16 i₁ i₂ = subst (λ z. ChangeBy s n₁ i₁ z i₂) e (u .by) in
         record { same = w .same ∙ fields-1 .same; rest = w .rest ∙ fields-1 .rest }
 
-    pub fields-took : {n₂ : ℕ} {b₁ b₂ : Bool} → r₁ ≡ step.Took n₁ b₁ → r₂ ≡ step.Took n₂ b₂ → SattrTakes s p i (step.Took n₂ (b₁ && b₂)) i₂
+    pub fields-took : {n₂ : ℕ} {b₁ b₂ : Bool} → r₁ ≡ step.Took n₁ b₁ → r₂ ≡ step.Took n₂ b₂ → Whole sattr sattr3Figures 14 s p i (step.Took n₂ (b₁ && b₂)) i₂
     fields-took e f =
         record { by = all-six s p i (subst (λ z. OwnerBy s p i z i₁) e (t .by)) (subst (λ z. ChangeBy s n₁ i₁ z i₂) f (u .by)) }
 
@@ -441,27 +453,8 @@ module _ {s : List ℕ} {p : ℕ} {i i₁ : List ℕ} {r₁ : Step} (t : OwnerTa
         by step.Lost w = w .same
         by (step.Took n b) y = sets-long i₁ 8 (optionFigures (y .size) ++ (timeFigures (y .atime) ++ timeFigures (y .mtime))) (y .list)
 
-pub fields-lost : (s : List ℕ) (p : ℕ) {i i′ : List ℕ} → Within 16 i i′ → SattrTakes s p i step.Lost i′
-fields-lost s p w = record { by = w }
-
--- by whether the source may be read from the place on; `given` is what a slice's rule gives
-module _ (s : List ℕ) (p : ℕ) (given : (j : ℕ) → Fits w8 (getD s j 0)) {r : Opening} (e : viewOpening p r ≡ opened s p (took tt p true)) (i i′ : List ℕ) where
-  pub fields-answer : r ≡ opening.Open → (q : Step) → SattrTakes s p i q i′ → SattrAnswers s p i q i′
-  fields-answer f step.Lost t = record { by = t .by }
-  fields-answer f (step.Took n b) t =
-      record {
-        by = record { value = t .by .value; answers = answers-on (exactly sattr) s p given e f (sym (t .by .reads)); list = t .by .list };
-      }
-
-pub answer-long : (s : List ℕ) (p : ℕ) (i : List ℕ) {i′ : List ℕ} (q : Step) → SattrTakes s p i q i′ → length i′ ≡ length i
-answer-long s p i step.Lost t = t .by .same
-answer-long s p i (step.Took n b) t = sets-long i 2 (sattr3Figures (t .by .value)) (t .by .list)
-
-pub never-open : (s : List ℕ) (p : ℕ) (i : List ℕ) → SattrAnswers s p i step.Lost i
-never-open s p i = record { by = within-none i }
-
--- what the exported reader answers: as the careful reader does, or with the figures that were put
-sattr3-long : (x : sattr3) → length (sattr3Figures x) ≡ 14
+-- all its figures, for the laws of a whole value
+pub sattr3-long : (x : sattr3) → length (sattr3Figures x) ≡ 14
 sattr3-long x =
     simp (
       length-append,
@@ -473,50 +466,71 @@ sattr3-long x =
       time-long (mtimeFrom (x .mtime)),
     )
 
-figures-long : (a : Answer sattr3) → length (readFigures sattr3Figures 14 a) ≡ 16
-figures-long (took x n b) = ap (λ k. suc (suc k)) (sattr3-long x)
-figures-long (refused r) = refl
+-- a whole value; by whether the source may be read from the place on; `given` is what a slice's rule gives
+pub whole-lost : {X : Type 0} (C : Codec X) (f : X → List ℕ) (k : ℕ) (s : List ℕ) (p : ℕ) {i i′ : List ℕ} → Within (2 + k) i i′ → Whole C f k s p i step.Lost i′
+whole-lost C f k s p w = record { by = w }
 
-module _ (s : List ℕ) (p : ℕ) (i i₁ : List ℕ) (q : Step) (a : SattrAnswers s p i q i₁) where
+module _ {X : Type 0} (C : Codec X) (f : X → List ℕ) (k : ℕ) (s : List ℕ) (p : ℕ) (i : List ℕ) where
+  pub whole-answer : (given : (j : ℕ) → Fits w8 (getD s j 0)) {r : Opening} → viewOpening p r ≡ opened s p (took tt p true) → r ≡ opening.Open
+      → (i′ : List ℕ) (q : Step) → Whole C f k s p i q i′ → WholeAnswers C f k s p i q i′
+  whole-answer given e g i′ step.Lost t = record { by = t .by }
+  whole-answer given e g i′ (step.Took n b) t =
+      record {
+        by = record { value = t .by .value; answers = answers-on (exactly C) s p given e g (sym (t .by .reads)); list = t .by .list };
+      }
+
+  pub whole-long : {i′ : List ℕ} (q : Step) → Whole C f k s p i q i′ → length i′ ≡ length i
+  whole-long step.Lost t = t .by .same
+  whole-long (step.Took n b) t = sets-long i 2 (f (t .by .value)) (t .by .list)
+
+  pub never-open : WholeAnswers C f k s p i step.Lost i
+  never-open = record { by = within-none i }
+
+-- what the exported reader answers: as the careful reader does, or with the figures that were put
+module _ {X : Type 0} {C : Codec X} {f : X → List ℕ} {k : ℕ} {s : List ℕ} {p : ℕ} {i i₁ : List ℕ} {q : Step} (a : WholeAnswers C f k s p i q i₁) where
   answered-long : length i₁ ≡ length i
   answered-long = by q (a .by)
     where
-      by : (q : Step) → SattrAnswersBy s p i q i₁ → length i₁ ≡ length i
+      by : (q : Step) → WholeAnswersBy C f k s p i q i₁ → length i₁ ≡ length i
       by step.Lost w = w .same
-      by (step.Took n b) t = sets-long i 2 (sattr3Figures (t .value)) (t .list)
+      by (step.Took n b) t = sets-long i 2 (f (t .value)) (t .list)
 
-  pub sattr-fits : (m : ℕ) → m ≤ 16 → 16 ≤ length i → m ≤ length i₁
-  sattr-fits m h l = let e = answered-long in omega arith
+  pub answered-fits : (m : ℕ) → m ≤ 2 + k → 2 + k ≤ length i → m ≤ length i₁
+  answered-fits m h l = let e = answered-long in omega arith
 
-  pub two-long : {i₂ : List ℕ} (f : List ℕ) → i₂ ≡ sets i₁ 0 f → length i₂ ≡ length i
-  two-long f e = sets-long i₁ 0 f e ∙ answered-long
+  pub two-long : {i₂ : List ℕ} (g : List ℕ) → i₂ ≡ sets i₁ 0 g → length i₂ ≡ length i
+  two-long g e = sets-long i₁ 0 g e ∙ answered-long
 
-  pub again-long : {i₂ : List ℕ} {r : ℕ} → 16 ≤ length i → Sattr3Called s p i₁ r i₂ → length i₂ ≡ length i
+  pub again-long : {i₂ : List ℕ} {r : ℕ} → 2 + k ≤ length i → ValueCalled (Answers (exactly C) s p) f k i₁ r i₂ → length i₂ ≡ length i
   again-long h c =
       let e = answered-long in
       let t = c .room (omega arith) in
-      sets-long i₁ 0 (readFigures sattr3Figures 14 (t .answer)) (t .list) ∙ e
+      sets-long i₁ 0 (readFigures f k (t .answer)) (t .list) ∙ e
 
-module _ (s : List ℕ) (p : ℕ) (i i₁ i₂ : List ℕ) (q : Step) (a : SattrAnswers s p i q i₁) (h : 16 ≤ length i) where
-  pub sattr-again : q ≡ step.Lost → {r : ℕ} → Sattr3Called s p i₁ r i₂ → Sattr3Called s p i r i₂
-  sattr-again e c =
-      let w : Within 16 i i₁ = subst (λ z. SattrAnswersBy s p i z i₁) e (a .by) in
-      let long = w .same in
+figures-long : {X : Type 0} (f : X → List ℕ) (k : ℕ) → ((x : X) → length (f x) ≡ k) → (a : Answer X) → length (readFigures f k a) ≡ 2 + k
+figures-long f k long (took x n b) = omega (arith, long x)
+figures-long f k long (refused r) = omega (arith, length-replicate {A = ℕ} k 0)
+
+module _ {X : Type 0} (C : Codec X) (f : X → List ℕ) (k : ℕ) (s : List ℕ) (p : ℕ) (i i₁ i₂ : List ℕ) (q : Step) (a : WholeAnswers C f k s p i q i₁) (h : 2 + k ≤ length i) where
+  pub told-again : ((x : X) → length (f x) ≡ k) → q ≡ step.Lost → {r : ℕ} → ValueCalled (Answers (exactly C) s p) f k i₁ r i₂ → ValueCalled (Answers (exactly C) s p) f k i r i₂
+  told-again long e c =
+      let w : Within (2 + k) i i₁ = subst (λ z. WholeAnswersBy C f k s p i z i₁) e (a .by) in
+      let same = w .same in
       let t = c .room (omega arith) in
       record {
         room = λ _. record {
           answer = t .answer;
           answers = t .answers;
           number = t .number;
-          list = t .list ∙ within-over w (readFigures sattr3Figures 14 (t .answer)) (figures-long (t .answer)) h;
+          list = t .list ∙ within-over w (readFigures f k (t .answer)) (figures-long f k long (t .answer)) h;
         };
         short = λ g. absurd (omega arith);
       }
 
-  pub sattr-told : {n v : ℕ} {b : Bool} → q ≡ step.Took n b → v ≡ cond b 1 0 → i₂ ≡ sets i₁ 0 (n ∷ v ∷ []) → Sattr3Called s p i 0 i₂
-  sattr-told {n} {v} {b} e f g =
-      let t : SattrAnswered s p i n b i₁ = subst (λ z. SattrAnswersBy s p i z i₁) e (a .by) in
-      let fs : List ℕ = sattr3Figures (t .value) in
+  pub told-whole : {n v : ℕ} {b : Bool} → q ≡ step.Took n b → v ≡ cond b 1 0 → i₂ ≡ sets i₁ 0 (n ∷ v ∷ []) → ValueCalled (Answers (exactly C) s p) f k i 0 i₂
+  told-whole {n} {v} {b} e d g =
+      let t : Answered C f k s p i n b i₁ = subst (λ z. WholeAnswersBy C f k s p i z i₁) e (a .by) in
+      let fs : List ℕ = f (t .value) in
       record {
         room = λ _. record {
           answer = took (t .value) n b;
@@ -524,7 +538,7 @@ module _ (s : List ℕ) (p : ℕ) (i i₁ i₂ : List ℕ) (q : Step) (a : Sattr
           number = refl;
           list =
               g ∙ ap (λ l. set (set l 0 n) 1 v) (t .list) ∙ ap (λ l. set l 1 v) (set-before fs i 2 0 n (omega arith))
-              ∙ set-before fs (set i 0 n) 2 1 v (omega arith) ∙ ap (λ k. sets i 0 (n ∷ k ∷ fs)) f;
+              ∙ set-before fs (set i 0 n) 2 1 v (omega arith) ∙ ap (λ j. sets i 0 (n ∷ j ∷ fs)) d;
         };
         short = λ g. absurd (omega arith);
       }
