@@ -6,7 +6,7 @@ ghost use lib.Dec.{eqb};
 ghost use Prim.Native.Nat.{_+_, _-_, _<_, _≤_};
 ghost use lib.ListN.{length};
 ghost use mathlib.Core.List.{_++_};
-ghost use Rattle.xdr.specs.Meaning.Bytes.{numberAt};
+ghost use Rattle.xdr.specs.Meaning.Bytes.{numberAt, padding};
 ghost use Rattle.xdr.specs.Meaning.Items.{word, hyper, word-pair, hyper-pair, flag, int, long, opaque, words};
 ghost use Rattle.xdr.specs.Meaning.Pieces.{pieceAnswer, opaqueSize, sizeUpTo, wordsUpTo};
 ghost use Rattle.xdr.specs.Meaning.Formats.{eightHeld, pieceHeld, wordsHeld, bytes, wordList};
@@ -15,7 +15,7 @@ ghost use Rattle.xdr.specs.Meaning.Views.{viewU32, viewU64, viewU32Pair,
 ghost use Rattle.xdr.specs.declared.refusal.Refusal.the-variants.{Ended};
 ghost use Rattle.xdr.specs.Laws.Answers.{pairEnd};
 ghost use Rattle.xdr.specs.Laws.Write.{Put};
-ghost use Rattle.xdr.specs.Laws.Padding.{lastZeros, lifting};
+ghost use Rattle.xdr.specs.Laws.Padding.{lastZeros, limitOf};
 use crate::MOST;
 use crate::answer::BoolRead;
 use crate::answer::I32Read;
@@ -27,6 +27,7 @@ use crate::answer::U64PairRead;
 use crate::answer::U64Read;
 use crate::copy::copy;
 use crate::number::hyper_here;
+use crate::number::raw_here;
 use crate::number::signed32;
 use crate::number::signed64;
 use crate::number::swap;
@@ -182,27 +183,16 @@ pub fn eight_at(src: &[u8], at: usize) -> U64Read
     u64_at(src, at)
 }
 
-// By how much the low k bytes of a word are to be moved up to be its high bytes.
-fn lift(k: usize) -> u64
-    requires { ⌜ k < 4 ⌝ }
-    ensures { λ r. ⌜ r ≡ lifting k ⌝ }
+// What a word in the other order is below exactly if the bytes behind its first j are zero. 0 stands for all four: every word is below that.
+fn limit(j: usize) -> u64
+    ensures { λ r. ⌜ r ≡ limitOf j ⌝ }
 {
-    let j = k % 4;
     match j {
-        0 => 0,
-        1 => 16777216,
+        0 => 4294967296,
+        1 => 256,
         2 => 65536,
-        _ => 256,
+        _ => 16777216,
     }
-}
-
-// Whether the low k bytes of a word are zero. Names have all lengths, so k is not foreseen, and there is no branch on it.
-fn low_zeros(w: u32, k: usize) -> bool
-    requires { ⌜ k < 4 ⌝ }
-    ensures { λ r. ⌜ r ≡ lastZeros w k ⌝ }
-{
-    let wide = wide64(w);
-    wide * lift(k) % 4294967296 == 0
 }
 
 fn if_none(k: usize, a: usize, b: usize) -> usize
@@ -211,14 +201,14 @@ fn if_none(k: usize, a: usize, b: usize) -> usize
     if k == 0 { a } else { b }
 }
 
-// Whether the last k bytes of the word at a place are zero. If none is asked about, another word is read: that one may be content.
-fn pad_zeros(src: &[u8], other: usize, at: usize, k: usize) -> bool
+// Whether the pad of n bytes, whose last word is at a place, is zero. Names have all lengths, so n is not foreseen, and there is no branch on
+// it. If there is no pad, another word is read: that one may be content.
+fn pad_zeros(src: &[u8], other: usize, at: usize, n: usize) -> bool
     requires { ⌜ other + 4 ≤ length (now src) ⌝ }
     requires { ⌜ at + 4 ≤ length (now src) ⌝ }
-    requires { ⌜ k < 4 ⌝ }
-    ensures { λ r. ⌜ r ≡ lastZeros (numberAt 4 (now (src .entry)) at) k ⌝ }
+    ensures { λ r. ⌜ r ≡ lastZeros (numberAt 4 (now (src .entry)) at) (padding n) ⌝ }
 {
-    low_zeros(word_here(src, if_none(k, other, at)), k)
+    wide64(raw_here(src, if_none(n % 4, other, at))) < limit(n % 4)
 }
 
 // The n bytes of content and their pad, of an opaque that begins at a place that has its length word. The pad is the end of a word.
@@ -231,7 +221,7 @@ fn body_at(src: &[u8], at: usize, n: u32) -> PieceRead
     if src.len() - at - 4 < m {
         return PieceRead::Refused(cut_short(src.len(), at, 4 + m));
     }
-    let clean = pad_zeros(src, at, at + m, m - n);
+    let clean = pad_zeros(src, at, at + m, n);
     PieceRead::Took {
         value: Piece {
             at: at + 4,

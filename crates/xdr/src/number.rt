@@ -36,17 +36,23 @@ pub(crate) fn swap64(v: u64) -> u64
     wide64(low) * 4294967296 + wide64(high)
 }
 
+// The word at a place that has four bytes, in the other order: as it lies in memory.
+pub(crate) fn raw_here(src: &[u8], at: usize) -> u32
+    requires { ⌜ at + 4 ≤ length (now src) ⌝ }
+    ensures { λ r. ⌜ swapped r ≡ numberAt 4 (now (src .entry)) at ⌝ }
+{
+    wide(src[at])
+        + wide(src[at + 1]) * 256
+        + wide(src[at + 2]) * 65536
+        + wide(src[at + 3]) * 16777216
+}
+
 // The word at a place that has four bytes.
 pub(crate) fn word_here(src: &[u8], at: usize) -> u32
     requires { ⌜ at + 4 ≤ length (now src) ⌝ }
     ensures { λ r. ⌜ r ≡ numberAt 4 (now (src .entry)) at ⌝ }
 {
-    swap(
-        wide(src[at])
-            + wide(src[at + 1]) * 256
-            + wide(src[at + 2]) * 65536
-            + wide(src[at + 3]) * 16777216,
-    )
+    swap(raw_here(src, at))
 }
 
 // The hyper at a place that has eight bytes.

@@ -72,8 +72,8 @@ module _ (s : List ℕ) (p n : ℕ) (h : p + 4 ≤ length s) where
       ap refused f ∙ ap (λ (k : ℕ). refused (cutShort k s p)) e ∙ body-short s p n (omega (arith, padded n))
 
   pub body-on : (b : Bool) → ((i : ℕ) → Fits w8 (getD s i 0)) → (n + 3) / 4 * 4 ≤ length s - p - 4
-      → b ≡ lastZeros (numberAt 4 s (p + (n + 3) / 4 * 4)) ((n + 3) / 4 * 4 - n) → took (record { at = p + 4; count = n; clean = b }) (p + 4 + (n + 3) / 4 * 4) b ≡ pieceAnswer s p n
-  body-on b given r f = body-took s (λ i. omega (arith, given i)) p n _ refl (omega arith) refl f
+      → b ≡ lastZeros (numberAt 4 s (p + (n + 3) / 4 * 4)) (padding n) → took (record { at = p + 4; count = n; clean = b }) (p + 4 + (n + 3) / 4 * 4) b ≡ pieceAnswer s p n
+  body-on b given r f = body-took s (λ i. omega (arith, given i)) p n _ refl (omega arith) f
 
   -- of whole words, which have no padding
   module _ (even : n % 4 ≡ 0) where
@@ -85,6 +85,6 @@ module _ (s : List ℕ) (p n : ℕ) (h : p + 4 ≤ length s) where
 
     pub whole-on : ((i : ℕ) → Fits w8 (getD s i 0)) → n ≤ length s - p - 4 → took (record { at = p + 4; count = n; clean = true }) (p + 4 + n) true ≡ pieceAnswer s p n
     whole-on given r =
-        let none : (n + 3) / 4 * 4 - n ≡ 0 = omega (arith, whole) in
-        let z : true ≡ lastZeros (numberAt 4 s (p + (n + 3) / 4 * 4)) ((n + 3) / 4 * 4 - n) = sym (ap (lastZeros (numberAt 4 s (p + (n + 3) / 4 * 4))) none) in
+        let none : padding n ≡ 0 = omega arith in
+        let z : true ≡ lastZeros (numberAt 4 s (p + (n + 3) / 4 * 4)) (padding n) = sym (ap (lastZeros (numberAt 4 s (p + (n + 3) / 4 * 4))) none) in
         ap (λ k. took (record { at = p + 4; count = n; clean = true }) (p + 4 + k) true) (sym whole) ∙ body-on true given (omega (arith, whole)) z

@@ -4,19 +4,20 @@ use mathlib.Core.Path.{_≡_, refl, sym, ap, ap₂, _∙_}
 use mathlib.Core.Bool.{Bool, true, false, cond, _&&_, and-true}
 use mathlib.Core.List.{List, _++_}
 use Prim.Native.Nat.{ℕ, zero, suc, _+_, _-_, _*_, _/_, _%_, _<_, _≤_}
-use native.Mathlib.Nat.{add-assoc, mul-add-mod-self-right}
+use native.Mathlib.Nat.{add-assoc}
 use native.Mathlib.Numerals.{add-one}
 use native.Mathlib.Omega.{arith}
-use lib.Dec.{eqb, leb}
+use lib.Dec.{eqb, leb, ltb}
 use lib.ListN.{length, getD, take, drop, replicate, length-append, length-drop, length-replicate}
 use lib.Seq.{drop-cons, length-take-le}
-use borrow.Author.Tests.{eq-eqb, ne-eqb, eqb-true, eqb-false, le-leb, lt-leb, leb-true}
+use borrow.Author.Tests.{eq-eqb, ne-eqb, eqb-true, eqb-false, le-leb, lt-leb, leb-true, lt-ltb, le-ltb}
 use Rattle.xdr.specs.Meaning.Bytes.{value, digits, numberAt, padding, zeros}
 use Rattle.xdr.specs.Meaning.Refusal.{cutShort}
 use Rattle.xdr.specs.Meaning.Answer.{took, refused, most}
 use Rattle.xdr.specs.Meaning.Items.{number, word, hyper, word-pair, hyper-pair, flag, fromFlag, eight, opaque}
 use Rattle.xdr.specs.Meaning.Pieces.{bytesIn, isInside, pieceAnswer, opaqueSize, sizeUpTo, wordsUpTo}
 use Rattle.xdr.specs.Laws.Digits.{length-digits}
+use Rattle.xdr.specs.Laws.Swap.{swapped, little, big}
 use Rattle.xdr.specs.Laws.Pieces.{inside-le}
 use Rattle.xdr.specs.declared.piece.Piece.{Piece}
 
@@ -27,64 +28,44 @@ lastZeros w (suc zero) = eqb (w % 256) 0
 lastZeros w (suc (suc zero)) = eqb (w % 65536) 0
 lastZeros w (suc (suc (suc k))) = eqb (w % 16777216) 0
 
--- by what a word is multiplied to move its low k bytes to the top of a word
-abbrev pub lifting : ℕ → ℕ
-lifting zero = 0
-lifting (suc zero) = 16777216
-lifting (suc (suc zero)) = 65536
-lifting (suc (suc (suc k))) = 256
+-- what a word in the other order is below if the bytes behind its first j are zero; j = 0 stands for all four
+abbrev pub limitOf : ℕ → ℕ
+limitOf zero = 4294967296
+limitOf (suc zero) = 256
+limitOf (suc (suc zero)) = 65536
+limitOf (suc (suc (suc j))) = 16777216
 
-pub lifting-is : (k j n : ℕ) → k < 4 → j ≡ k % 4 → j ≡ n → lifting n ≡ lifting k
-lifting-is k j n h e f = let g : n ≡ k = omega arith in ap lifting g
+pub limit-rest : (j : ℕ) → (j ≡ 0 → ⊥) → (j ≡ 1 → ⊥) → (j ≡ 2 → ⊥) → 16777216 ≡ limitOf j
+limit-rest zero a b c = absurd (a refl)
+limit-rest (suc zero) a b c = absurd (b refl)
+limit-rest (suc (suc zero)) a b c = absurd (c refl)
+limit-rest (suc (suc (suc j))) a b c = refl
 
-pub lifting-rest : (k j : ℕ) → k < 4 → j ≡ k % 4 → (j ≡ 0 → ⊥) → (j ≡ 1 → ⊥) → (j ≡ 2 → ⊥) → 256 ≡ lifting k
-lifting-rest k j h e a b c = let g : 3 ≡ k = omega (arith, a, b, c) in ap lifting g
-
--- numbers that are zero together
-both-zero : (a b : ℕ) → (b ≡ 0 → a ≡ 0) → (a ≡ 0 → b ≡ 0) → eqb a 0 ≡ eqb b 0
-both-zero a b f g = by (eqb b 0) refl
+-- a number is below a limit exactly if another is zero
+below-zero : (v l a : ℕ) → (a ≡ 0 → v < l) → (v < l → a ≡ 0) → ltb v l ≡ eqb a 0
+below-zero v l a f g = by (eqb a 0) refl
   where
-    by : (z : Bool) → eqb b 0 ≡ z → eqb a 0 ≡ z
-    by true e = eq-eqb a 0 (f (eqb-true b 0 e))
-    by false e = ne-eqb a 0 (λ h. eqb-false b 0 e (g h))
+    by : (z : Bool) → eqb a 0 ≡ z → ltb v l ≡ z
+    by true e = lt-ltb v l (f (eqb-true a 0 e))
+    by false e = le-ltb v l (let n : v < l → ⊥ = λ h. eqb-false a 0 e (g h) in omega (arith, n))
 
-module _ (w : ℕ) where
-  pub lifted-fits : (k : ℕ) → w < 4294967296 → w * lifting k < 18446744073709551616
-  lifted-fits zero h = omega arith
-  lifted-fits (suc zero) h = omega arith
-  lifted-fits (suc (suc zero)) h = omega arith
-  lifted-fits (suc (suc (suc k))) h = omega arith
+-- a word by its four bytes: in one order it ends in zeros exactly if it is below the limit in the other
+module _ (a b c d : ℕ) (ha : a < 256) (hb : b < 256) (hc : c < 256) (hd : d < 256) where
+  low-1 : big a b c d % 256 ≡ d
+  low-1 = omega arith
 
-  low-1 : w * 16777216 % 4294967296 ≡ w % 256 * 16777216
-  low-1 =
-      let split : w * 16777216 ≡ w / 256 * 4294967296 + w % 256 * 16777216 = omega arith in
-      let small : w % 256 * 16777216 % 4294967296 ≡ w % 256 * 16777216 = omega arith in
-      ap (λ x. x % 4294967296) split ∙ mul-add-mod-self-right (w / 256) 4294967296 (w % 256 * 16777216) ∙ small
+  low-2 : big a b c d % 65536 ≡ c * 256 + d
+  low-2 = omega arith
 
-  low-2 : w * 65536 % 4294967296 ≡ w % 65536 * 65536
-  low-2 =
-      let split : w * 65536 ≡ w / 65536 * 4294967296 + w % 65536 * 65536 = omega arith in
-      let small : w % 65536 * 65536 % 4294967296 ≡ w % 65536 * 65536 = omega arith in
-      ap (λ x. x % 4294967296) split ∙ mul-add-mod-self-right (w / 65536) 4294967296 (w % 65536 * 65536) ∙ small
+  low-3 : big a b c d % 16777216 ≡ b * 65536 + c * 256 + d
+  low-3 = omega arith
 
-  low-3 : w * 256 % 4294967296 ≡ w % 16777216 * 256
-  low-3 =
-      let split : w * 256 ≡ w / 16777216 * 4294967296 + w % 16777216 * 256 = omega arith in
-      let small : w % 16777216 * 256 % 4294967296 ≡ w % 16777216 * 256 = omega arith in
-      ap (λ x. x % 4294967296) split ∙ mul-add-mod-self-right (w / 16777216) 4294967296 (w % 16777216 * 256) ∙ small
-
-  pub lifted : (k : ℕ) → eqb (w * lifting k % 4294967296) 0 ≡ lastZeros w k
-  lifted zero = eq-eqb (w * 0 % 4294967296) 0 (omega arith)
-  lifted (suc zero) = ap (λ z. eqb z 0) low-1 ∙ both-zero (w % 256 * 16777216) (w % 256) (λ h. omega arith) (λ h. omega arith)
-  lifted (suc (suc zero)) = ap (λ z. eqb z 0) low-2 ∙ both-zero (w % 65536 * 65536) (w % 65536) (λ h. omega arith) (λ h. omega arith)
-  lifted (suc (suc (suc k))) = ap (λ z. eqb z 0) low-3 ∙ both-zero (w % 16777216 * 256) (w % 16777216) (λ h. omega arith) (λ h. omega arith)
-
--- the same, of the numbers that the code has
-pub zeros-fit : (w x y k : ℕ) → (x ≡ w) × (x < 4294967296) → y ≡ lifting k → x * y < 18446744073709551616
-zeros-fit w x y k e f = rw f (lifted-fits x k (e .1))
-
-pub zeros-told : (w x y k : ℕ) → (x ≡ w) × (x < 4294967296) → y ≡ lifting k → eqb (x * y % 4294967296) 0 ≡ lastZeros w k
-zeros-told w x y k e f = ap₂ (λ a b. eqb (a * b % 4294967296) 0) (e .0) f ∙ lifted w k
+  below-limit : (j : ℕ) → j < 4 → ltb (little a b c d) (limitOf j) ≡ lastZeros (big a b c d) ((4 - j) % 4)
+  below-limit zero h = lt-ltb (little a b c d) 4294967296 (omega arith)
+  below-limit (suc zero) h = rw low-3 (below-zero (little a b c d) 256 (b * 65536 + c * 256 + d) (λ e. omega arith) (λ e. omega arith))
+  below-limit (suc (suc zero)) h = rw low-2 (below-zero (little a b c d) 65536 (c * 256 + d) (λ e. omega arith) (λ e. omega arith))
+  below-limit (suc (suc (suc zero))) h = rw low-1 (below-zero (little a b c d) 16777216 d (λ e. omega arith) (λ e. omega arith))
+  below-limit (suc (suc (suc (suc j)))) h = absurd (omega arith)
 
 -- of no bytes, it matters not which word is read
 pub if-none : (k a b : ℕ) → k ≡ 0 → a ≡ cond (eqb k 0) a b
@@ -97,11 +78,19 @@ pub other-in : (k a b n r : ℕ) → r ≡ cond (eqb k 0) a b → a + 4 ≤ n �
 other-in zero a b n r e h g = omega arith
 other-in (suc k) a b n r e h g = let f : r ≡ b = e ∙ sym (if-some (suc k) a b (λ z. omega arith)) in omega arith
 
-pub other-zeros : (k a b w q : ℕ) (s : List ℕ) {z : Bool} → q ≡ cond (eqb k 0) a b → w ≡ numberAt 4 s q → z ≡ lastZeros w k → z ≡ lastZeros (numberAt 4 s b) k
-other-zeros zero a b w q s e f g = g
-other-zeros (suc k) a b w q s e f g =
-    let h : q ≡ b = e ∙ sym (if-some (suc k) a b (λ z. omega arith)) in
-    g ∙ ap (λ x. lastZeros x (suc k)) (f ∙ ap (numberAt 4 s) h)
+other-zeros : (j a b q : ℕ) (s : List ℕ) → q ≡ cond (eqb j 0) a b → lastZeros (numberAt 4 s q) ((4 - j) % 4) ≡ lastZeros (numberAt 4 s b) ((4 - j) % 4)
+other-zeros zero a b q s e = refl
+other-zeros (suc j) a b q s e = ap (λ i. lastZeros (numberAt 4 s i) ((4 - suc j) % 4)) (e ∙ sym (if-some (suc j) a b (λ z. omega arith)))
+
+-- the padding of n bytes is zero by the test of the numbers that the code has
+pub zeros-told : (n a b q r x y : ℕ) (s : List ℕ) → q ≡ cond (eqb (n % 4) 0) a b → swapped r ≡ numberAt 4 s q → (x ≡ r) × (x < 4294967296)
+    → y ≡ limitOf (n % 4) → ltb x y ≡ lastZeros (numberAt 4 s b) (padding n)
+zeros-told n a b q r x y s e f g h =
+    let top : x / 16777216 < 256 = omega (arith, g .1) in
+    let k : x ≡ little (x % 256) (x / 256 % 256) (x / 65536 % 256) (x / 16777216) = omega arith in
+    ap₂ ltb k h
+    ∙ below-limit (x % 256) (x / 256 % 256) (x / 65536 % 256) (x / 16777216) (omega arith) (omega arith) (omega arith) top (n % 4) (omega arith)
+    ∙ ap (λ w. lastZeros w (padding n)) (ap swapped (g .0) ∙ f) ∙ other-zeros (n % 4) a b q s e
 
 -- n bytes with their padding are n rounded up to a multiple of four
 pub padded : (n : ℕ) → (n + 3) / 4 * 4 ≡ n + padding n
@@ -150,17 +139,16 @@ module _ (s : List ℕ) (given : (i : ℕ) → getD s i 0 < 256) where
   last-zeros (suc (suc (suc (suc k)))) q h room = absurd (omega arith)
 
   -- an opaque's body, by the room for it; its padding is the end of the last word
-  pub body-took : (p n m : ℕ) {w : ℕ} {b : Bool} → m ≡ (n + 3) / 4 * 4 → p + 4 + m ≤ length s → w ≡ numberAt 4 s (p + m) → b ≡ lastZeros w (m - n)
+  pub body-took : (p n m : ℕ) {b : Bool} → m ≡ (n + 3) / 4 * 4 → p + 4 + m ≤ length s → b ≡ lastZeros (numberAt 4 s (p + m)) (padding n)
       → took (record { at = p + 4; count = n; clean = b }) (p + 4 + m) b ≡ pieceAnswer s p n
-  body-took p n m {w} {b} em room ew eb =
+  body-took p n m em room eb =
       let k : m ≡ n + padding n = em ∙ padded n in
       let h : 4 + n + padding n ≤ length s - p = omega arith in
-      let c : m - n ≡ padding n = omega arith in
       let q : p + m + 4 - padding n ≡ p + 4 + n = omega arith in
       let z : lastZeros (numberAt 4 s (p + m)) (padding n) ≡ zeros (take (padding n) (drop (p + 4 + n) s)) =
       last-zeros (padding n) (p + m) (pad-small n) (omega arith) ∙ ap (λ i. zeros (take (padding n) (drop i s))) q in
       let nx : p + 4 + m ≡ p + 4 + n + padding n = omega arith in
-      rw (le-leb (4 + n + padding n) (length s - p) h, nx, eb, ew, c, z)
+      rw (le-leb (4 + n + padding n) (length s - p) h, nx, eb, z)
 
 pub body-short : (s : List ℕ) (p n : ℕ) → length s - p < 4 + n + padding n → refused (cutShort (4 + n + padding n) s p) ≡ pieceAnswer s p n
 body-short s p n h = simp (lt-leb (4 + n + padding n) (length s - p) h)

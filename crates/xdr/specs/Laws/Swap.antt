@@ -21,6 +21,10 @@ swapped64 v = swapped (v % 4294967296) * 4294967296 + swapped (v / 4294967296)
 abbrev pub little : ℕ → ℕ → ℕ → ℕ → ℕ
 little a b c d = a + b * 256 + c * 65536 + d * 16777216
 
+-- and high byte first
+abbrev pub big : ℕ → ℕ → ℕ → ℕ → ℕ
+big a b c d = a * 16777216 + b * 65536 + c * 256 + d
+
 module _ (a b c d : ℕ) (ha : a < 256) (hb : b < 256) (hc : c < 256) (hd : d < 256) where
   pub byte-0 : little a b c d % 256 ≡ a
   byte-0 = omega arith
@@ -34,18 +38,14 @@ module _ (a b c d : ℕ) (ha : a < 256) (hb : b < 256) (hc : c < 256) (hd : d < 
   pub byte-3 : little a b c d / 16777216 ≡ d
   byte-3 = omega arith
 
-  pub swap-little : swapped (little a b c d) ≡ a * 16777216 + b * 65536 + c * 256 + d
+  pub swap-little : swapped (little a b c d) ≡ big a b c d
   swap-little = simp (byte-0, byte-1, byte-2, byte-3)
 
 -- four bytes of a source, read low byte first and swapped, are the word that they write
-word-swapped : (s : List ℕ) (p : ℕ) {a b c d : ℕ} → (a ≡ getD s p 0) × (a < 256) → (b ≡ getD s (p + 1) 0) × (b < 256)
+pub word-swapped : (s : List ℕ) (p : ℕ) {a b c d : ℕ} → (a ≡ getD s p 0) × (a < 256) → (b ≡ getD s (p + 1) 0) × (b < 256)
     → (c ≡ getD s (p + 2) 0) × (c < 256) → (d ≡ getD s (p + 3) 0) × (d < 256) → swapped (little a b c d) ≡ numberAt 4 s p
 word-swapped s p {a} {b} {c} {d} ea eb ec ed =
     swap-little a b c d (ea .1) (eb .1) (ec .1) (ed .1) ∙ simp (ea .0, eb .0, ec .0, ed .0, add-assoc, mul-one, add-zero)
-
-pub word-at : (s : List ℕ) (p r a b c d : ℕ) → r ≡ swapped (little a b c d) → (a ≡ getD s p 0) × (a < 256) → (b ≡ getD s (p + 1) 0) × (b < 256)
-    → (c ≡ getD s (p + 2) 0) × (c < 256) → (d ≡ getD s (p + 3) 0) × (d < 256) → r ≡ numberAt 4 s p
-word-at s p r a b c d e ea eb ec ed = e ∙ word-swapped s p ea eb ec ed
 
 -- a hyper is the number of its two words
 pub hyper-at : (s : List ℕ) (p x y a b : ℕ) → (x ≡ a) × (x < 4294967296) → (y ≡ b) × (y < 4294967296) → a ≡ numberAt 4 s p → b ≡ numberAt 4 s (p + 4)

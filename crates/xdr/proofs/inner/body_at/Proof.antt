@@ -9,5 +9,5 @@ body-at-spec =
     tie.close
     (tie.spec
     (search needs) (search needs) (search needs) (search needs) (search needs) (search needs) (λ c. search body-off) (search needs) (search needs) (search needs)
-    (search needs) (search needs) (search needs) (λ c. let a = c .before .before .before .args in
+    (search needs) (search needs) (λ c. let a = c .before .before .before .args in
     body-on (now (a .src)) (a .at) (a .n) (search needs) (c .pad-zeros .result) (search needs) (search needs) (c .pad-zeros .ensures)))
