@@ -8,6 +8,7 @@ pub mod Parts
 pub mod Taken
 pub mod TakenFattr
 pub mod Laid
+pub mod LaidFattr
 pub mod One
 pub mod Again
 pub mod Replies

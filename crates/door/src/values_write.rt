@@ -2,16 +2,16 @@
 // place `start` of out. 0: info holds the place after the value. After refusal 5 it holds how many bytes are needed, after the others 0.
 // Where a list is too short the answer is 254, and where a number does not fit its field 253; then nothing is touched.
 ghost use mathlib.Core.Path.{_≡_};
-ghost use Prim.Native.Nat.{_≤_};
+ghost use Prim.Native.Nat.{_≤_, _<_};
 ghost use lib.ListN.{length};
 ghost use Rattle.xdr.specs.Meaning.Combinators.{among};
-ghost use Rattle.xdr.specs.Meaning.Views.{viewWrote};
+ghost use Rattle.xdr.specs.Meaning.Public.{laid};
 ghost use Rattle.nfs.specs.Meaning.Change.{setModeTo, setUidTo, setGidTo, setSizeTo};
 ghost use Rattle.nfs.specs.Meaning.Set.{atimeTo, mtimeTo};
 ghost use Rattle.rpc.specs.Meaning.Closed.{flavorNumber, flavors};
 ghost use Rattle.door.specs.Meaning.Copy.{Is};
 ghost use Rattle.door.specs.Meaning.Given.{low, areWords, fattr3Words, fattr3By, fattr3Given, viewGivenFattr3, WriteFattr3Called, WriteDiropargs3Called, optionFits, timeFits, sattr3Fits, optionOf, timeOf, sattr3By, WriteSattr3Called, foundFlavor, callWords, callBy, callGiven, viewGivenCall, WriteCallCalled, unixWords, unixBy, unixGiven, viewGivenUnix, WriteUnixCalled};
-ghost use Rattle.door.specs.Laws.Parts.{Laid, sattr3Narrow, wordBytes, hyperBytes, timeBytes, ownerOf, changeOf, sattrOf, SattrWritten};
+ghost use Rattle.door.specs.Laws.Parts.{Laid, sattr3Narrow, Tagged, wordBytes, hyperBytes, timeBytes, ownerOf, changeOf, sattrOf, SattrQuick, idsOf, sizesOf, timesOf, fattrOf, FattrQuick};
 use crate::exports::SHORT_LIST;
 use crate::exports::tell_wrote;
 use nfs::diropargs3;
@@ -38,13 +38,12 @@ use rpc::opaque_auth;
 use rpc::write_auth_unix_from;
 use rpc::write_call_from;
 use xdr::Piece;
-use xdr::Wrote;
 use xdr::inner::put_bool;
 use xdr::inner::put_u32;
 use xdr::inner::put_u32_pair;
 use xdr::inner::put_u32_three;
 use xdr::inner::put_u32_u64;
-use xdr::order::room;
+use xdr::inner::put_u64_pair;
 
 // A number of a list does not fit its field.
 pub const WIDE_NUMBER: u32 = 253;
@@ -124,6 +123,104 @@ fn given_fattr3(fields: &[u64]) -> GivenFattr3
     GivenFattr3::Is(fattr3_of(fields, ftype))
 }
 
+// The figures are a fattr3, and there is room for it: then none is made.
+fn fattr3_quick(fields: &[u64], len: usize, start: usize) -> bool
+    requires { ⌜ 17 ≤ length (now fields) ⌝ }
+    ensures { λ r. ⌜ FattrQuick (now (fields .entry)) len start r ⌝ }
+{
+    if !fattr3_words(fields) {
+        return false;
+    }
+    let found = ftype3::of((fields[0] % WORDS) as u32);
+    let FtypeFound::Is(_) = found else {
+        return false;
+    };
+    if len < start {
+        return false;
+    }
+    84 <= len - start
+}
+
+// Laid straight from the figures, in three parts.
+fn lay_ids(fields: &[u64], out: &mut [u8])
+    requires { ⌜ 17 ≤ length (now fields) ⌝ }
+    requires { ⌜ 20 ≤ length (now out) ⌝ }
+    ensures { λ _. ⌜ now (out .exit) ≡ laid (idsOf (now (fields .entry))) (now (out .entry)) ⌝ }
+{
+    put_u32((fields[0] % WORDS) as u32, &mut out[0..]);
+    put_u32_pair(
+        (fields[1] % WORDS) as u32,
+        (fields[2] % WORDS) as u32,
+        &mut out[4..],
+    );
+    put_u32_pair(
+        (fields[3] % WORDS) as u32,
+        (fields[4] % WORDS) as u32,
+        &mut out[12..],
+    );
+}
+
+fn lay_sizes(fields: &[u64], out: &mut [u8])
+    requires { ⌜ 17 ≤ length (now fields) ⌝ }
+    requires { ⌜ 40 ≤ length (now out) ⌝ }
+    ensures { λ _. ⌜ now (out .exit) ≡ laid (sizesOf (now (fields .entry))) (now (out .entry)) ⌝ }
+{
+    put_u64_pair(fields[5], fields[6], &mut out[0..]);
+    put_u32_pair(
+        (fields[7] % WORDS) as u32,
+        (fields[8] % WORDS) as u32,
+        &mut out[16..],
+    );
+    put_u64_pair(fields[9], fields[10], &mut out[24..]);
+}
+
+fn lay_times(fields: &[u64], out: &mut [u8])
+    requires { ⌜ 17 ≤ length (now fields) ⌝ }
+    requires { ⌜ 24 ≤ length (now out) ⌝ }
+    ensures { λ _. ⌜ now (out .exit) ≡ laid (timesOf (now (fields .entry))) (now (out .entry)) ⌝ }
+{
+    put_u32_pair(
+        (fields[11] % WORDS) as u32,
+        (fields[12] % WORDS) as u32,
+        &mut out[0..],
+    );
+    put_u32_pair(
+        (fields[13] % WORDS) as u32,
+        (fields[14] % WORDS) as u32,
+        &mut out[8..],
+    );
+    put_u32_pair(
+        (fields[15] % WORDS) as u32,
+        (fields[16] % WORDS) as u32,
+        &mut out[16..],
+    );
+}
+
+fn lay_fattr3(fields: &[u64], out: &mut [u8])
+    requires { ⌜ 17 ≤ length (now fields) ⌝ }
+    requires { ⌜ 84 ≤ length (now out) ⌝ }
+    ensures { λ _. ⌜ now (out .exit) ≡ laid (fattrOf (now (fields .entry))) (now (out .entry)) ⌝ }
+{
+    lay_ids(fields, &mut out[0..]);
+    lay_sizes(fields, &mut out[20..]);
+    lay_times(fields, &mut out[60..]);
+}
+
+// Where a number is wide, the type is not declared, or there is no room: it says which. It is handed slices of its own, so that those of its
+// caller need not lie in memory.
+fn write_fattr3_carefully(fields: &[u64], out: &mut [u8], start: usize, info: &mut [u64]) -> u32
+    requires { ⌜ 17 ≤ length (now fields) ⌝ }
+    requires { ⌜ 1 ≤ length (now info) ⌝ }
+    ensures { λ r. ⌜ WriteFattr3Called (now (fields .entry)) (now (out .entry)) start (now (info .entry)) r (now (out .exit)) (now (info .exit)) ⌝ }
+{
+    let given = given_fattr3(fields);
+    let GivenFattr3::Is(v) = given else {
+        return WIDE_NUMBER;
+    };
+    let w = write_fattr3(v, out, start);
+    tell_wrote(w, info)
+}
+
 #[no_mangle]
 pub extern "C" fn yugerzat_write_fattr3(
     fields: &[u64],
@@ -139,12 +236,12 @@ pub extern "C" fn yugerzat_write_fattr3(
     if info.len() < 1 {
         return SHORT_LIST;
     }
-    let given = given_fattr3(fields);
-    let GivenFattr3::Is(v) = given else {
-        return WIDE_NUMBER;
-    };
-    let w = write_fattr3(v, out, start);
-    tell_wrote(w, info)
+    if !fattr3_quick(fields, out.len(), start) {
+        return write_fattr3_carefully(&fields[0..], &mut out[0..], start, &mut info[0..]);
+    }
+    lay_fattr3(fields, &mut out[start..]);
+    info[0] = (start + 84) as u64;
+    0
 }
 
 // The handle is a piece of dirs, and the name of names.
@@ -309,15 +406,18 @@ fn sattr3_narrow(fields: &[u64]) -> bool
         & (fields[11] < 3)
 }
 
-// The same answer as `sattr3_fits`: nearly every list is narrow, and that is tested sooner.
-fn sattr3_suits(fields: &[u64]) -> bool
+// Narrow figures, and room for the longest sattr3: then no sattr3 is made, and its size is not asked.
+fn sattr3_quick(fields: &[u64], len: usize, start: usize) -> bool
     requires { ⌜ 14 ≤ length (now fields) ⌝ }
-    ensures { λ r. ⌜ Is sattr3Fits (now (fields .entry)) r ⌝ }
+    ensures { λ r. ⌜ SattrQuick (now (fields .entry)) len start r ⌝ }
 {
-    if sattr3_narrow(fields) {
-        return true;
+    if !sattr3_narrow(fields) {
+        return false;
     }
-    sattr3_fits(fields)
+    if len < start {
+        return false;
+    }
+    60 <= len - start
 }
 
 // Laid straight from the figures: each answers how many bytes it laid. The room is for the most that it can be.
@@ -346,15 +446,12 @@ fn lay_hyper(flag: u64, v: u64, out: &mut [u8]) -> usize
 }
 
 fn lay_time(tag: u64, seconds: u64, nseconds: u64, out: &mut [u8]) -> usize
+    requires { ⌜ tag < 3 ⌝ }
     requires { ⌜ 12 ≤ length (now out) ⌝ }
     ensures { λ r. ⌜ Laid 12 (timeBytes tag seconds nseconds) (now (out .entry)) r (now (out .exit)) ⌝ }
 {
-    if tag == 0 {
-        put_u32(0, out);
-        return 4;
-    }
-    if tag == 1 {
-        put_u32(1, out);
+    if tag != 2 {
+        put_u32(tag as u32, out);
         return 4;
     }
     put_u32_three(2, (seconds % WORDS) as u32, (nseconds % WORDS) as u32, out);
@@ -373,6 +470,7 @@ fn lay_owner(fields: &[u64], out: &mut [u8]) -> usize
 
 fn lay_change(fields: &[u64], out: &mut [u8]) -> usize
     requires { ⌜ 14 ≤ length (now fields) ⌝ }
+    requires { ⌜ Tagged (now fields) ⌝ }
     requires { ⌜ 36 ≤ length (now out) ⌝ }
     ensures { λ r. ⌜ Laid 36 (changeOf (now (fields .entry))) (now (out .entry)) r (now (out .exit)) ⌝ }
 {
@@ -383,6 +481,7 @@ fn lay_change(fields: &[u64], out: &mut [u8]) -> usize
 
 fn lay_sattr3(fields: &[u64], out: &mut [u8]) -> usize
     requires { ⌜ 14 ≤ length (now fields) ⌝ }
+    requires { ⌜ Tagged (now fields) ⌝ }
     requires { ⌜ 60 ≤ length (now out) ⌝ }
     ensures { λ r. ⌜ Laid 60 (sattrOf (now (fields .entry))) (now (out .entry)) r (now (out .exit)) ⌝ }
 {
@@ -390,18 +489,19 @@ fn lay_sattr3(fields: &[u64], out: &mut [u8]) -> usize
     n + lay_change(fields, &mut out[n..])
 }
 
-// Where there is room for the longest sattr3, no sattr3 is made and its size is not asked.
-fn write_sattr3_by(fields: &[u64], out: &mut [u8], start: usize) -> Wrote
+// Where a number is wide, or fewer bytes are free than the longest sattr3 has: by the sattr3 itself, whose size is asked. It is handed slices
+// of its own too.
+fn write_sattr3_carefully(fields: &[u64], out: &mut [u8], start: usize, info: &mut [u64]) -> u32
     requires { ⌜ 14 ≤ length (now fields) ⌝ }
-    ensures { λ r. ⌜ SattrWritten (now (fields .entry)) start (now (out .entry)) (viewWrote r) (now (out .exit)) ⌝ }
+    requires { ⌜ 1 ≤ length (now info) ⌝ }
+    ensures { λ r. ⌜ WriteSattr3Called (now (fields .entry)) (now (out .entry)) start (now (info .entry)) r (now (out .exit)) (now (info .exit)) ⌝ }
 {
-    let w = room(out.len(), start, 60);
-    let Wrote::Done(_) = w else {
-        let v = sattr3_of(fields);
-        return write_sattr3(v, out, start);
-    };
-    let n = lay_sattr3(fields, &mut out[start..]);
-    Wrote::Done(start + n)
+    if !sattr3_fits(fields) {
+        return WIDE_NUMBER;
+    }
+    let v = sattr3_of(fields);
+    let w = write_sattr3(v, out, start);
+    tell_wrote(w, info)
 }
 
 // A flag other than 0 is true. What stands behind a flag of 0, or a time's tag of 0 or 1, is passed over.
@@ -420,11 +520,12 @@ pub extern "C" fn yugerzat_write_sattr3(
     if info.len() < 1 {
         return SHORT_LIST;
     }
-    if !sattr3_suits(fields) {
-        return WIDE_NUMBER;
+    if !sattr3_quick(fields, out.len(), start) {
+        return write_sattr3_carefully(&fields[0..], &mut out[0..], start, &mut info[0..]);
     }
-    let w = write_sattr3_by(fields, out, start);
-    tell_wrote(w, info)
+    let n = lay_sattr3(fields, &mut out[start..]);
+    info[0] = (start + n) as u64;
+    0
 }
 
 pub enum FlavorFound {

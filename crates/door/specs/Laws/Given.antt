@@ -2,18 +2,20 @@
 -- Assumes nothing.
 use mathlib.Core.Path.{_≡_, refl, sym, ap, _∙_, subst}
 use mathlib.Core.Bool.{Bool, true, false, not, _&&_, and-true, and-assoc, false≢true}
-use mathlib.Core.List.{List, [], _∷_}
+use mathlib.Core.List.{List, [], _∷_, _++_, append-nil}
 use mathlib.Core.Logic.{⊎-elim}
 use mathlib.Core.Option.{Option, none, some}
-use Prim.Native.Nat.{ℕ, zero, suc, _≤_, _<_}
+use Prim.Native.Nat.{ℕ, zero, suc, _-_, _≤_, _<_}
 use native.Mathlib.Nat.{mod-eq-of-lt}
 use native.Mathlib.Omega.{arith}
 use lib.Dec.{ltb, eqb}
-use lib.ListN.{length, getD}
+use lib.ListN.{length, getD, set, drop-of-length-le}
+use lib.Seq.{take-all}
 use borrow.Author.Tests.{ltb-true, eqb-false}
-use Rattle.xdr.specs.Meaning.Answer.{Written}
+use Rattle.xdr.specs.Meaning.Answer.{Written, done}
 use Rattle.xdr.specs.Meaning.Combinators.{Seen, means, undeclared, among}
 use Rattle.xdr.specs.Laws.LayPieces.{yes, no}
+use Rattle.xdr.specs.Laws.Lays.{after, tailOf}
 use Rattle.xdr.specs.Laws.Marks.{and-left, and-right}
 use Rattle.nfsattr.specs.Meaning.Attr.{ftypeNumber, ftypes}
 use Rattle.nfsattr.specs.Meaning.Views.{foundFtype}
@@ -56,6 +58,21 @@ module _ {S : Type 0} (W : S → Written → List ℕ → Type 0) (k : ℕ) (giv
 
   pub write-wide : k ≤ length l → 1 ≤ length i → Is given l none → WriteCalled W k given l o i 253 o i
   write-wide h g e = called h g (subst (λ z. GivenTold W z o i 253 o i) (e .is) (refl, refl, refl))
+
+-- done, and the place put into the list
+pub wrote-says : (i : List ℕ) (n : ℕ) → Says wroteCode wroteFigures (done n) i 0 (set i 0 n)
+wrote-says i n = record { number = refl; shown = record { list = refl } }
+
+-- by another function, which is lent each slice whole
+whole : (o : List ℕ) → tailOf 0 o ≡ o
+whole o = take-all (length o - 0) o (omega arith)
+
+whole-back : (o z : List ℕ) → after 0 o z ≡ z
+whole-back o z = ap (λ x. z ++ x) (drop-of-length-le o {i = length o - 0} (omega arith)) ∙ append-nil z
+
+pub write-again : {S : Type 0} (W : List ℕ → S → Written → List ℕ → Type 0) (k : ℕ) (given : List ℕ → Option S) {l o i : List ℕ} {r : ℕ} {o′ i′ : List ℕ}
+    → WriteCalled (W (tailOf 0 o)) k given (tailOf 0 l) (tailOf 0 o) (tailOf 0 i) r o′ i′ → WriteCalled (W o) k given l o i r (after 0 o o′) (after 0 i i′)
+write-again W k given {l} {o} {i} {r} {o′} {i′} c = rw (whole-back o o′, whole-back i i′, ← whole l, ← whole o, ← whole i) c
 
 -- a call is its xid and its body
 pub write-call-as : (s t l o : List ℕ) (start : ℕ) (i : List ℕ) → 11 ≤ length l → 1 ≤ length i → (r : ℕ) (o′ i′ : List ℕ) (xid : ℕ) (c : «call_body») (w : Written)

@@ -1,35 +1,31 @@
 -- What the proofs of the functions that lay figures cite.
 -- Assumes nothing.
 use mathlib.Core.Path.{_≡_, refl, sym, ap, ap₂, subst, _∙_}
-use mathlib.Core.Bool.{Bool, true, false, cond, not, _&&_, _||_}
+use mathlib.Core.Bool.{Bool, true, false, cond, not, _&&_, _||_, false≢true}
 use mathlib.Core.List.{List, [], _++_, append-nil}
 use mathlib.Core.Option.{Option, none, some}
-use Prim.Native.Nat.{ℕ, _+_, _≤_, _<_}
+use Prim.Native.Nat.{ℕ, _+_, _-_, _≤_, _<_}
 use native.Mathlib.Nat.{mod-lt}
 use native.Mathlib.Omega.{arith}
-use lib.Dec.{ltb, eqb}
-use lib.ListN.{length, getD}
+use lib.Dec.{leb, ltb, eqb}
+use lib.ListN.{length, getD, set}
 use mir.Syntax.{w64}
 use mir.Val.{Fits}
-use borrow.Author.Tests.{ltb-true, ltb-false, eq-eqb, ne-eqb}
-use Rattle.xdr.specs.Meaning.Answer.{Written, done, most}
+use borrow.Author.Tests.{leb-true, ltb-true, ltb-false, eqb-true, eqb-false, eq-eqb, ne-eqb}
+use Rattle.xdr.specs.Meaning.Answer.{most}
 use Rattle.xdr.specs.Meaning.Kind.{Codec}
 use Rattle.xdr.specs.Meaning.Cases.{Cases}
 use Rattle.xdr.specs.Meaning.Format.{exactly}
 use Rattle.xdr.specs.Meaning.Items.{word, hyper, word-pair, flag, option}
-use Rattle.xdr.specs.Meaning.Order.{roomed}
 use Rattle.xdr.specs.Meaning.Public.{Writes, laid}
-use Rattle.xdr.specs.Meaning.Views.{viewWrote}
+use Rattle.xdr.specs.Laws.LayPieces.{yes}
 use Rattle.xdr.specs.Laws.Marks.{and-left, and-right}
 use Rattle.xdr.specs.Laws.Padding.{word-length, flag-length}
 use Rattle.xdr.specs.Laws.Ranges.{word-good, hyper-good, flag-good}
 use Rattle.xdr.specs.Laws.Fixed.{word-pair-fixed}
 use Rattle.xdr.specs.Laws.Lays.{after, tailOf, three-size, word-hyper-size}
 use Rattle.xdr.specs.Laws.Optional.{Optional, flag-word, flag-hyper}
-use Rattle.xdr.specs.Laws.Room.{room-in}
 use Rattle.xdr.specs.Laws.Write.{Put, first, field, put-laid, put-same, room-at, writes-done}
-use Rattle.xdr.specs.declared.answer.Wrote.{Wrote}
-use Rattle.xdr.specs.declared.answer.Wrote.the-variants as wrote
 use Rattle.nfsattr.specs.Meaning.Attr.{nfstime}
 use Rattle.nfsattr.specs.Laws.Words.{tag-time}
 use Rattle.nfs.specs.Meaning.Change.{setModeTo, setUidTo, setGidTo, setSizeTo}
@@ -39,11 +35,9 @@ use Rattle.nfs.specs.Laws.Change.{set-mode-optional, set-uid-optional, set-gid-
 use Rattle.nfs.specs.Laws.Write.{Timed}
 use Rattle.nfs.specs.declared.set.sattr3.{sattr3}
 use Rattle.door.specs.Meaning.Copy.{Is}
-use Rattle.door.specs.Meaning.Figures.{Says}
-use Rattle.door.specs.Meaning.Exports.{wroteCode, wroteFigures}
 use Rattle.door.specs.Meaning.Given.{low, isWord, optionFits, timeFits, sattr3Fits, optionOf, timeOf, sattr3By, sattr3Given, WriteSattr3Called}
-use Rattle.door.specs.Laws.Parts.{Laid, sattr3Narrow, wordBytes, hyperBytes, timeBytes, ownerOf, changeOf, sattrOf, SattrWritten}
-use Rattle.door.specs.Laws.Given.{write-as, sattr3-some}
+use Rattle.door.specs.Laws.Parts.{Laid, sattr3Narrow, Tagged, wordBytes, hyperBytes, timeBytes, ownerOf, changeOf, sattrOf, SattrQuick}
+use Rattle.door.specs.Laws.Given.{write-as, wrote-says, write-again, sattr3-some}
 
 -- narrow figures fit
 option-narrow : (flag v : ℕ) → isWord v ≡ true → optionFits flag v ≡ true
@@ -60,30 +54,40 @@ time-narrow tag s n h e f = by (ltb tag 2) refl
     by true g = rw g
     by false g = rw (g, eq-eqb tag 2 (omega (arith, ltb-true tag 3 h, ltb-false tag 2 g)), e, f)
 
-pub narrow-fits : {l : List ℕ} {b : Bool} → Is sattr3Narrow l b → b ≡ true → Is sattr3Fits l true
-narrow-fits {l} {b} d e =
-    let w : ℕ → Bool = λ k. isWord (getD l k 0) in
-    let a₁ = w 1 in
-    let a₂ = a₁ && w 3 in
-    let a₃ = a₂ && w 5 in
-    let a₄ = a₃ && w 9 in
-    let a₅ = a₄ && w 10 in
-    let a₆ = a₅ && w 12 in
-    let a₇ = a₆ && w 13 in
-    let a₈ = a₇ && ltb (getD l 8 0) 3 in
-    let h₉ : (a₈ && ltb (getD l 11 0) 3) ≡ true = sym (d .is) ∙ e in
-    let h₈ : a₈ ≡ true = and-left a₈ (ltb (getD l 11 0) 3) h₉ in
-    let h₇ : a₇ ≡ true = and-left a₇ (ltb (getD l 8 0) 3) h₈ in
-    let h₆ : a₆ ≡ true = and-left a₆ (w 13) h₇ in
-    let h₅ : a₅ ≡ true = and-left a₅ (w 12) h₆ in
-    let h₄ : a₄ ≡ true = and-left a₄ (w 10) h₅ in
-    let h₃ : a₃ ≡ true = and-left a₃ (w 9) h₄ in
-    let h₂ : a₂ ≡ true = and-left a₂ (w 5) h₃ in
-    record {
-      is =
-          rw
-          (option-narrow (getD l 0 0) (getD l 1 0) (and-left a₁ (w 3) h₂), option-narrow (getD l 2 0) (getD l 3 0) (and-right a₁ (w 3) h₂), option-narrow (getD l 4 0) (getD l 5 0) (and-right a₂ (w 5) h₃), time-narrow (getD l 8 0) (getD l 9 0) (getD l 10 0) (and-right a₇ (ltb (getD l 8 0) 3) h₈) (and-right a₃ (w 9) h₄) (and-right a₄ (w 10) h₅), time-narrow (getD l 11 0) (getD l 12 0) (getD l 13 0) (and-right a₈ (ltb (getD l 11 0) 3) h₉) (and-right a₅ (w 12) h₆) (and-right a₆ (w 13) h₇));
-    }
+module _ (l : List ℕ) (narrow : sattr3Narrow l ≡ true) where
+  narrow-fits : Is sattr3Fits l true
+  narrow-fits =
+      let w : ℕ → Bool = λ k. isWord (getD l k 0) in
+      let a₁ = w 1 in
+      let a₂ = a₁ && w 3 in
+      let a₃ = a₂ && w 5 in
+      let a₄ = a₃ && w 9 in
+      let a₅ = a₄ && w 10 in
+      let a₆ = a₅ && w 12 in
+      let a₇ = a₆ && w 13 in
+      let a₈ = a₇ && ltb (getD l 8 0) 3 in
+      let h₈ : a₈ ≡ true = and-left a₈ (ltb (getD l 11 0) 3) narrow in
+      let h₇ : a₇ ≡ true = and-left a₇ (ltb (getD l 8 0) 3) h₈ in
+      let h₆ : a₆ ≡ true = and-left a₆ (w 13) h₇ in
+      let h₅ : a₅ ≡ true = and-left a₅ (w 12) h₆ in
+      let h₄ : a₄ ≡ true = and-left a₄ (w 10) h₅ in
+      let h₃ : a₃ ≡ true = and-left a₃ (w 9) h₄ in
+      let h₂ : a₂ ≡ true = and-left a₂ (w 5) h₃ in
+      record {
+        is =
+            rw
+            (option-narrow (getD l 0 0) (getD l 1 0) (and-left a₁ (w 3) h₂), option-narrow (getD l 2 0) (getD l 3 0) (and-right a₁ (w 3) h₂), option-narrow (getD l 4 0) (getD l 5 0) (and-right a₂ (w 5) h₃), time-narrow (getD l 8 0) (getD l 9 0) (getD l 10 0) (and-right a₇ (ltb (getD l 8 0) 3) h₈) (and-right a₃ (w 9) h₄) (and-right a₄ (w 10) h₅), time-narrow (getD l 11 0) (getD l 12 0) (getD l 13 0) (and-right a₈ (ltb (getD l 11 0) 3) narrow) (and-right a₅ (w 12) h₆) (and-right a₆ (w 13) h₇));
+      }
+
+  narrow-tagged : Tagged l
+  narrow-tagged =
+      let a₇ : Bool =
+      isWord (getD l 1 0) && isWord (getD l 3 0) && isWord (getD l 5 0) && isWord (getD l 9 0) && isWord (getD l 10 0) && isWord (getD l 12 0) && isWord (getD l 13 0) in
+      let a₈ : Bool = a₇ && ltb (getD l 8 0) 3 in
+      record {
+        atime = ltb-true (getD l 8 0) 3 (and-right a₇ (ltb (getD l 8 0) 3) (and-left a₈ (ltb (getD l 11 0) 3) narrow));
+        mtime = ltb-true (getD l 11 0) 3 (and-right a₈ (ltb (getD l 11 0) 3) narrow);
+      }
 
 -- what is laid, as what was put
 put-of : {k r : ℕ} {bs o o′ : List ℕ} → Laid k bs o r o′ → Put o o′ r bs
@@ -118,23 +122,23 @@ module _ (n v : ℕ) {o o′ : List ℕ} where
   hyper-some e h f =
       laid-one (word .kind .write 1 ++ hyper .kind .write v) (hyperBytes n v) (sym (word-hyper-size 1 v)) (rw (ne-eqb n 0 e) (flag-hyper v)) (omega arith) h f
 
--- a time behind a tag
+-- a time behind a tag: a tag that is not the client's is all
 module _ (tag s n : ℕ) {o o′ : List ℕ} where
-  pub time-dont : tag ≡ 0 → 12 ≤ length o → o′ ≡ laid (word .kind .write 0) o → Laid 12 (timeBytes tag s n) o 4 o′
+  pub time-none : tag < 3 → (tag ≡ 2 → ⊥) → 12 ≤ length o → o′ ≡ laid (word .kind .write tag) o → Laid 12 (timeBytes tag s n) o 4 o′
   unfolding timeBytes set-time
-  time-dont e h f =
-      laid-one (word .kind .write 0) (timeBytes tag s n) (word-length 0) (rw (eq-eqb tag 0 e) (sym (append-nil (word .kind .write 0)))) (omega arith) h f
+  time-none d e h f = laid-one (word .kind .write tag) (timeBytes tag s n) (word-length tag) (by (eqb tag 0) refl) (omega arith) h f
+    where
+      by : (b : Bool) → eqb tag 0 ≡ b → word .kind .write tag ≡ timeBytes tag s n
+      by true g =
+          ap (word .kind .write) (eqb-true tag 0 g) ∙ rw g (sym (append-nil (word .kind .write 0)))
+      by false g =
+          let z : tag ≡ 1 = omega (arith, eqb-false tag 0 g, e, d) in
+          ap (word .kind .write) z ∙ rw (g, eq-eqb tag 1 z) (sym (append-nil (word .kind .write 1)))
 
-  pub time-server : (tag ≡ 0 → ⊥) → tag ≡ 1 → 12 ≤ length o → o′ ≡ laid (word .kind .write 1) o → Laid 12 (timeBytes tag s n) o 4 o′
+  pub time-client : tag ≡ 2 → 12 ≤ length o → o′ ≡ laid (word .kind .write 2 ++ word-pair .kind .write (low s, low n)) o → Laid 12 (timeBytes tag s n) o 12 o′
   unfolding timeBytes set-time
-  time-server d e h f =
-      laid-one (word .kind .write 1) (timeBytes tag s n) (word-length 1) (rw (ne-eqb tag 0 d, eq-eqb tag 1 e) (sym (append-nil (word .kind .write 1)))) (omega arith) h f
-
-  pub time-client : (tag ≡ 0 → ⊥) → (tag ≡ 1 → ⊥) → 12 ≤ length o → o′ ≡ laid (word .kind .write 2 ++ word-pair .kind .write (low s, low n)) o
-      → Laid 12 (timeBytes tag s n) o 12 o′
-  unfolding timeBytes set-time
-  time-client d e h f =
-      laid-one (word .kind .write 2 ++ word-pair .kind .write (low s, low n)) (timeBytes tag s n) (sym (three-size 2 (low s) (low n))) (rw (ne-eqb tag 0 d, ne-eqb tag 1 e) (tag-time 2 (record { seconds = low s; nseconds = low n }))) (omega arith) h f
+  time-client e h f =
+      laid-one (word .kind .write 2 ++ word-pair .kind .write (low s, low n)) (timeBytes tag s n) (sym (three-size 2 (low s) (low n))) (rw e (tag-time 2 (record { seconds = low s; nseconds = low n }))) (omega arith) h f
 
 -- two and three calls, each lent the tail from its place on
 module _ {o a y : List ℕ} {i n : ℕ} (d : Laid i a (tailOf 0 o) n y) where
@@ -238,38 +242,45 @@ pub sattr-of : (l : List ℕ) → ownerOf l ++ changeOf l ≡ sattrOf l
 unfolding sattrOf
 sattr-of l = ap₂ (λ x y. x ++ y) (owner-is l) (change-is l) ∙ sattr-bytes (sattr3By low l)
 
--- what a writer does with the sattr3 that figures are: by that sattr3, or straight
-pub written-by : {l : List ℕ} {x : sattr3} {at : ℕ} {o o′ : List ℕ} {w : Written} → Writes (exactly sattr) [] x at o w o′ → x ≡ sattr3By low l → SattrWritten l at o w o′
-written-by {at = at} {o = o} {o′ = o′} {w = w} d e = record { writes = subst (λ z. Writes (exactly sattr) [] z at o w o′) e d }
+-- by a test of the figures and of the room
+pub quick-no : (l : List ℕ) (len at : ℕ) → SattrQuick l len at false
+quick-no l len at = record { narrow = λ e. absurd (false≢true e); room = λ e. absurd (false≢true e) }
 
-module _ (w : Wrote) (m len at : ℕ) (e : viewWrote w ≡ roomed len at 60) (f : w ≡ wrote.Done m) where
+pub quick-by : {l : List ℕ} {len at : ℕ} {b : Bool} → Is sattr3Narrow l b → not b ≡ false → at ≤ len → SattrQuick l len at (leb 60 (len - at))
+quick-by {len = len} {at = at} d e h =
+    record { narrow = λ _. yes (d .is) e; room = λ f. omega (arith, leb-true 60 (len - at) f) }
+
+-- where it holds they are laid, and the sattr3 is written
+module _ {l : List ℕ} {len at : ℕ} {b : Bool} (q : SattrQuick l len at b) (e : not b ≡ false) where
   longest : at + 60 ≤ len
-  longest = room-in len at 60 e f .room
+  longest = q .room (yes refl e)
 
-  -- the tail from the place on has room for the longest
+  pub quick-tagged : Tagged l
+  quick-tagged = narrow-tagged l (q .narrow (yes refl e))
+
+  pub place-in : at ≤ len
+  place-in = let r = longest in omega arith
+
   pub tail-room : (o : List ℕ) → len ≡ length o → 60 ≤ length (tailOf at o)
   tail-room o g = let r = longest in room-at o at 60 (omega arith)
 
-  -- and the place behind what was laid is a place
-  pub behind-fits : {k n : ℕ} {bs xs ys : List ℕ} → Laid k bs xs n ys → k ≤ 60 → len < 18446744073709551616 → Fits w64 (at + n)
-  behind-fits d h g =
+  pub behind-fits : {n : ℕ} {bs xs zs : List ℕ} → Laid 60 bs xs n zs → len < 18446744073709551616 → Fits w64 (at + n)
+  behind-fits d g =
       let r = longest in
       let p = d .most in
       omega arith
 
-pub written-laid : (w : Wrote) (m : ℕ) {l o zs : List ℕ} {at n : ℕ} → viewWrote w ≡ roomed (length o) at 60 → w ≡ wrote.Done m → ((i : ℕ) → Fits w64 (getD l i 0))
-    → Laid 60 (sattrOf l) (tailOf at o) n zs → SattrWritten l at o (done (at + n)) (after at o zs)
-unfolding sattrOf
-written-laid w m {l} {o} {zs} {at} {n} e f known d =
-    let r = longest w m (length o) at e f in
-    let p = d .most in
-    record {
-      writes =
-          writes-done (exactly sattr) [] (sattr3By low l) at o (omega arith) (omega arith) refl (sattr-small (sattr3By low l)) (sattr-in l (omega (arith, known 7)))
-          (omega arith) (put-of d);
-    }
+  pub write-laid : {o i zs : List ℕ} {n : ℕ} → len ≡ length o → ((j : ℕ) → Fits w64 (getD l j 0)) → 14 ≤ length l → 1 ≤ length i
+      → Laid 60 (sattrOf l) (tailOf at o) n zs → WriteSattr3Called l o at i 0 (after at o zs) (set i 0 (at + n))
+  unfolding sattrOf
+  write-laid {o} {i} {n = n} k known h g d =
+      let r = longest in
+      let p = d .most in
+      write-as (λ x w o′. Writes (exactly sattr) [] x at o w o′) 14 sattr3Given l o i h g
+      (writes-done (exactly sattr) [] (sattr3By low l) at o (omega arith) (omega arith) refl (sattr-small (sattr3By low l)) (sattr-in l (omega (arith, known 7))) (omega arith) (put-of d))
+      (wrote-says i (at + n)) (sattr3-some (narrow-fits l (q .narrow (yes refl e))) refl refl)
 
-pub write-by : {l o i : List ℕ} {start : ℕ} {b : Bool} {w : Written} {r : ℕ} {o′ i′ : List ℕ} → 14 ≤ length l → 1 ≤ length i → Is sattr3Fits l b → not b ≡ false
-    → SattrWritten l start o w o′ → Says wroteCode wroteFigures w i r i′ → WriteSattr3Called l o start i r o′ i′
-write-by {l} {o} {i} {start} h g e f d t =
-    write-as (λ x w o′. Writes (exactly sattr) [] x start o w o′) 14 sattr3Given l o i h g (d .writes) t (sattr3-some e f refl)
+-- otherwise a careful function writes it, which is lent each slice whole
+pub sattr3-again : {l o i : List ℕ} {start r : ℕ} {o′ i′ : List ℕ} → WriteSattr3Called (tailOf 0 l) (tailOf 0 o) start (tailOf 0 i) r o′ i′
+    → WriteSattr3Called l o start i r (after 0 o o′) (after 0 i i′)
+sattr3-again {start = start} c = write-again (λ o x w o′. Writes (exactly sattr) [] x start o w o′) 14 sattr3Given c
