@@ -100,7 +100,7 @@
 #endif
 
 /* made by tools/generate: version */
-#define YUGERZAT_VERSION "0.7.0"
+#define YUGERZAT_VERSION "0.7.1"
 /* end of version */
 
 /* The compiler warns where an answer is not looked at. */
