@@ -414,6 +414,16 @@ pub fn words_size(n: usize) -> usize
     4 + n * 4
 }
 
+// Bytes as they stand at the front of a buffer, which is left as it was where there is no room.
+pub fn put_bytes(run: &[u8], out: &mut [u8])
+    ensures { λ _. ⌜ now (out .exit) ≡ laid (now (run .entry)) (now (out .entry)) ⌝ }
+{
+    if out.len() < run.len() {
+        return;
+    }
+    copy(run, out);
+}
+
 // An opaque at the front of a buffer that has room. The last word is zeroed first, so that what the bytes leave of it is the pad.
 fn lay_opaque(body: &[u8], out: &mut [u8])
     requires { ⌜ length (now body) ≤ 1048576 ⌝ }

@@ -235,6 +235,9 @@ module _ {M S : Type 0} (F : Format M S) (s : List ℕ) (x : S) (r : Ready F s x
 pub copy-put : {b d z : List ℕ} → z ≡ take (length b) b ++ drop (length b) d → Put d z (length b) b
 copy-put {b} {d} {z} e = record { is = e ∙ ap (λ y. y ++ drop (length b) d) (take-length b); long = refl }
 
+pub copy-laid : (b d z : List ℕ) → length b ≤ length d → z ≡ take (length b) b ++ drop (length b) d → z ≡ laid b d
+copy-laid b d z h e = laid-is h (copy-put e)
+
 -- bytes laid at a place of a buffer
 pub laid-at : (o bs : List ℕ) (m : ℕ) {zs : List ℕ} → m + length bs ≤ length o → zs ≡ laid bs (midOf m (length o - m) o)
     → putMid m (length o - m) o zs ≡ take m o ++ (bs ++ drop (m + length bs) o)

@@ -7,4 +7,4 @@ copy-spec =
     tie.close
     (tie.spec
     (search needs) (search needs) (λ c. search needs) (search needs) (search needs) (λ c. search needs) (search needs) (search needs)
-    (λ c. search needs) (search needs) (search needs) (λ c. search needs) (search needs) (search needs) (λ c. search needs))
+    (λ c. search needs))
