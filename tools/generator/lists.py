@@ -339,9 +339,15 @@ EXPORTS = (
 )
 
 
+# Kinds that a function written by hand rewrites or judges, and its file: it is quicker than reading the message and writing what was read.
+BY_HAND = {("rewrite", "sattr3"): "settle"}
+
+
 def export_file(export, kinds, copiers):
     by_name = {kind.name: kind for kind in kinds}
-    called = {f"crate::{file_of(by_name[name])}::copy_{name}" for name in copiers.values()}
+    by_hand = {name: file for (what, name), file in BY_HAND.items() if what == export.name}
+    called = {f"crate::{file_of(by_name[name])}::copy_{name}" for name in copiers.values() if name not in by_hand}
+    called |= {f"crate::{file}::{export.name}_{name}" for name, file in by_hand.items()}
     items = {"crate::exports::SHORT_LIST", f"crate::exports::{export.name}_any", f"crate::exports::{export.tell}", *called}
     return lines(
         f"// {HEADER}",
@@ -406,26 +412,32 @@ def export_number_proof(export, name, kinds):
 
 
 def export_function(export, kind, copier):
-    if export.out:
-        body = [f"    let c = copy_{copier}(src, at, out, 0);"]
+    if (export.name, kind.name) in BY_HAND:
+        body = [f"    {export.name}_{kind.name}({', '.join(export.given)})"]
     else:
-        body = [f"    let c = copy_{copier}(src, at, &mut [], 0);"]
+        out = "out" if export.out else "&mut []"
+        body = [
+            "    if info.len() < 3 {",
+            "        return SHORT_LIST;",
+            "    }",
+            f"    let c = copy_{copier}(src, at, {out}, 0);",
+            f"    {export.tell}(c, info)",
+        ]
     return [
         "",
         *export_head(export.function(kind), export.parameters),
         f"    ensures {{ λ r. ⌜ {export.promise(kind.number)} ⌝ }}",
         "{",
-        "    if info.len() < 3 {",
-        "        return SHORT_LIST;",
-        "    }",
         *body,
-        f"    {export.tell}(c, info)",
         "}",
     ]
 
 
 def export_proof(export, kind):
     """That of the function that takes a number, at this one."""
+    if (export.name, kind.name) in BY_HAND:
+        needs = ["(search needs)"] * (3 if export.out else 2)
+        return proof(export.name, export.function(kind), ["borrow.Author.Needs.{needs}"], [f"tie.close (tie.spec {' '.join(needs)} (λ c. search needs))"])
     imports = [
         "borrow.Author.Needs.{needs}",
         f"Rattle.door.specs.Laws.Exports.{{{export.name}-short, {export.name}-told}}",

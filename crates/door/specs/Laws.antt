@@ -7,6 +7,9 @@ pub mod Given
 pub mod Parts
 pub mod Taken
 pub mod TakenFattr
+pub mod Walked
+pub mod Settled
+pub mod Recast
 pub mod Laid
 pub mod LaidFattr
 pub mod One

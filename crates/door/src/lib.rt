@@ -20,6 +20,8 @@ pub mod rewrite;
 mod sattr3;
 pub mod values_read;
 pub mod values_write;
+mod walk;
+mod settle;
 
 pub use copy::Copied;
 pub use copy::Marking;

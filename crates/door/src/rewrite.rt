@@ -14,7 +14,6 @@ use crate::files::copy_nfstime3;
 use crate::files::copy_post_op_attr;
 use crate::files::copy_post_op_fh3;
 use crate::files::copy_pre_op_attr;
-use crate::files::copy_sattr3;
 use crate::files::copy_set_atime;
 use crate::files::copy_set_gid3;
 use crate::files::copy_set_mode3;
@@ -75,6 +74,7 @@ use crate::procedures::copy_setattr3res;
 use crate::procedures::copy_stable_how;
 use crate::procedures::copy_write3args;
 use crate::procedures::copy_write3res;
+use crate::settle::rewrite_sattr3;
 
 // Reads a message of a kind from place `at` of src, and writes it in published form from the start of out. 0: info holds the place after
 // what was read, 1 if that was in published form and else 0, and the count of bytes written. A refusal of the reading: info holds its
@@ -895,11 +895,7 @@ pub extern "C" fn yugerzat_rewrite_sattr3(
 ) -> u32
     ensures { λ r. ⌜ RewriteCalled 44 (now (src .entry)) at (now (out .entry)) (now (info .entry)) r (now (out .exit)) (now (info .exit)) ⌝ }
 {
-    if info.len() < 3 {
-        return SHORT_LIST;
-    }
-    let c = copy_sattr3(src, at, out, 0);
-    tell_copied(c, info)
+    rewrite_sattr3(src, at, out, info)
 }
 
 #[no_mangle]

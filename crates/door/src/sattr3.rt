@@ -121,34 +121,25 @@ fn take_time(src: &[u8], at: usize, info: &mut [u64], k: usize) -> Step
     else {
         return Step::Lost;
     };
-    match tag {
-        0 => {
-            put_three(0, 0, 0, info, k);
-            Step::Took {
-                next: n1,
-                plain: true,
-            }
-        }
-        1 => {
-            put_three(1, 0, 0, info, k);
-            Step::Took {
-                next: n1,
-                plain: true,
-            }
-        }
-        2 => {
-            let r2 = nfstime3_at(src, n1);
-            let Nfstime3Read::Took { value: t, next: n2 } = r2 else {
-                return Step::Lost;
-            };
-            put_three(2, t.seconds as u64, t.nseconds as u64, info, k);
-            Step::Took {
-                next: n2,
-                plain: true,
-            }
-        }
-        _ => Step::Lost,
+    if tag == 2 {
+        let r2 = nfstime3_at(src, n1);
+        let Nfstime3Read::Took { value: t, next: n2 } = r2 else {
+            return Step::Lost;
+        };
+        put_three(2, t.seconds as u64, t.nseconds as u64, info, k);
+        return Step::Took {
+            next: n2,
+            plain: true,
+        };
     }
+    if tag < 2 {
+        put_three(tag as u64, 0, 0, info, k);
+        return Step::Took {
+            next: n1,
+            plain: true,
+        };
+    }
+    Step::Lost
 }
 
 // The figures of a sattr3 stand from the third of the list on: six for mode, uid and gid, then eight for size, atime and mtime.

@@ -64,10 +64,10 @@ pub wrote-says : (i : List ℕ) (n : ℕ) → Says wroteCode wroteFigures (done 
 wrote-says i n = record { number = refl; shown = record { list = refl } }
 
 -- by another function, which is lent each slice whole
-whole : (o : List ℕ) → tailOf 0 o ≡ o
+pub whole : (o : List ℕ) → tailOf 0 o ≡ o
 whole o = take-all (length o - 0) o (omega arith)
 
-whole-back : (o z : List ℕ) → after 0 o z ≡ z
+pub whole-back : (o z : List ℕ) → after 0 o z ≡ z
 whole-back o z = ap (λ x. z ++ x) (drop-of-length-le o {i = length o - 0} (omega arith)) ∙ append-nil z
 
 pub write-again : {S : Type 0} (W : List ℕ → S → Written → List ℕ → Type 0) (k : ℕ) (given : List ℕ → Option S) {l o i : List ℕ} {r : ℕ} {o′ i′ : List ℕ}

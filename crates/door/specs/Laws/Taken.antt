@@ -201,13 +201,14 @@ module _ {R : Type 0} (view : R → Answer ℕ) (C : Codec ℕ) (s : List ℕ) (
 
 -- a tag, and the time that it sets
 module _ (s : List ℕ) (p k : ℕ) (i : List ℕ) (i′ : List ℕ) (r : U32Read) (v n : ℕ) (e : viewU32 r ≡ word .kind .read s p) (f : r ≡ U32.Took v n) where
-  pub time-dont : v ≡ 0 → i′ ≡ sets i k (0 ∷ 0 ∷ 0 ∷ []) → Takes set-time timeFigures s p k i (step.Took n true) i′
+  pub time-unset : v < 2 → i′ ≡ sets i k (v ∷ 0 ∷ 0 ∷ []) → Takes set-time timeFigures s p k i (step.Took n true) i′
   unfolding set-time
-  time-dont g h = record { by = record { value = dont-change; reads = rw (on viewU32 e f, g); list = h } }
-
-  pub time-server : v ≡ 1 → i′ ≡ sets i k (1 ∷ 0 ∷ 0 ∷ []) → Takes set-time timeFigures s p k i (step.Took n true) i′
-  unfolding set-time
-  time-server g h = record { by = record { value = server-time; reads = rw (on viewU32 e f, g); list = h } }
+  time-unset g h = by v (on viewU32 e f) g h
+    where
+      by : (v : ℕ) → word .kind .read s p ≡ took v n true → v < 2 → i′ ≡ sets i k (v ∷ 0 ∷ 0 ∷ []) → Takes set-time timeFigures s p k i (step.Took n true) i′
+      by zero e g h = record { by = record { value = dont-change; reads = rw e; list = h } }
+      by (suc zero) e g h = record { by = record { value = server-time; reads = rw e; list = h } }
+      by (suc (suc v)) e g h = absurd (omega arith)
 
   pub time-client : v ≡ 2 → (r′ : Nfstime3Read) (x : nfstime3) (m : ℕ) → viewNfstime3 r′ ≡ nfstime .kind .read s n → r′ ≡ N.Took x m
       → i′ ≡ sets i k (2 ∷ x .seconds ∷ x .nseconds ∷ []) → Takes set-time timeFigures s p k i (step.Took m true) i′

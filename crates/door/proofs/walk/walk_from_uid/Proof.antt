@@ -1,0 +1,7 @@
+use borrow.Author.Needs.{needs}
+use Rattle.door.specs.Laws.Walked.{walk-lost, walk-two}
+use Rattle.door.proofs.walk.walk_from_uid.Statement.{statement}
+use Rattle.door.proofs.walk.walk_from_uid.Tie as tie
+
+pub walk-from-uid-spec : {M : Type 1} → statement M
+walk-from-uid-spec = tie.close (tie.spec (search needs) (search needs) (search needs) (λ c. search walk-lost) (search needs) (λ c. search walk-two))
