@@ -2,6 +2,7 @@
 // place `start` of out. 0: info holds the place after the value. After refusal 5 it holds how many bytes are needed, after the others 0.
 // Where a list is too short the answer is 254, and where a number does not fit its field 253; then nothing is touched.
 ghost use mathlib.Core.Path.{_≡_};
+ghost use mathlib.Core.Option.{some};
 ghost use Prim.Native.Nat.{_≤_, _<_};
 ghost use lib.ListN.{length};
 ghost use Rattle.xdr.specs.Meaning.Combinators.{among};
@@ -10,12 +11,14 @@ ghost use Rattle.nfs.specs.Meaning.Change.{setModeTo, setUidTo, setGidTo, setSi
 ghost use Rattle.nfs.specs.Meaning.Set.{atimeTo, mtimeTo};
 ghost use Rattle.rpc.specs.Meaning.Closed.{flavorNumber, flavors};
 ghost use Rattle.door.specs.Meaning.Copy.{Is};
-ghost use Rattle.door.specs.Meaning.Given.{low, areWords, fattr3Words, fattr3By, fattr3Given, viewGivenFattr3, WriteFattr3Called, WriteDiropargs3Called, optionFits, timeFits, sattr3Fits, optionOf, timeOf, sattr3By, WriteSattr3Called, foundFlavor, callWords, callBy, callGiven, viewGivenCall, WriteCallCalled, unixWords, unixBy, unixGiven, viewGivenUnix, WriteUnixCalled};
+ghost use Rattle.door.specs.Meaning.Given.{low, areWords, fattr3Words, fattr3By, fattr3Given, viewGivenFattr3, WriteFattr3Called, diropargs3Given, WriteDiropargs3Called, optionFits, timeFits, sattr3Fits, optionOf, timeOf, sattr3By, WriteSattr3Called, foundFlavor, callWords, callBy, callGiven, viewGivenCall, WriteCallCalled, unixWords, unixBy, unixGiven, viewGivenUnix, WriteUnixCalled};
 ghost use Rattle.door.specs.Laws.Parts.{Laid, sattr3Narrow, Tagged, wordBytes, hyperBytes, timeBytes, ownerOf, changeOf, sattrOf, SattrQuick, idsOf, sizesOf, timesOf, fattrOf, FattrQuick};
 use crate::exports::SHORT_LIST;
 use crate::exports::tell_wrote;
+use nfs::Fitted;
 use nfs::diropargs3;
 use nfs::fattr3;
+use nfs::fit_diropargs3_from;
 use nfs::ftype3;
 use nfs::nfs_fh3;
 use nfs::nfstime3;
@@ -244,6 +247,46 @@ pub extern "C" fn yugerzat_write_fattr3(
     0
 }
 
+// Every figure is a place or a count.
+fn diropargs3_of(fields: &[u64]) -> diropargs3
+    requires { ⌜ 4 ≤ length (now fields) ⌝ }
+    ensures { λ r. ⌜ Is diropargs3Given (now (fields .entry)) (some r) ⌝ }
+{
+    diropargs3 {
+        dir: nfs_fh3 {
+            data: Piece {
+                at: fields[0] as usize,
+                count: fields[1] as usize,
+                clean: true,
+            },
+        },
+        name: Piece {
+            at: fields[2] as usize,
+            count: fields[3] as usize,
+            clean: true,
+        },
+    }
+}
+
+// Where it does not fit: it says why. It is handed slices of its own too, and hands on one of its own: so its caller need not keep how many
+// figures there are.
+fn write_diropargs3_carefully(
+    dirs: &[u8],
+    names: &[u8],
+    fields: &[u64],
+    out: &mut [u8],
+    start: usize,
+    info: &mut [u64],
+) -> u32
+    requires { ⌜ 4 ≤ length (now fields) ⌝ }
+    requires { ⌜ 1 ≤ length (now info) ⌝ }
+    ensures { λ r. ⌜ WriteDiropargs3Called (now (dirs .entry)) (now (names .entry)) (now (fields .entry)) (now (out .entry)) start (now (info .entry)) r (now (out .exit)) (now (info .exit)) ⌝ }
+{
+    let v = diropargs3_of(&fields[0..]);
+    let w = write_diropargs3_from(dirs, names, v, out, start);
+    tell_wrote(w, info)
+}
+
 // The handle is a piece of dirs, and the name of names.
 #[no_mangle]
 pub extern "C" fn yugerzat_write_diropargs3(
@@ -262,22 +305,20 @@ pub extern "C" fn yugerzat_write_diropargs3(
     if info.len() < 1 {
         return SHORT_LIST;
     }
-    let v = diropargs3 {
-        dir: nfs_fh3 {
-            data: Piece {
-                at: fields[0] as usize,
-                count: fields[1] as usize,
-                clean: true,
-            },
-        },
-        name: Piece {
-            at: fields[2] as usize,
-            count: fields[3] as usize,
-            clean: true,
-        },
+    let v = diropargs3_of(fields);
+    let fitted = fit_diropargs3_from(dirs, names, v, out, start);
+    let Fitted::To(end) = fitted else {
+        return write_diropargs3_carefully(
+            &dirs[0..],
+            &names[0..],
+            &fields[0..],
+            &mut out[0..],
+            start,
+            &mut info[0..],
+        );
     };
-    let w = write_diropargs3_from(dirs, names, v, out, start);
-    tell_wrote(w, info)
+    info[0] = end as u64;
+    0
 }
 
 fn option_fits(flag: u64, v: u64) -> bool

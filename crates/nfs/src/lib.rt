@@ -94,6 +94,8 @@ pub use set::_time_how;
 pub use set::sattr3;
 pub use set::set_atime;
 pub use set::set_mtime;
+pub use sources::Fitted;
+pub use sources::fit_diropargs3_from;
 pub use sources::write_diropargs3_from;
 pub use write::write_nfsstring;
 pub use write::write_sattr3;

@@ -4,7 +4,7 @@ ghost use lib.ListN.{length};
 ghost use Rattle.xdr.specs.Meaning.Views.{viewWrote};
 ghost use Rattle.xdr.specs.Laws.Write.{Put};
 ghost use Rattle.nfs.specs.Meaning.Dir.{diropargs};
-ghost use Rattle.nfs.specs.Meaning.Sources.{diropargsFrom, WritesDiropargsFrom};
+ghost use Rattle.nfs.specs.Meaning.Sources.{diropargsFrom, WritesDiropargsFrom, FitsDiropargsFrom};
 ghost use Rattle.nfs.specs.Laws.Dir.{diropargsSize};
 ghost use Rattle.nfs.specs.Laws.Sources.{DirReady};
 use crate::dir::diropargs3;
@@ -12,6 +12,7 @@ use crate::dir::diropargs3_size;
 use crate::dir::nfs_fh3_inside;
 use crate::dir::nfs_fh3_size;
 use crate::dir::put_nfs_fh3;
+use xdr::MOST;
 use xdr::Wrote;
 use xdr::inner::put_opaque;
 use xdr::inside;
@@ -54,4 +55,49 @@ pub fn write_diropargs3_from(
     };
     put_diropargs3_from(dirs, names, x, &mut out[at..]);
     w
+}
+
+// Whether it was written, and the place after it.
+pub enum Fitted {
+    No,
+    To(usize),
+}
+
+// The same by tests one after another, where the message fits. Where it does not, nothing is written and nothing is said of why: the writer
+// above says that.
+pub fn fit_diropargs3_from(
+    dirs: &[u8],
+    names: &[u8],
+    x: diropargs3,
+    out: &mut [u8],
+    at: usize,
+) -> Fitted
+    ensures { λ r. ⌜ FitsDiropargsFrom (now (dirs .entry)) (now (names .entry)) x at (now (out .entry)) r (now (out .exit)) ⌝ }
+{
+    let dir = x.dir;
+    let name = x.name;
+    if MOST < dirs.len() {
+        return Fitted::No;
+    }
+    if MOST < names.len() {
+        return Fitted::No;
+    }
+    if !nfs_fh3_inside(dirs, dir) {
+        return Fitted::No;
+    }
+    if !inside(names, name) {
+        return Fitted::No;
+    }
+    let size = diropargs3_size(x);
+    if MOST < size {
+        return Fitted::No;
+    }
+    if out.len() < at {
+        return Fitted::No;
+    }
+    if out.len() - at < size {
+        return Fitted::No;
+    }
+    put_diropargs3_from(dirs, names, x, &mut out[at..]);
+    Fitted::To(at + size)
 }

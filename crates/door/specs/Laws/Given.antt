@@ -22,6 +22,10 @@ use Rattle.nfsattr.specs.Meaning.Views.{foundFtype}
 use Rattle.nfsattr.specs.declared.attr.ftype3.{ftype3}
 use Rattle.nfsattr.specs.declared.attr.fattr3.{fattr3}
 use Rattle.nfsattr.specs.declared.attr.FtypeFound.{FtypeFound}
+use Rattle.nfs.specs.Meaning.Sources.{WritesDiropargsFrom, FitsDiropargsFrom}
+use Rattle.nfs.specs.declared.dir.diropargs3.{diropargs3}
+use Rattle.nfs.specs.declared.sources.Fitted.{Fitted}
+use Rattle.nfs.specs.declared.sources.Fitted.the-variants as fitted
 use Rattle.nfs.specs.declared.set.sattr3.{sattr3}
 use Rattle.nfs.specs.declared.change.set_mode3.{«set_mode3»}
 use Rattle.nfs.specs.declared.change.set_uid3.{«set_uid3»}
@@ -37,7 +41,7 @@ use Rattle.rpc.specs.declared.message.call_body.{«call_body»}
 use Rattle.door.specs.Meaning.Copy.{Is}
 use Rattle.door.specs.Meaning.Figures.{Says}
 use Rattle.door.specs.Meaning.Exports.{wroteCode, wroteFigures}
-use Rattle.door.specs.Meaning.Given.{GivenTold, WriteCalled, low, isWord, areWords, seenOr, fattr3Words, fattr3By, fattr3Of, fattr3Given, optionFits, timeFits, sattr3Fits, optionOf, timeOf, sattr3By, sattr3Of, sattr3Given, foundFlavor, callWords, callBy, callOf, callGiven, WriteCallCalled, unixWords, unixBy, unixOf, unixGiven}
+use Rattle.door.specs.Meaning.Given.{GivenTold, WriteCalled, low, isWord, areWords, seenOr, fattr3Words, fattr3By, fattr3Of, fattr3Given, diropargs3Given, WriteDiropargs3Called, optionFits, timeFits, sattr3Fits, optionOf, timeOf, sattr3By, sattr3Of, sattr3Given, foundFlavor, callWords, callBy, callOf, callGiven, WriteCallCalled, unixWords, unixBy, unixOf, unixGiven}
 use Rattle.door.specs.declared.values_write.FlavorFound.{FlavorFound}
 
 -- by the room, and by what the numbers are
@@ -70,9 +74,26 @@ whole o = take-all (length o - 0) o (omega arith)
 pub whole-back : (o z : List ℕ) → after 0 o z ≡ z
 whole-back o z = ap (λ x. z ++ x) (drop-of-length-le o {i = length o - 0} (omega arith)) ∙ append-nil z
 
+pub is-whole : {B : Type 0} {f : List ℕ → B} {l : List ℕ} {y : B} → Is f (tailOf 0 l) y → Is f l y
+is-whole {f = f} {l} d = record { is = d .is ∙ ap f (whole l) }
+
 pub write-again : {S : Type 0} (W : List ℕ → S → Written → List ℕ → Type 0) (k : ℕ) (given : List ℕ → Option S) {l o i : List ℕ} {r : ℕ} {o′ i′ : List ℕ}
     → WriteCalled (W (tailOf 0 o)) k given (tailOf 0 l) (tailOf 0 o) (tailOf 0 i) r o′ i′ → WriteCalled (W o) k given l o i r (after 0 o o′) (after 0 i i′)
 write-again W k given {l} {o} {i} {r} {o′} {i′} c = rw (whole-back o o′, whole-back i i′, ← whole l, ← whole o, ← whole i) c
+
+-- a diropargs3 that fits, and one that does not
+module _ {s t l o i : List ℕ} {start : ℕ} {x : diropargs3} {f : Fitted} {p : List ℕ} (d : FitsDiropargsFrom s t x start o f p) where
+  pub diropargs3-fits : {n : ℕ} → f ≡ fitted.To n → 4 ≤ length l → 1 ≤ length i → Is diropargs3Given l (some x) → WriteDiropargs3Called s t l o start i 0 p (set i 0 n)
+  diropargs3-fits {n} e h g m = write-as (λ x w o′. WritesDiropargsFrom s t x start o w o′) 4 diropargs3Given l o i h g (d .on n e) (wrote-says i n) m
+
+  pub diropargs3-again : {r : ℕ} {o′ i′ : List ℕ} → f ≡ fitted.No → WriteDiropargs3Called (tailOf 0 s) (tailOf 0 t) (tailOf 0 l) (tailOf 0 p) start (tailOf 0 i) r o′ i′
+      → WriteDiropargs3Called s t l o start i r (after 0 p o′) (after 0 i i′)
+  diropargs3-again {r} {o′} {i′} e c =
+      let a : WriteDiropargs3Called (tailOf 0 s) (tailOf 0 t) l p start i r (after 0 p o′) (after 0 i i′) =
+      write-again (λ o x w o′. WritesDiropargsFrom (tailOf 0 s) (tailOf 0 t) x start o w o′) 4 diropargs3Given c in
+      let b = subst (λ z. WriteDiropargs3Called z (tailOf 0 t) l p start i r (after 0 p o′) (after 0 i i′)) (whole s) a in
+      let g = subst (λ z. WriteDiropargs3Called s z l p start i r (after 0 p o′) (after 0 i i′)) (whole t) b in
+      subst (λ z. WriteDiropargs3Called s t l z start i r (after 0 p o′) (after 0 i i′)) (d .off e) g
 
 -- a call is its xid and its body
 pub write-call-as : (s t l o : List ℕ) (start : ℕ) (i : List ℕ) → 11 ≤ length l → 1 ≤ length i → (r : ℕ) (o′ i′ : List ℕ) (xid : ℕ) (c : «call_body») (w : Written)
