@@ -1,11 +1,16 @@
 """The text of a record: fields one after another."""
 
+from itertools import takewhile
+
 from generator.kind import NEEDS, Kind, Proof, bracket, folded, least_of, lower, most_of, needs, nested, product, projections
 from generator.known import OPAQUE, Known, camel, escaped
 from generator.table import Trouble
 
 # More calls than these in one reader, and its proof is not found.
 MOST_FIELDS = 6
+
+# The bytes that say how many an opaque has.
+LENGTH_WORD = 4
 
 # The cases of xdr's type Marks, by how many marks each has.
 MARKS = ("None", "One", "Two")
@@ -82,7 +87,26 @@ class Record(Kind):
         comment = f"// {self.declared.comment}\n" if self.declared.comment else ""
         return f"{comment}pub struct {self.code_type} {{\n{lines}}}"
 
+    @property
+    def run(self):
+        """Behind a field whose size varies, four or more whose sizes do not, up to the length word of an opaque: behind which field, and how many
+        bytes they are. Where all are there, one test of room will do for them: the compiler then drops the others. For three that gains nothing."""
+        for at, field in enumerate(self.fields):
+            if field.fixed:
+                continue
+            sizes = list(takewhile(bool, (next.fixed for next in self.fields[at + 1 :])))
+            behind = self.fields[at + 1 + len(sizes) :]
+            sizes += [LENGTH_WORD] if behind and behind[0] is OPAQUE else []
+            return (at + 1, sum(sizes)) if len(sizes) >= 4 else None
+        return None
+
     def at_code(self):
+        if not self.run:
+            return self.steps_code(self.at_head())
+        cut = self.at_head().replace("pub fn", "fn").replace(f"{self.name}_at(", f"{self.name}_cut(")
+        return f"// Where not all of its fields are there.\n{self.steps_code(cut)}\n\n{self.steps_code(self.at_head(), self.run)}"
+
+    def steps_code(self, head, run=None):
         steps = ""
         place = "at"
         marks = []
@@ -95,8 +119,16 @@ class Record(Kind):
     }};
 """
             place = f"n{at}"
+            if run and run[0] == at:
+                steps += f"""    if src.len() < {run[1]} {{
+        return {self.name}_cut(src, at);
+    }}
+    if src.len() - {run[1]} < {place} {{
+        return {self.name}_cut(src, at);
+    }}
+"""
         took = self.took(value=f"{self.code_type} {{ {', '.join(self.names)} }}", next=place, plain=" & ".join(marks))
-        return f"{self.at_head()}\n{{\n{steps}    {self.answer}::Took {{ {took} }}\n}}"
+        return f"{head}\n{{\n{steps}    {self.answer}::Took {{ {took} }}\n}}"
 
     def marks_code(self):
         """The mark of each piece, reached field by field."""
@@ -375,8 +407,18 @@ unfolding {m} {self.pieces(OPAQUE, *self.fields)}
         # Behind five calls or more the search is handed what was known in their middle: it does not reach back far enough.
         middle = "".join(f"let d{at} : tie.After-r{at} = search in " for at in MIDDLE.get(count, ()))
         far = f"(λ c. {middle}search ({rules}) depth 20 fits 20000)"
-        reads = [part for at in range(count) for part in needs(4) + [far if at >= 4 else one]] + [far if count > 4 else one]
-        proofs = {f"{self.name}_at": Proof(reads, unfolding=m)}
+        reads = [needs(4) + [far if at >= 4 else one] for at in range(count)]
+        took = [far if count > 4 else one]
+        proofs = {f"{self.name}_at": Proof(sum(reads, []) + took, unfolding=m)}
+        if self.run:
+            proofs[f"{self.name}_cut"] = proofs[f"{self.name}_at"]
+            tests = [NEEDS, "(λ c. search needs)"] + needs(2) + ["(λ c. search needs)"]
+            behind = self.run[0]
+            # The tests stand between; what was known before them is handed over.
+            known = f"let d0 : tie.After-r{behind} = search in "
+            far = far.replace("(λ c. ", f"(λ c. {known}")
+            later = [part.replace("(λ c. ", f"(λ c. {known}") for part in sum(reads[behind:-2], [])] + (needs(4) + [far]) * 2 + [far]
+            proofs[f"{self.name}_at"] = Proof(sum(reads[:behind], []) + tests + later, unfolding=m)
         if not self.known.fixed:
             varying, fixed = self.sizes()
             bounds = ", ".join(dict.fromkeys(["sums"] + [field.bound for field in self.fields if field.bound]))

@@ -182,6 +182,65 @@ impl Write3argsRead {
     }
 }
 
+// Where not all of its fields are there.
+fn write3args_cut(src: &[u8], at: usize) -> Write3argsRead
+    ensures { λ r. ⌜ viewWrite3args r ≡ write-args .held .read (now (src .entry)) at ⌝ }
+{
+    let r1 = nfs_fh3_at(src, at);
+    let NfsFh3Read::Took {
+        value: file,
+        next: n1,
+        plain: p1,
+    } = r1
+    else {
+        return Write3argsRead::Refused(r1.refusal());
+    };
+    let r2 = u64_at(src, n1);
+    let U64Read::Took {
+        value: offset,
+        next: n2,
+    } = r2
+    else {
+        return Write3argsRead::Refused(r2.refusal());
+    };
+    let r3 = u32_at(src, n2);
+    let U32Read::Took {
+        value: count,
+        next: n3,
+    } = r3
+    else {
+        return Write3argsRead::Refused(r3.refusal());
+    };
+    let r4 = stable_how_at(src, n3);
+    let StableHowRead::Took {
+        value: stable,
+        next: n4,
+    } = r4
+    else {
+        return Write3argsRead::Refused(r4.refusal());
+    };
+    let r5 = opaque_at(src, n4);
+    let PieceRead::Took {
+        value: data,
+        next: n5,
+        plain: p5,
+    } = r5
+    else {
+        return Write3argsRead::Refused(r5.refusal());
+    };
+    Write3argsRead::Took {
+        value: WRITE3args {
+            file,
+            offset,
+            count,
+            stable,
+            data,
+        },
+        next: n5,
+        plain: p1 & p5,
+    }
+}
+
 pub fn write3args_at(src: &[u8], at: usize) -> Write3argsRead
     ensures { λ r. ⌜ viewWrite3args r ≡ write-args .held .read (now (src .entry)) at ⌝ }
 {
@@ -194,6 +253,12 @@ pub fn write3args_at(src: &[u8], at: usize) -> Write3argsRead
     else {
         return Write3argsRead::Refused(r1.refusal());
     };
+    if src.len() < 20 {
+        return write3args_cut(src, at);
+    }
+    if src.len() - 20 < n1 {
+        return write3args_cut(src, at);
+    }
     let r2 = u64_at(src, n1);
     let U64Read::Took {
         value: offset,

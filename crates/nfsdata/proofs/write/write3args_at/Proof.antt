@@ -10,4 +10,4 @@ use Rattle.nfsdata.proofs.write.write3args_at.Tie as tie
 
 pub write3args-at-spec : {M : Type 1} → statement M
 unfolding write-args
-write3args-at-spec = tie.close (tie.spec (search needs) (search needs) (search needs) (search needs) (λ c. search (planned write-args-plan, asks, marked, step-nfs-fh, lost-nfs-fh, step-stable-how, lost-stable-how) depth 20) (search needs) (search needs) (search needs) (search needs) (λ c. search (planned write-args-plan, asks, marked, step-nfs-fh, lost-nfs-fh, step-stable-how, lost-stable-how) depth 20) (search needs) (search needs) (search needs) (search needs) (λ c. search (planned write-args-plan, asks, marked, step-nfs-fh, lost-nfs-fh, step-stable-how, lost-stable-how) depth 20) (search needs) (search needs) (search needs) (search needs) (λ c. search (planned write-args-plan, asks, marked, step-nfs-fh, lost-nfs-fh, step-stable-how, lost-stable-how) depth 20) (search needs) (search needs) (search needs) (search needs) (λ c. let d3 : tie.After-r3 = search in search (planned write-args-plan, asks, marked, step-nfs-fh, lost-nfs-fh, step-stable-how, lost-stable-how) depth 20 fits 20000) (λ c. let d3 : tie.After-r3 = search in search (planned write-args-plan, asks, marked, step-nfs-fh, lost-nfs-fh, step-stable-how, lost-stable-how) depth 20 fits 20000))
+write3args-at-spec = tie.close (tie.spec (search needs) (search needs) (search needs) (search needs) (λ c. search (planned write-args-plan, asks, marked, step-nfs-fh, lost-nfs-fh, step-stable-how, lost-stable-how) depth 20) (search needs) (λ c. search needs) (search needs) (search needs) (λ c. search needs) (search needs) (search needs) (search needs) (search needs) (λ c. let d0 : tie.After-r1 = search in search (planned write-args-plan, asks, marked, step-nfs-fh, lost-nfs-fh, step-stable-how, lost-stable-how) depth 20) (search needs) (search needs) (search needs) (search needs) (λ c. let d0 : tie.After-r1 = search in search (planned write-args-plan, asks, marked, step-nfs-fh, lost-nfs-fh, step-stable-how, lost-stable-how) depth 20) (search needs) (search needs) (search needs) (search needs) (λ c. let d0 : tie.After-r1 = search in let d3 : tie.After-r3 = search in search (planned write-args-plan, asks, marked, step-nfs-fh, lost-nfs-fh, step-stable-how, lost-stable-how) depth 20 fits 20000) (search needs) (search needs) (search needs) (search needs) (λ c. let d0 : tie.After-r1 = search in let d3 : tie.After-r3 = search in search (planned write-args-plan, asks, marked, step-nfs-fh, lost-nfs-fh, step-stable-how, lost-stable-how) depth 20 fits 20000) (λ c. let d0 : tie.After-r1 = search in let d3 : tie.After-r3 = search in search (planned write-args-plan, asks, marked, step-nfs-fh, lost-nfs-fh, step-stable-how, lost-stable-how) depth 20 fits 20000))
