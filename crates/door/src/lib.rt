@@ -18,10 +18,10 @@ pub mod mounting;
 pub mod replies;
 pub mod rewrite;
 mod sattr3;
+mod settle;
 pub mod values_read;
 pub mod values_write;
 mod walk;
-mod settle;
 
 pub use copy::Copied;
 pub use copy::Marking;

@@ -1,15 +1,14 @@
 // A sattr3 read straight into the list of its figures: each is put where it stays as soon as it is read. The reader of `nfs` makes a value of
 // six enums, which the compiler packs into words and takes apart again.
 // Nothing is said of what is refused: who asks then has it read once more, by the reader that says why.
-ghost use mathlib.Core.Path.{_≡_};
-ghost use mathlib.Core.List.{[], _∷_};
 ghost use Prim.Native.Nat.{_+_, _≤_};
 ghost use lib.ListN.{length};
-ghost use lib.Seq.{sets};
 ghost use Rattle.xdr.specs.Meaning.Items.{word, hyper, option};
 ghost use Rattle.nfs.specs.Meaning.Set.{set-time, sattr};
 ghost use Rattle.door.specs.Meaning.Values.{optionFigures, timeFigures, sattr3Figures};
 ghost use Rattle.door.specs.Laws.Taken.{Takes, OwnerTakes, ChangeTakes, Whole, WholeAnswers};
+use crate::figures::put_three;
+use crate::figures::put_two;
 use nfs::Nfstime3Read;
 use nfsattr::inner::attr::nfstime3_at;
 use xdr::BoolRead;
@@ -25,24 +24,6 @@ pub enum Step {
     // It is refused.
     Lost,
     Took { next: usize, plain: bool },
-}
-
-// Two figures, and three, from the k-th on.
-pub(crate) fn put_two(a: u64, b: u64, info: &mut [u64], k: usize)
-    requires { ⌜ k + 2 ≤ length (now info) ⌝ }
-    ensures { λ _. ⌜ now (info .exit) ≡ sets (now (info .entry)) k (a ∷ b ∷ []) ⌝ }
-{
-    info[k] = a;
-    info[k + 1] = b;
-}
-
-pub(crate) fn put_three(a: u64, b: u64, c: u64, info: &mut [u64], k: usize)
-    requires { ⌜ k + 3 ≤ length (now info) ⌝ }
-    ensures { λ _. ⌜ now (info .exit) ≡ sets (now (info .entry)) k (a ∷ b ∷ c ∷ []) ⌝ }
-{
-    info[k] = a;
-    info[k + 1] = b;
-    info[k + 2] = c;
 }
 
 // A flag, and the word or hyper that it sets.

@@ -100,9 +100,9 @@ module _ (s : List ℕ) (p n : ℕ) (h : Span s p n) (given : (j : ℕ) → Fits
           record {
             same = cast-long;
             lays = λ y e.
-            let g : z ≡ sixFields .kind .write y =
-            f .anew y (found y b e .loose) [] (part s p n) [] (form y b e) refl (head ∙ sym (append-nil (part s p n))) ∙ append-nil (sixFields .kind .write y) in
-            record { is = ap₂ (λ u v. u ++ v) g tail; long = ap length (sym g) ∙ z-long };
+                let g : z ≡ sixFields .kind .write y =
+                f .anew y (found y b e .loose) [] (part s p n) [] (form y b e) refl (head ∙ sym (append-nil (part s p n))) ∙ append-nil (sixFields .kind .write y) in
+                record { is = ap₂ (λ u v. u ++ v) g tail; long = ap length (sym g) ∙ z-long };
           }
 
 pub recast-long : {s : List ℕ} {p n : ℕ} {b : Bool} {o o′ : List ℕ} → Recast s p n b o o′ → length o′ ≡ length o

@@ -101,13 +101,13 @@ module _ (k p : ℕ) (o : List ℕ) (r : BoolRead) (e : viewBool r ≡ flag .kin
       record {
         same = laid-same-long f g;
         anew = λ v′ w a e′ t form l d.
-        let i : v ≡ v′ = cc (on viewBool e f, found p o v′ w a e′ t form l d) in
-        laid-anew p o v′ w a e′ t form l d (g ∙ ap (λ x. laid (flag .kind .write x) (tailOf p o)) i);
+            let i : v ≡ v′ = cc (on viewBool e f, found p o v′ w a e′ t form l d) in
+            laid-anew p o v′ w a e′ t form l d (g ∙ ap (λ x. laid (flag .kind .write x) (tailOf p o)) i);
         next = λ v′ w a e′ t form l d.
-        let i : v ≡ v′ = cc (on viewBool e f, found p o v′ w a e′ t form l d) in
-        let j : n ≡ p + length e′ = cc (on viewBool e f, found p o v′ w a e′ t form l d) in
-        let q = four p o v′ w a e′ t form l d in
-        h ∙ ap (λ x. cond x (n + k) n) i ∙ by v′ (omega arith);
+            let i : v ≡ v′ = cc (on viewBool e f, found p o v′ w a e′ t form l d) in
+            let j : n ≡ p + length e′ = cc (on viewBool e f, found p o v′ w a e′ t form l d) in
+            let q = four p o v′ w a e′ t form l d in
+            h ∙ ap (λ x. cond x (n + k) n) i ∙ by v′ (omega arith);
       }
     where
       by : (v : Bool) → n ≡ p + 4 → cond v (n + k) n ≡ p + (4 + cond v k 0)
@@ -139,7 +139,7 @@ still-two : {X : Type 0} {Y : X → Type 0} (A : Codec X) (B : (a : X) → Codec
 still-two A B S T =
     record {
       none = λ m w e f.
-      none-both (length (f .e₁)) (f .w₁) (f .w₂) w (S .none (m .0) (f .w₁) (f .e₁) (f .form₁)) (T (m .0) .none (m .1) (f .w₂) (f .e₂) (f .form₂)) (f .loose);
+          none-both (length (f .e₁)) (f .w₁) (f .w₂) w (S .none (m .0) (f .w₁) (f .e₁) (f .form₁)) (T (m .0) .none (m .1) (f .w₂) (f .e₂) (f .form₂)) (f .loose);
     }
 
 module _ {M N : Type 0} (C : Codec M) (W : View M (C .kind .Good) N) where
@@ -147,7 +147,7 @@ module _ {M N : Type 0} (C : Codec M) (W : View M (C .kind .Good) N) where
   still-view S T =
       record {
         none = λ m w e f.
-        f .loose ∙ ap₂ (λ x y. here x ++ y) (T (f .of) m (f .w₂) (f .sees)) (S .none (f .of) (f .w₁) e (f .form));
+            f .loose ∙ ap₂ (λ x y. here x ++ y) (T (f .of) m (f .w₂) (f .sees)) (S .none (f .of) (f .w₁) e (f .form));
       }
 
 means-none : {N : Type 0} {m m′ : N} {l : List Way} → means m [] ≡ means m′ l → l ≡ []

@@ -195,7 +195,7 @@ six-named =
     let all = named-two (named-option word setModeCases) (named-two (named-option word setUidCases) (named-two (named-option word setGidCases) last)) in
     named-then all
     (named-mapped (set-mode ⨾ set-uid ⨾ set-gid ⨾ set-size ⨾ set-atime ⨾ set-mtime) (λ x. record { mode = x .0; uid = x .1 .0; gid = x .1 .1 .0; size = x .1 .1 .1 .0; atime = x .1 .1 .1 .1 .0; mtime = x .1 .1 .1 .1 .1 })
-      (λ m. (m .mode, (m .uid, (m .gid, (m .size, (m .atime, m .mtime)))))) (λ x. refl) (λ m. refl))
+    (λ m. (m .mode, (m .uid, (m .gid, (m .size, (m .atime, m .mtime)))))) (λ x. refl) (λ m. refl))
 
 -- a sattr3 was read, as a public reader reads it
 module _ (s : List ℕ) (p : ℕ) where
