@@ -40,13 +40,16 @@ use rpc::call_body;
 use rpc::opaque_auth;
 use rpc::write_auth_unix_from;
 use rpc::write_call_from;
+use xdr::MOST;
 use xdr::Piece;
+use xdr::inner::opaque_size;
 use xdr::inner::put_bool;
 use xdr::inner::put_u32;
 use xdr::inner::put_u32_pair;
 use xdr::inner::put_u32_three;
 use xdr::inner::put_u32_u64;
 use xdr::inner::put_u64_pair;
+use xdr::inside;
 
 // A number of a list does not fit its field.
 pub const WIDE_NUMBER: u32 = 253;
@@ -652,6 +655,78 @@ fn given_call(fields: &[u64]) -> GivenCall
     }
 }
 
+// Whether a call fits, by tests that end at the first no. It promises nothing: whatever it says, the same is written.
+fn call_room(creds: &[u8], verfs: &[u8], fields: &[u64], room: usize, start: usize) -> bool
+    requires { ⌜ 11 ≤ length (now fields) ⌝ }
+{
+    if MOST < creds.len() {
+        return false;
+    }
+    if MOST < verfs.len() {
+        return false;
+    }
+    let cred = Piece {
+        at: fields[6] as usize,
+        count: fields[7] as usize,
+        clean: true,
+    };
+    let verf = Piece {
+        at: fields[9] as usize,
+        count: fields[10] as usize,
+        clean: true,
+    };
+    if !inside(creds, cred) {
+        return false;
+    }
+    if !inside(verfs, verf) {
+        return false;
+    }
+    let size = 32 + opaque_size(cred.count) + opaque_size(verf.count);
+    if MOST < size {
+        return false;
+    }
+    if room < start {
+        return false;
+    }
+    size <= room - start
+}
+
+fn write_given_call(
+    creds: &[u8],
+    verfs: &[u8],
+    fields: &[u64],
+    out: &mut [u8],
+    start: usize,
+    info: &mut [u64],
+) -> u32
+    requires { ⌜ 11 ≤ length (now fields) ⌝ }
+    requires { ⌜ 1 ≤ length (now info) ⌝ }
+    ensures { λ r. ⌜ WriteCallCalled (now (creds .entry)) (now (verfs .entry)) (now (fields .entry)) (now (out .entry)) start (now (info .entry)) r (now (out .exit)) (now (info .exit)) ⌝ }
+{
+    let given = given_call(fields);
+    let GivenCall::Is { xid, call } = given else {
+        return WIDE_NUMBER;
+    };
+    let w = write_call_from(creds, verfs, xid, call, out, start);
+    tell_wrote(w, info)
+}
+
+// The same where it does not fit, so that where it does the compiler need keep nothing for refusals. It is lent slices of its own.
+fn write_call_carefully(
+    creds: &[u8],
+    verfs: &[u8],
+    fields: &[u64],
+    out: &mut [u8],
+    start: usize,
+    info: &mut [u64],
+) -> u32
+    requires { ⌜ 11 ≤ length (now fields) ⌝ }
+    requires { ⌜ 1 ≤ length (now info) ⌝ }
+    ensures { λ r. ⌜ WriteCallCalled (now (creds .entry)) (now (verfs .entry)) (now (fields .entry)) (now (out .entry)) start (now (info .entry)) r (now (out .exit)) (now (info .exit)) ⌝ }
+{
+    write_given_call(creds, verfs, fields, out, start, info)
+}
+
 // The figures of a call: xid, rpcvers, prog, vers, proc, then flavor, place and count of the credential, a piece of creds, and of the
 // verifier, a piece of verfs.
 #[no_mangle]
@@ -671,12 +746,17 @@ pub extern "C" fn yugerzat_write_call(
     if info.len() < 1 {
         return SHORT_LIST;
     }
-    let given = given_call(fields);
-    let GivenCall::Is { xid, call } = given else {
-        return WIDE_NUMBER;
-    };
-    let w = write_call_from(creds, verfs, xid, call, out, start);
-    tell_wrote(w, info)
+    if call_room(creds, verfs, fields, out.len(), start) {
+        return write_given_call(creds, verfs, fields, out, start, info);
+    }
+    write_call_carefully(
+        &creds[0..],
+        &verfs[0..],
+        &fields[0..],
+        &mut out[0..],
+        start,
+        &mut info[0..],
+    )
 }
 
 fn unix_words(fields: &[u64]) -> bool
