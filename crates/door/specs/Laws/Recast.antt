@@ -1,9 +1,9 @@
 -- A sattr3 rewritten by its bytes: copied as they stand, and if it is loose its flags then written anew.
 -- Assumes nothing.
 use mathlib.Core.Path.{_≡_, refl, sym, ap, ap₂, subst, _∙_}
-use mathlib.Core.Bool.{Bool, true, false, cond}
+use mathlib.Core.Bool.{Bool, true, cond}
 use mathlib.Core.List.{List, [], _∷_, _++_, append-nil}
-use Prim.Native.Nat.{ℕ, _+_, _-_, _≤_, _<_}
+use Prim.Native.Nat.{ℕ, _+_, _-_, _≤_}
 use native.Mathlib.Omega.{arith}
 use native.Mathlib.Nat.{zero-add}
 use lib.ListN.{length, getD, take, drop, length-append, length-drop}
@@ -11,16 +11,16 @@ use lib.Seq.{sets, take-at, drop-at, length-take-le}
 use mir.Syntax.{w8}
 use mir.Val.{Fits}
 use borrow.Rule.Slice.PartMut.{midOf, putMid}
-use Rattle.xdr.specs.Meaning.Answer.{Answer, took, most, Loose, clean, done}
-use Rattle.xdr.specs.Meaning.Bytes.{part, Bytes}
+use Rattle.xdr.specs.Meaning.Answer.{took, done}
+use Rattle.xdr.specs.Meaning.Bytes.{part}
 use Rattle.xdr.specs.Meaning.Kind.{Found, Sound}
 use Rattle.xdr.specs.Meaning.Format.{exactly}
-use Rattle.xdr.specs.Meaning.Public.{Answers, Took, laid, Writes}
+use Rattle.xdr.specs.Meaning.Public.{Took, laid, Writes}
 use Rattle.xdr.specs.Laws.Lists.{known-bytes}
 use Rattle.xdr.specs.Laws.Marks.{clean-none}
 use Rattle.xdr.specs.Laws.Public.{kept}
 use Rattle.xdr.specs.Laws.Unpadded.{no-marks}
-use Rattle.xdr.specs.Laws.Write.{Put, put-laid, put-same, laid-is, writes-done}
+use Rattle.xdr.specs.Laws.Write.{Put, put-laid, put-same, writes-done}
 use Rattle.xdr.specs.Laws.Lays.{after, tailOf}
 use Rattle.nfs.specs.Meaning.Set.{sattr}
 use Rattle.nfs.specs.Laws.Bytes.{sattr-small}

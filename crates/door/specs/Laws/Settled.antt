@@ -3,24 +3,23 @@
 use mathlib.Core.Path.{_≡_, refl, sym, ap, ap₂, subst, _∙_}
 use mathlib.Core.Bool.{Bool, true, false, cond}
 use mathlib.Core.Option.{Option, none, some}
-use mathlib.Core.List.{List, [], _∷_, _++_, append-assoc, append-nil}
-use Prim.Native.Nat.{ℕ, zero, suc, _+_, _-_, _≤_, _<_}
+use mathlib.Core.List.{List, [], _++_, append-assoc}
+use Prim.Native.Nat.{ℕ, zero, suc, _+_, _≤_}
 use native.Mathlib.Omega.{arith}
 use lib.ListN.{length, take, drop, length-append, length-drop}
 use lib.Seq.{take-at, drop-at, length-take-le}
 use mir.Syntax.{w64}
 use mir.Val.{Fits}
-use Rattle.xdr.specs.Meaning.Answer.{Answer, took, refused, Way, Loose, here, shifted, clean}
-use Rattle.xdr.specs.Meaning.Bytes.{Stands}
+use Rattle.xdr.specs.Meaning.Answer.{took, Way, Loose, here, shifted, clean}
 use Rattle.xdr.specs.Meaning.Kind.{Codec}
 use Rattle.xdr.specs.Meaning.Codecs.{_⨾_, void, chain, view}
-use Rattle.xdr.specs.Meaning.Combinators.{View, Seen, means}
+use Rattle.xdr.specs.Meaning.Combinators.{View, means}
 use Rattle.xdr.specs.Meaning.Items.{flag, number, word, hyper, if, option}
 use Rattle.xdr.specs.Meaning.Shapes.{If, toOption}
 use Rattle.xdr.specs.Meaning.Public.{laid}
 use Rattle.xdr.specs.Meaning.Views.{viewBool}
 use Rattle.xdr.specs.Laws.Answers.{on}
-use Rattle.xdr.specs.Laws.Fixed.{Fixed, flag-fixed, word-fixed, hyper-fixed}
+use Rattle.xdr.specs.Laws.Fixed.{Fixed, flag-fixed, hyper-fixed}
 use Rattle.xdr.specs.Laws.Lays.{after, tailOf}
 use Rattle.xdr.specs.Laws.Padding.{flag-length}
 use Rattle.xdr.specs.Laws.Write.{laid-at}

@@ -2,7 +2,7 @@
 -- their proofs cite.
 -- Assumes nothing.
 use mathlib.Core.Path.{_≡_, refl, sym, ap, ap₂, subst, _∙_}
-use mathlib.Core.Bool.{Bool, true, false, not, cond, _&&_, and-true}
+use mathlib.Core.Bool.{Bool, true, false, not, cond, _&&_, and-true, and-assoc}
 use mathlib.Core.Option.{Option, none, some}
 use mathlib.Core.List.{List, [], _∷_, _++_, append-assoc}
 use Prim.Native.Nat.{ℕ, zero, suc, _+_, _≤_, _<_}
@@ -13,9 +13,8 @@ use lib.ListN.{getD, length, drop, set, length-replicate, length-append}
 use mir.Syntax.{w8}
 use mir.Val.{Fits}
 use lib.Seq.{sets, length-sets, sets-eq, set-comm}
-use Rattle.xdr.specs.Meaning.Answer.{Answer, took, refused, opened}
+use Rattle.xdr.specs.Meaning.Answer.{Answer, took, refused, opened, mapAnswer}
 use Rattle.xdr.specs.Meaning.Kind.{Codec}
-use Rattle.xdr.specs.Meaning.Cases.{Cases, maybe}
 use Rattle.xdr.specs.Meaning.Format.{exactly}
 use Rattle.xdr.specs.Meaning.Items.{flag, word, hyper, option}
 use Rattle.xdr.specs.Meaning.Public.{Answers}
@@ -33,11 +32,11 @@ use Rattle.nfsattr.specs.Meaning.Views.{viewNfstime3}
 use Rattle.nfsattr.specs.declared.attr.nfstime3.{nfstime3}
 use Rattle.nfsattr.specs.declared.answer.Nfstime3Read.{Nfstime3Read}
 use Rattle.nfsattr.specs.declared.answer.Nfstime3Read.the-variants as N
-use Rattle.nfs.specs.Meaning.Change.{setModeCases, setUidCases, setGidCases, setSizeCases, set-mode, set-uid, set-gid, set-size, set-mode-from-to, set-uid-from-to, set-gid-from-to, set-size-from-to, setModeFrom, setUidFrom, setGidFrom, setSizeFrom}
-use Rattle.nfs.specs.Meaning.Set.{SetTime, dont-change, server-time, client-time, set-time, Times, timed, atimeCases, mtimeCases, set-atime, set-mtime, atime-from-to, mtime-from-to, atimeFrom, mtimeFrom, sattr}
-use Rattle.nfs.specs.Laws.Plans.{sattr-plan}
+use Rattle.nfs.specs.Meaning.Change.{set-mode-from-to, set-uid-from-to, set-gid-from-to, set-size-from-to, setModeFrom, setUidFrom, setGidFrom, setSizeFrom}
+use Rattle.nfs.specs.Meaning.Set.{SetTime, dont-change, server-time, client-time, set-time, atime-from-to, mtime-from-to, atimeFrom, mtimeFrom, sattr}
 use Rattle.nfs.specs.declared.set.sattr3.{sattr3}
 use Rattle.door.specs.Meaning.Values.{optionFigures, timeFigures, sattr3Figures, readFigures, ValueCalled}
+use Rattle.door.specs.Laws.Walked.{sixFields, ofSix, six-named}
 use Rattle.door.specs.declared.sattr3.Step.{Step}
 use Rattle.door.specs.declared.sattr3.Step.the-variants as step
 
@@ -218,13 +217,10 @@ module _ (s : List ℕ) (p k : ℕ) (i : List ℕ) (i′ : List ℕ) (r : U32Rea
 pub lost-here : {X : Type 0} (C : Codec X) (f : X → List ℕ) (s : List ℕ) (p k : ℕ) (i : List ℕ) → Takes C f s p k i step.Lost i
 lost-here C f s p k i = record { by = refl }
 
--- what a call took, and where it took nothing
+-- what a call took
 module _ {X : Type 0} {C : Codec X} {f : X → List ℕ} {s : List ℕ} {p k : ℕ} {i : List ℕ} {r : Step} {i′ : List ℕ} (a : Takes C f s p k i r i′) where
   pub took-it : {n : ℕ} {b : Bool} → r ≡ step.Took n b → Taken C f s p k i n b i′
   took-it e = subst (λ z. TakesBy C f s p k i z i′) e (a .by)
-
-  pub lost-it : r ≡ step.Lost → i′ ≡ i
-  lost-it e = subst (λ z. TakesBy C f s p k i z i′) e (a .by)
 
 pub sets-long : (i : List ℕ) {i′ : List ℕ} (k : ℕ) (f : List ℕ) → i′ ≡ sets i k f → length i′ ≡ length i
 sets-long i k f e = ap length e ∙ length-sets i k f
@@ -306,22 +302,9 @@ behind-time : (i i′ : List ℕ) {i″ : List ℕ} (k : ℕ) (v : SetTime) (g :
 behind-time i i′ k v g e f =
     f ∙ ap₂ (λ l j. sets l j g) e (ap (λ n. k + n) (sym (time-long v))) ∙ sets-append (timeFigures v) i k g
 
--- all six
-named-option : {M T : Type 0} (C : Codec M) (U : Cases M T) (s : List ℕ) (p : ℕ) {x : Option M} {n : ℕ} {b : Bool}
-    → option C .kind .read s p ≡ took x n b → maybe C U .kind .read s p ≡ took (U .to x) n b
-named-option C U s p e = rw e
-
-named-time : {T : Type 0} (U : Times T) (s : List ℕ) (p : ℕ) {x : SetTime} {n : ℕ} {b : Bool}
-    → set-time .kind .read s p ≡ took x n b → timed U .kind .read s p ≡ took (U .to x) n b
-named-time U s p e = rw e
-
-six : (a b c d e f : Bool) → (((((true && a) && b) && c) && d) && e) && f ≡ (a && (b && c)) && (d && (e && f))
-six true true true true true f = refl
-six true true true true false f = refl
-six true true true false e f = refl
-six true true false d e f = refl
-six true false c d e f = refl
-six false b c d e f = refl
+-- the marks of six fields, as the halves join them
+six : (a b c d e f : Bool) → a && (b && (c && (d && (e && f)))) ≡ (a && (b && c)) && (d && (e && f))
+six a b c d e f = sym (and-assoc a (b && c) (d && (e && f)) ∙ ap (λ z. a && z) (and-assoc b c (d && (e && f))))
 
 -- three fields
 module _ (s : List ℕ) (p : ℕ) (i : List ℕ) {i₁ i₂ i₃ : List ℕ} {n₁ n₂ n₃ : ℕ} {b₁ b₂ b₃ : Bool} {r₁ r₂ r₃ : Step} where
@@ -378,31 +361,15 @@ module _ (s : List ℕ) (p : ℕ) (i : List ℕ) {i₁ i₂ i₃ : List ℕ} {n�
 -- both halves
 module _ (s : List ℕ) (p : ℕ) (i : List ℕ) {i₁ i₂ : List ℕ} {n₁ n₂ : ℕ} {b₁ b₂ : Bool} (x : Owner s p i n₁ b₁ i₁) (y : Change s n₁ i₁ n₂ b₂ i₂) where
   abbrev theirs : sattr3
-  theirs =
-      record {
-        mode = setModeCases .to (x .mode);
-        uid = setUidCases .to (x .uid);
-        gid = setGidCases .to (x .gid);
-        size = setSizeCases .to (y .size);
-        atime = atimeCases .to (y .atime);
-        mtime = mtimeCases .to (y .mtime);
-      }
+  theirs = ofSix (x .mode, (x .uid, (x .gid, (y .size, (y .atime, y .mtime)))))
 
   read-six : sattr .kind .read s p ≡ took theirs n₂ (b₁ && b₂)
-  unfolding sattr set-mode set-uid set-gid set-size set-atime set-mtime
   read-six =
-      sattr-plan .is s p
-      ∙ rw (
-        named-option word setModeCases s p (x .first),
-        named-option word setUidCases s (x .n₁) (x .second),
-        named-option word setGidCases s (x .n₂) (x .third),
-        named-option hyper setSizeCases s n₁ (y .first),
-        named-time atimeCases s (y .n₁) (y .second),
-        named-time mtimeCases s (y .n₂) (y .third),
-        six (x .b₁) (x .b₂) (x .b₃) (y .b₁) (y .b₂) (y .b₃),
-        x .mark,
-        y .mark,
-      )
+      let all : sixFields .kind .read s p
+      ≡ took (x .mode, (x .uid, (x .gid, (y .size, (y .atime, y .mtime))))) n₂ (x .b₁ && (x .b₂ && (x .b₃ && (y .b₁ && (y .b₂ && y .b₃))))) =
+      rw (x .first, x .second, x .third, y .first, y .second, y .third) in
+      six-named .reads s p ∙ ap (mapAnswer ofSix) all
+      ∙ ap (took theirs n₂) (six (x .b₁) (x .b₂) (x .b₃) (y .b₁) (y .b₂) (y .b₃) ∙ ap₂ (λ u v. u && v) (sym (x .mark)) (sym (y .mark)))
 
   owner-long : length (optionFigures (x .mode) ++ (optionFigures (x .uid) ++ optionFigures (x .gid))) ≡ 6
   owner-long = simp (length-append, option-long (x .mode), option-long (x .uid), option-long (x .gid))
