@@ -100,7 +100,7 @@
 #endif
 
 /* made by tools/generate: version */
-#define YUGERZAT_VERSION "0.7.1"
+#define YUGERZAT_VERSION "0.7.2"
 /* end of version */
 
 /* The compiler warns where an answer is not looked at. */
