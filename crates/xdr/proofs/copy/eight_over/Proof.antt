@@ -7,7 +7,7 @@ use Rattle.xdr.proofs.copy.eight_over.Statement.{statement}
 use Rattle.xdr.proofs.copy.eight_over.Tie as tie
 
 abbrev begun : tie.After-shared-slice-known8 → tie.Start
-begun c = c .before .before .before .before .before .before .before .before
+begun c = search
 
 store : (k : ℕ) → k < 8 → (c : tie.After-shared-slice-known8) → k < length (stored k (begun c .args .src .now) (begun c .args .at) (begun c .args .out .now))
 store k h c = store-in k (begun c .args .src .now) (begun c .args .at) (begun c .args .out .now) 8 (begun c .pre .1) h
