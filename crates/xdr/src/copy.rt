@@ -178,5 +178,5 @@ pub(crate) fn copy(src: &[u8], out: &mut [u8])
         copy_runs(src, out);
         return;
     }
-    bytes::copy(src, out);
+    out[..n].copy_from_slice(src);
 }

@@ -7,7 +7,7 @@ use crate::number::word_here;
 
 // A part of a message: the place of its first byte, and how many bytes it has, or words where it is a word list. `clean` is the mark that a
 // reader sets: whether the padding behind it was all zero. It is no part of what the piece means, and a writer does not look at it.
-#[derive(Drop)]
+#[derive(Clone, Copy)]
 pub struct Piece {
     pub at: usize,
     pub count: usize,

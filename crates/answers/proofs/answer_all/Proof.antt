@@ -11,8 +11,8 @@ invariant-loop input₀ line₀ message₀ room₀ out₀ turns₀ t₀ input li
 abbrev decreases-loop : tie.decreases-loop
 decreases-loop input₀ line₀ message₀ room₀ out₀ turns₀ t₀ input line message room out turns t = turns
 
-pub answer-all-spec : {M : Type 1} → statement M
-answer-all-spec =
+pub answer_all_spec : {M : Type 1} → statement M
+answer_all_spec =
     tie.close
     (tie.spec
     invariant-loop decreases-loop (search rules) (search rules) (search rules) (search rules) (search rules) (search rules) (search rules) (search rules)

@@ -7,8 +7,8 @@ use Rattle.answers.proofs.read_once.Tie as tie
 part-take-end : tie.Need-slice-bounds-take-end
 part-take-end c = omega (arith, within _ _ c.before.before.before.before.before.before.before.before.before.before.before.before.before.args.input.now c.before.before.before.before.before.before.read.new.0 c.before.before.got.given.1 c.before.before.before.before.before.before.read.ensures)
 
-pub read-once-spec : {M : Type 1} → statement M
-read-once-spec =
+pub read_once_spec : {M : Type 1} → statement M
+read_once_spec =
     tie.close
     (tie.spec
     (search rules) (search rules) (search rules) (search rules) (search rules) (search rules) part-take-end (search rules)

@@ -11,8 +11,8 @@ invariant-loop message₀ room₀ out₀ at₀ i₀ message room out at i = (i �
 abbrev decreases-loop : tie.decreases-loop
 decreases-loop message₀ room₀ out₀ at₀ i₀ message room out at i = 61 - i
 
-pub ask-all-spec : {M : Type 1} → statement M
-ask-all-spec =
+pub ask_all_spec : {M : Type 1} → statement M
+ask_all_spec =
     tie.close
     (tie.spec
     invariant-loop decreases-loop (search rules) (search rules) (search rules) (search rules) (search rules) (search rules) (search rules) (search rules)

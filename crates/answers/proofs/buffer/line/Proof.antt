@@ -7,5 +7,5 @@ use Rattle.answers.proofs.buffer.line.Tie as tie
 returns : tie.Need-returns
 returns c = sym (length-replicate {0} {A = ℕ} 2200000 0)
 
-pub line-spec : {M : Type 1} → statement M
-line-spec = tie.close (tie.spec returns)
+pub line_spec : {M : Type 1} → statement M
+line_spec = tie.close (tie.spec returns)

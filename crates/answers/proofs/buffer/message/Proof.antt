@@ -7,5 +7,5 @@ use Rattle.answers.proofs.buffer.message.Tie as tie
 returns : tie.Need-returns
 returns c = sym (length-replicate {0} {A = ℕ} 1100000 0)
 
-pub message-spec : {M : Type 1} → statement M
-message-spec = tie.close (tie.spec returns)
+pub message_spec : {M : Type 1} → statement M
+message_spec = tie.close (tie.spec returns)

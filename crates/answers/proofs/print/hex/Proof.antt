@@ -11,8 +11,8 @@ invariant-loop out₀ bytes n₀ i₀ out n i = (i ≤ length bytes) × (length 
 abbrev decreases-loop : tie.decreases-loop
 decreases-loop out₀ bytes n₀ i₀ out n i = length bytes - i
 
-pub hex-spec : {M : Type 1} → statement M
-hex-spec =
+pub hex_spec : {M : Type 1} → statement M
+hex_spec =
     tie.close
     (tie.spec
     invariant-loop decreases-loop (search rules) (search rules) (search rules) (search rules) (search rules) (search rules) (search rules) (search rules)

@@ -11,8 +11,8 @@ invariant-loop run buf₀ out₀ f₀ i₀ buf out f i = (length buf ≡ length 
 abbrev decreases-loop : tie.decreases-loop
 decreases-loop run buf₀ out₀ f₀ i₀ buf out f i = length run - i
 
-pub feed-run-spec : {M : Type 1} → statement M
-feed-run-spec =
+pub feed_run_spec : {M : Type 1} → statement M
+feed_run_spec =
     tie.close
     (tie.spec
     invariant-loop decreases-loop (search rules) (search rules) (search rules) (search rules) (search rules) (search rules) (search rules) (search rules)

@@ -15,8 +15,8 @@ decreases-loop line start message₀ buf₀ out₀ f₀ s₀ message buf out f s
 loop-less : tie.Need-loop-smaller invariant-loop decreases-loop
 loop-less c = omega (arith, c.after2.ensures c.before.before.before.before.before.before.before.before.before.before.before.before.before.before.before.before.before.before.before.loop-test.true)
 
-pub feed-runs-spec : {M : Type 1} → statement M
-feed-runs-spec =
+pub feed_runs_spec : {M : Type 1} → statement M
+feed_runs_spec =
     tie.close
     (tie.spec
     invariant-loop decreases-loop (search rules) (search rules) (search rules) (search rules) (search rules) (search rules) (search rules) (search rules)

@@ -15,8 +15,8 @@ decreases-loop line start message₀ s₀ message s = (length line + 1) - s
 loop-less : tie.Need-loop-smaller invariant-loop decreases-loop
 loop-less c = omega (arith, c.before.before.before.before.bytes-at.ensures.1 (omega arith))
 
-pub runs-at-spec : {M : Type 1} → statement M
-runs-at-spec =
+pub runs_at_spec : {M : Type 1} → statement M
+runs_at_spec =
     tie.close
     (tie.spec
     invariant-loop decreases-loop (search rules) (search rules) (search rules) (search rules) (search rules) loop-less (search rules) (search rules)

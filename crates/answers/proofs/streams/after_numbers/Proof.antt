@@ -14,8 +14,8 @@ decreases-loop line start s₀ s = (length line + 1) - s
 loop-less : tie.Need-loop-smaller invariant-loop decreases-loop
 loop-less c = omega (arith, c.after.ensures (omega arith))
 
-pub after-numbers-spec : {M : Type 1} → statement M
-after-numbers-spec =
+pub after_numbers_spec : {M : Type 1} → statement M
+after_numbers_spec =
     tie.close
     (tie.spec
     invariant-loop decreases-loop (search rules) (search rules) (search rules) (search rules) (search rules) (search rules) loop-less (search rules)

@@ -11,8 +11,8 @@ invariant-loop stream buf₀ out₀ h₀ i₀ buf out h i = (length buf ≡ leng
 abbrev decreases-loop : tie.decreases-loop
 decreases-loop stream buf₀ out₀ h₀ i₀ buf out h i = length stream - i
 
-pub hear-rest-spec : {M : Type 1} → statement M
-hear-rest-spec =
+pub hear_rest_spec : {M : Type 1} → statement M
+hear_rest_spec =
     tie.close
     (tie.spec
     invariant-loop decreases-loop (search rules) (search rules) (search rules) (search rules) (search rules) (search rules) (search rules) (search rules)

@@ -15,8 +15,8 @@ decreases-loop line start stream buf₀ out₀ h₀ s₀ buf out h s = (length l
 loop-less : tie.Need-loop-smaller invariant-loop decreases-loop
 loop-less c = omega (arith, c.after.ensures (omega arith))
 
-pub hear-runs-spec : {M : Type 1} → statement M
-hear-runs-spec =
+pub hear_runs_spec : {M : Type 1} → statement M
+hear_runs_spec =
     tie.close
     (tie.spec
     invariant-loop decreases-loop (search rules) (search rules) (search rules) (search rules) (search rules) (search rules) (search rules) loop-less

@@ -11,8 +11,8 @@ invariant-loop out₀ w n₀ i₀ out n i = (i ≤ length w) × (length out ≡ 
 abbrev decreases-loop : tie.decreases-loop
 decreases-loop out₀ w n₀ i₀ out n i = length w - i
 
-pub word-spec : {M : Type 1} → statement M
-word-spec =
+pub word_spec : {M : Type 1} → statement M
+word_spec =
     tie.close
     (tie.spec
     invariant-loop decreases-loop (search rules) (search rules) (search rules) (search rules) (search rules) (search rules) (search rules) (search rules)

@@ -3,5 +3,5 @@ use Rattle.door.specs.Laws.Copy.{said_at}
 use Rattle.door.proofs.copy.copied_to.Statement.{statement}
 use Rattle.door.proofs.copy.copied_to.Tie as tie
 
-pub copied-to-spec : {M : Type 1} → statement M
-copied-to-spec = tie.close (tie.spec (search rules) (search rules) (search rules) (λ c. search said_at) (λ c. search said_at))
+pub copied_to_spec : {M : Type 1} → statement M
+copied_to_spec = tie.close (tie.spec (search rules) (search rules) (search rules) (λ c. search said_at) (λ c. search said_at))

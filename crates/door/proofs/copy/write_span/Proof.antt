@@ -4,8 +4,8 @@ use Rattle.door.specs.Laws.Span.{stands-off, span_fits, stands_on}
 use Rattle.door.proofs.copy.write_span.Statement.{statement}
 use Rattle.door.proofs.copy.write_span.Tie as tie
 
-pub write-span-spec : {M : Type 1} → statement M
-write-span-spec =
+pub write_span_spec : {M : Type 1} → statement M
+write_span_spec =
     tie.close
     (tie.spec
     (search rules) (search rules) (search rules) (search rules) (λ c. search stands-off) (search rules) (search rules) (search rules)

@@ -5,5 +5,5 @@ use Rattle.door.specs.Laws.Figures.{at-case}
 use Rattle.door.proofs.current.accept_figures.Statement.{statement}
 use Rattle.door.proofs.current.accept_figures.Tie as tie
 
-pub accept-figures-spec : {M : Type 1} → statement M
-accept-figures-spec = tie.close (tie.spec (search rules) (search rules) (search rules) (search rules) (search rules) (search rules) (search rules) (search rules) (λ c. search (at-case (accept_figures current))) (λ c. search (at-case (accept_figures current))) (λ c. search (at-case (accept_figures current))) (λ c. search (at-case (accept_figures current))) (λ c. search (at-case (accept_figures current))) (λ c. search (at-case (accept_figures current))))
+pub accept_figures_spec : {M : Type 1} → statement M
+accept_figures_spec = tie.close (tie.spec (search rules) (search rules) (search rules) (search rules) (search rules) (search rules) (search rules) (search rules) (λ c. search (at-case (accept_figures current))) (λ c. search (at-case (accept_figures current))) (λ c. search (at-case (accept_figures current))) (λ c. search (at-case (accept_figures current))) (λ c. search (at-case (accept_figures current))) (λ c. search (at-case (accept_figures current))))

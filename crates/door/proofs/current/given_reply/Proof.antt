@@ -5,5 +5,5 @@ use Rattle.door.specs.Laws.Replies.{reply-wide, reply-none, reply-some}
 use Rattle.door.proofs.current.given_reply.Statement.{statement}
 use Rattle.door.proofs.current.given_reply.Tie as tie
 
-pub given-reply-spec : {M : Type 1} → statement M
-given-reply-spec = tie.close (tie.spec (search rules) (λ c. search (reply-wide current)) (search rules) (search rules) (search rules) (λ c. search (reply-none current found_current_reply)) (search rules) (search rules) (λ c. search (reply-some current found_current_reply)))
+pub given_reply_spec : {M : Type 1} → statement M
+given_reply_spec = tie.close (tie.spec (search rules) (λ c. search (reply-wide current)) (search rules) (search rules) (search rules) (λ c. search (reply-none current found_current_reply)) (search rules) (search rules) (λ c. search (reply-some current found_current_reply)))

@@ -4,5 +4,5 @@ use Rattle.door.specs.Laws.Replies.{mismatch-none, mismatch-some}
 use Rattle.door.proofs.current.mismatch_of.Statement.{statement}
 use Rattle.door.proofs.current.mismatch_of.Tie as tie
 
-pub mismatch-of-spec : {M : Type 1} → statement M
-mismatch-of-spec = tie.close (tie.spec (search rules) (search rules) (search rules) (λ c. search (mismatch-none current)) (λ c. search (mismatch-some current)))
+pub mismatch_of_spec : {M : Type 1} → statement M
+mismatch_of_spec = tie.close (tie.spec (search rules) (search rules) (search rules) (λ c. search (mismatch-none current)) (λ c. search (mismatch-some current)))

@@ -4,5 +4,5 @@ use Rattle.door.specs.Laws.Replies.{tag-accepted, tag-mismatch, tag-denial, tag-
 use Rattle.door.proofs.current.reply_of.Statement.{statement}
 use Rattle.door.proofs.current.reply_of.Tie as tie
 
-pub reply-of-spec : {M : Type 1} → statement M
-reply-of-spec = tie.close (tie.spec (search rules) (search rules) (search rules) (search rules) (search rules) (search rules) (search rules) (search rules) (search rules) (search rules) (search rules) (search rules) (search rules) (λ c. search (tag-accepted current)) (λ c. search (tag-mismatch current)) (λ c. search (tag-denial current)) (λ c. tag-none current c.match.rest.0.0.1 c.match.rest.0.1 c.match.rest.1))
+pub reply_of_spec : {M : Type 1} → statement M
+reply_of_spec = tie.close (tie.spec (search rules) (search rules) (search rules) (search rules) (search rules) (search rules) (search rules) (search rules) (search rules) (search rules) (search rules) (search rules) (search rules) (λ c. search (tag-accepted current)) (λ c. search (tag-mismatch current)) (λ c. search (tag-denial current)) (λ c. tag-none current c.match.rest.0.0.1 c.match.rest.0.1 c.match.rest.1))

@@ -4,5 +4,5 @@ use Rattle.door.specs.Laws.Values.{value-short, value-told}
 use Rattle.door.proofs.current.yugerzat_read_current_rpc_msg.Statement.{statement}
 use Rattle.door.proofs.current.yugerzat_read_current_rpc_msg.Tie as tie
 
-pub yugerzat-read-current-rpc-msg-spec : {M : Type 1} → statement M
-yugerzat-read-current-rpc-msg-spec = tie.close (tie.spec (λ c. search (value-short view_current_rpc_msg, rules)) (search rules) (search rules) (search rules) (search rules) (search rules) (search rules) (λ c. search (value-told view_current_rpc_msg, rules)) (search rules) (λ c. search (value-told view_current_rpc_msg, rules)))
+pub yugerzat_read_current_rpc_msg_spec : {M : Type 1} → statement M
+yugerzat_read_current_rpc_msg_spec = tie.close (tie.spec (λ c. search (value-short view_current_rpc_msg, rules)) (search rules) (search rules) (search rules) (search rules) (search rules) (search rules) (λ c. search (value-told view_current_rpc_msg, rules)) (search rules) (λ c. search (value-told view_current_rpc_msg, rules)))

@@ -4,5 +4,5 @@ use Rattle.door.specs.Laws.Figures.{says-case, listed}
 use Rattle.door.proofs.exports.tell_chosen.Statement.{statement}
 use Rattle.door.proofs.exports.tell_chosen.Tie as tie
 
-pub tell-chosen-spec : {M : Type 1} → statement M
-tell-chosen-spec = tie.close (tie.spec (search rules) (search rules) (search rules) (search rules) (search rules) (search rules) (search rules) (search rules) (search rules) (search rules) (search rules) (search rules) (search rules) (search rules) (search rules) (λ c. search (says-case view_choice, listed)) (search rules) (λ c. search (says-case view_choice, listed)) (search rules) (λ c. search (says-case view_choice, listed)) (search rules) (λ c. search (says-case view_choice, listed)))
+pub tell_chosen_spec : {M : Type 1} → statement M
+tell_chosen_spec = tie.close (tie.spec (search rules) (search rules) (search rules) (search rules) (search rules) (search rules) (search rules) (search rules) (search rules) (search rules) (search rules) (search rules) (search rules) (search rules) (search rules) (λ c. search (says-case view_choice, listed)) (search rules) (λ c. search (says-case view_choice, listed)) (search rules) (λ c. search (says-case view_choice, listed)) (search rules) (λ c. search (says-case view_choice, listed)))

@@ -4,5 +4,5 @@ use Rattle.rpcwire.specs.Meaning.Views.{view_caller}
 use Rattle.door.proofs.exports.tell_hand_over.Statement.{statement}
 use Rattle.door.proofs.exports.tell_hand_over.Tie as tie
 
-pub tell-hand-over-spec : {M : Type 1} → statement M
-tell-hand-over-spec = tie.close (tie.spec (search rules) (search rules) (search rules) (search rules) (search rules) (search rules) (search rules) (search rules) (search rules) (search rules) (λ c. search (shows-case view_caller)) (search rules) (λ c. search (shows-case view_caller)))
+pub tell_hand_over_spec : {M : Type 1} → statement M
+tell_hand_over_spec = tie.close (tie.spec (search rules) (search rules) (search rules) (search rules) (search rules) (search rules) (search rules) (search rules) (search rules) (search rules) (λ c. search (shows-case view_caller)) (search rules) (λ c. search (shows-case view_caller)))

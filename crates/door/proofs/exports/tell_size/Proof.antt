@@ -4,5 +4,5 @@ use Rattle.door.specs.Laws.Exports.{size-other, size-told}
 use Rattle.door.proofs.exports.tell_size.Statement.{statement}
 use Rattle.door.proofs.exports.tell_size.Tie as tie
 
-pub tell-size-spec : {M : Type 1} → statement M
-tell-size-spec = tie.close (tie.spec (search rules) (search rules) (search rules) (search rules) (λ c. search (size-other, listed)) (search rules) (search rules) (search rules) (search rules) (search rules) (λ c. search (size-told, listed)))
+pub tell_size_spec : {M : Type 1} → statement M
+tell_size_spec = tie.close (tie.spec (search rules) (search rules) (search rules) (search rules) (λ c. search (size-other, listed)) (search rules) (search rules) (search rules) (search rules) (search rules) (λ c. search (size-told, listed)))

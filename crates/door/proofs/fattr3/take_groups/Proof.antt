@@ -6,5 +6,5 @@ use Rattle.door.proofs.fattr3.take_groups.Tie as tie
 
 ruleset steps = (rules, within-fits, within-long, whole-lost)
 
-pub take-groups-spec : {M : Type 1} → statement M
-take-groups-spec = tie.close (tie.spec (search rules) (search rules) (search rules) (λ c. search (group-1, steps)) (λ c. search (group-1, steps)) (λ c κs. search (group-1, steps)) (search rules) (search rules) (λ c. search (group-2, steps)) (λ c. search (group-2, steps)) (λ c κs. search (group-2, steps)) (search rules) (search rules) (λ c. search (group-3, steps)) (λ c. search (group-3, steps)) (λ c. search (group-3, steps)) (λ c. search groups-took))
+pub take_groups_spec : {M : Type 1} → statement M
+take_groups_spec = tie.close (tie.spec (search rules) (search rules) (search rules) (λ c. search (group-1, steps)) (λ c. search (group-1, steps)) (λ c κs. search (group-1, steps)) (search rules) (search rules) (λ c. search (group-2, steps)) (λ c. search (group-2, steps)) (λ c κs. search (group-2, steps)) (search rules) (search rules) (λ c. search (group-3, steps)) (λ c. search (group-3, steps)) (λ c. search (group-3, steps)) (λ c. search groups-took))

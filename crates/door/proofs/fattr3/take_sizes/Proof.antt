@@ -4,5 +4,5 @@ use Rattle.door.specs.Laws.TakenFattr.{sizes-put}
 use Rattle.door.proofs.fattr3.take_sizes.Statement.{statement}
 use Rattle.door.proofs.fattr3.take_sizes.Tie as tie
 
-pub take-sizes-spec : {M : Type 1} → statement M
-take-sizes-spec = tie.close (tie.spec (search rules) (search rules) (search rules) (λ c. search lost-here) (search rules) (search rules) (search rules) (λ c. search lost-here) (search rules) (search rules) (search rules) (λ c. search lost-here) (search rules) (search rules) (search rules) (λ c. search sets-long) (λ c. search sizes-put))
+pub take_sizes_spec : {M : Type 1} → statement M
+take_sizes_spec = tie.close (tie.spec (search rules) (search rules) (search rules) (λ c. search lost-here) (search rules) (search rules) (search rules) (λ c. search lost-here) (search rules) (search rules) (search rules) (λ c. search lost-here) (search rules) (search rules) (search rules) (λ c. search sets-long) (λ c. search sizes-put))

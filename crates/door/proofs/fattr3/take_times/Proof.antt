@@ -4,5 +4,5 @@ use Rattle.door.specs.Laws.TakenFattr.{times-put}
 use Rattle.door.proofs.fattr3.take_times.Statement.{statement}
 use Rattle.door.proofs.fattr3.take_times.Tie as tie
 
-pub take-times-spec : {M : Type 1} → statement M
-take-times-spec = tie.close (tie.spec (search rules) (search rules) (search rules) (λ c. search lost-here) (search rules) (search rules) (search rules) (λ c. search lost-here) (search rules) (search rules) (search rules) (λ c. search lost-here) (search rules) (search rules) (search rules) (search rules) (search rules) (search rules) (search rules) (λ c. search sets-long) (λ c. search times-put))
+pub take_times_spec : {M : Type 1} → statement M
+take_times_spec = tie.close (tie.spec (search rules) (search rules) (search rules) (λ c. search lost-here) (search rules) (search rules) (search rules) (λ c. search lost-here) (search rules) (search rules) (search rules) (λ c. search lost-here) (search rules) (search rules) (search rules) (search rules) (search rules) (search rules) (search rules) (λ c. search sets-long) (λ c. search times-put))

@@ -3,5 +3,5 @@ use Rattle.door.specs.Laws.Figures.{past_end}
 use Rattle.door.proofs.figures.figure_at.Statement.{statement}
 use Rattle.door.proofs.figures.figure_at.Tie as tie
 
-pub figure-at-spec : {M : Type 1} → statement M
-figure-at-spec = tie.close (tie.spec (search rules) (search rules) (search rules) (λ c. search (past_end, rules)))
+pub figure_at_spec : {M : Type 1} → statement M
+figure_at_spec = tie.close (tie.spec (search rules) (search rules) (search rules) (λ c. search (past_end, rules)))

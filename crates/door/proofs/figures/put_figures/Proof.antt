@@ -11,8 +11,8 @@ invariant-loop figures zeros info₀ end i₀ info i = Stored figures zeros info
 abbrev decreases-loop : tie.decreases-loop
 decreases-loop figures zeros info₀ end i₀ info i = end - i
 
-pub put-figures-spec : {M : Type 1} → statement M
-put-figures-spec =
+pub put_figures_spec : {M : Type 1} → statement M
+put_figures_spec =
     tie.close
     (tie.spec
     invariant-loop decreases-loop (search rules) (search stored-none) (search rules) (search rules) (λ c. omega arith) (search rules) (λ c. omega arith)

@@ -9,5 +9,5 @@ use Rattle.door.specs.Laws.Span.{bare-read, span-in}
 use Rattle.door.proofs.items.copy_i32.Statement.{statement}
 use Rattle.door.proofs.items.copy_i32.Tie as tie
 
-pub copy-i32-spec : {M : Type 1} → statement M
-copy-i32-spec = tie.close (tie.spec (search rules) (search rules) (search rules) (λ c κs. search (span-in (exactly int) view_i32)) (search rules) (λ c. search (not-read (exactly int) view_i32)) (search rules) (λ c. search (bare-read (exactly int) (no-marks int) view_i32)))
+pub copy_i32_spec : {M : Type 1} → statement M
+copy_i32_spec = tie.close (tie.spec (search rules) (search rules) (search rules) (λ c κs. search (span-in (exactly int) view_i32)) (search rules) (λ c. search (not-read (exactly int) view_i32)) (search rules) (λ c. search (bare-read (exactly int) (no-marks int) view_i32)))

@@ -9,5 +9,5 @@ use Rattle.door.specs.Laws.Span.{bare-read, span-in}
 use Rattle.door.proofs.items.copy_i64.Statement.{statement}
 use Rattle.door.proofs.items.copy_i64.Tie as tie
 
-pub copy-i64-spec : {M : Type 1} → statement M
-copy-i64-spec = tie.close (tie.spec (search rules) (search rules) (search rules) (λ c κs. search (span-in (exactly long) view_i64)) (search rules) (λ c. search (not-read (exactly long) view_i64)) (search rules) (λ c. search (bare-read (exactly long) (no-marks long) view_i64)))
+pub copy_i64_spec : {M : Type 1} → statement M
+copy_i64_spec = tie.close (tie.spec (search rules) (search rules) (search rules) (λ c κs. search (span-in (exactly long) view_i64)) (search rules) (λ c. search (not-read (exactly long) view_i64)) (search rules) (λ c. search (bare-read (exactly long) (no-marks long) view_i64)))

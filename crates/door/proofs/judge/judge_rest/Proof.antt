@@ -4,5 +4,5 @@ use Rattle.door.specs.Laws.Exports.{judge-at}
 use Rattle.door.proofs.judge.judge_rest.Statement.{statement}
 use Rattle.door.proofs.judge.judge_rest.Tie as tie
 
-pub judge-rest-spec : {M : Type 1} → statement M
-judge-rest-spec = tie.close (tie.spec (search rules) (search rules) (search rules) (search rules) (search rules) (search rules) (search rules) (search rules) (search rules) (search rules) (search rules) (search rules) (search rules) (search rules) (search rules) (search rules) (search rules) (search rules) (search rules) (search rules) (search rules) (search rules) (search rules) (search rules) (search rules) (search rules) (λ c. search judge-at) (search rules) (λ c. search judge-at) (search rules) (λ c. search judge-at) (search rules) (λ c. search judge-at) (search rules) (λ c. search judge-at) (search rules) (λ c. search judge-at) (search rules) (λ c. search judge-at) (search rules) (λ c. search judge-at) (search rules) (λ c. search judge-at) (search rules) (λ c. search judge-at) (search rules) (λ c. search judge-at) (search rules) (λ c. search judge-at) (search rules) (λ c. search judge-at) (search rules) (λ c. search judge-at) (search rules) (λ c. search judge-at) (search rules) (λ c. search judge-at) (search rules) (λ c. search judge-at) (search rules) (λ c. search judge-at) (search rules) (λ c. search judge-at) (search rules) (λ c. search judge-at) (search rules) (λ c. search judge-at) (search rules) (λ c. search judge-at) (search rules) (λ c. search judge-at) (search rules) (λ c. search judge-at) (search rules) (λ c. search judge-at))
+pub judge_rest_spec : {M : Type 1} → statement M
+judge_rest_spec = tie.close (tie.spec (search rules) (search rules) (search rules) (search rules) (search rules) (search rules) (search rules) (search rules) (search rules) (search rules) (search rules) (search rules) (search rules) (search rules) (search rules) (search rules) (search rules) (search rules) (search rules) (search rules) (search rules) (search rules) (search rules) (search rules) (search rules) (search rules) (λ c. search judge-at) (search rules) (λ c. search judge-at) (search rules) (λ c. search judge-at) (search rules) (λ c. search judge-at) (search rules) (λ c. search judge-at) (search rules) (λ c. search judge-at) (search rules) (λ c. search judge-at) (search rules) (λ c. search judge-at) (search rules) (λ c. search judge-at) (search rules) (λ c. search judge-at) (search rules) (λ c. search judge-at) (search rules) (λ c. search judge-at) (search rules) (λ c. search judge-at) (search rules) (λ c. search judge-at) (search rules) (λ c. search judge-at) (search rules) (λ c. search judge-at) (search rules) (λ c. search judge-at) (search rules) (λ c. search judge-at) (search rules) (λ c. search judge-at) (search rules) (λ c. search judge-at) (search rules) (λ c. search judge-at) (search rules) (λ c. search judge-at) (search rules) (λ c. search judge-at) (search rules) (λ c. search judge-at) (search rules) (λ c. search judge-at))

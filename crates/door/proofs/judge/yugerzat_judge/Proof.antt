@@ -4,5 +4,5 @@ use Rattle.door.specs.Laws.Exports.{judge-at}
 use Rattle.door.proofs.judge.yugerzat_judge.Statement.{statement}
 use Rattle.door.proofs.judge.yugerzat_judge.Tie as tie
 
-pub yugerzat-judge-spec : {M : Type 1} → statement M
-yugerzat-judge-spec = tie.close (tie.spec (search rules) (search rules) (search rules) (search rules) (search rules) (search rules) (search rules) (search rules) (search rules) (search rules) (search rules) (search rules) (search rules) (search rules) (search rules) (search rules) (search rules) (search rules) (search rules) (search rules) (search rules) (search rules) (search rules) (search rules) (search rules) (search rules) (λ c. search judge-at) (search rules) (λ c. search judge-at) (search rules) (λ c. search judge-at) (search rules) (λ c. search judge-at) (search rules) (λ c. search judge-at) (search rules) (λ c. search judge-at) (search rules) (λ c. search judge-at) (search rules) (λ c. search judge-at) (search rules) (λ c. search judge-at) (search rules) (λ c. search judge-at) (search rules) (λ c. search judge-at) (search rules) (λ c. search judge-at) (search rules) (λ c. search judge-at) (search rules) (λ c. search judge-at) (search rules) (λ c. search judge-at) (search rules) (λ c. search judge-at) (search rules) (λ c. search judge-at) (search rules) (λ c. search judge-at) (search rules) (λ c. search judge-at) (search rules) (λ c. search judge-at) (search rules) (λ c. search judge-at) (search rules) (λ c. search judge-at) (search rules) (λ c. search judge-at) (search rules) (λ c. search judge-at) (search rules) (λ c. search judge-at))
+pub yugerzat_judge_spec : {M : Type 1} → statement M
+yugerzat_judge_spec = tie.close (tie.spec (search rules) (search rules) (search rules) (search rules) (search rules) (search rules) (search rules) (search rules) (search rules) (search rules) (search rules) (search rules) (search rules) (search rules) (search rules) (search rules) (search rules) (search rules) (search rules) (search rules) (search rules) (search rules) (search rules) (search rules) (search rules) (search rules) (λ c. search judge-at) (search rules) (λ c. search judge-at) (search rules) (λ c. search judge-at) (search rules) (λ c. search judge-at) (search rules) (λ c. search judge-at) (search rules) (λ c. search judge-at) (search rules) (λ c. search judge-at) (search rules) (λ c. search judge-at) (search rules) (λ c. search judge-at) (search rules) (λ c. search judge-at) (search rules) (λ c. search judge-at) (search rules) (λ c. search judge-at) (search rules) (λ c. search judge-at) (search rules) (λ c. search judge-at) (search rules) (λ c. search judge-at) (search rules) (λ c. search judge-at) (search rules) (λ c. search judge-at) (search rules) (λ c. search judge-at) (search rules) (λ c. search judge-at) (search rules) (λ c. search judge-at) (search rules) (λ c. search judge-at) (search rules) (λ c. search judge-at) (search rules) (λ c. search judge-at) (search rules) (λ c. search judge-at) (search rules) (λ c. search judge-at))

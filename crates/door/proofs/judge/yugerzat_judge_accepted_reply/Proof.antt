@@ -4,5 +4,5 @@ use Rattle.door.specs.Laws.Exports.{judge-short, judge-told}
 use Rattle.door.proofs.judge.yugerzat_judge_accepted_reply.Statement.{statement}
 use Rattle.door.proofs.judge.yugerzat_judge_accepted_reply.Tie as tie
 
-pub yugerzat-judge-accepted-reply-spec : {M : Type 1} → statement M
-yugerzat-judge-accepted-reply-spec = tie.close (tie.spec (λ c. search (judge-short, rules)) (search rules) (search rules) (search rules) (search rules) (λ c. search (judge-told 24, rules)))
+pub yugerzat_judge_accepted_reply_spec : {M : Type 1} → statement M
+yugerzat_judge_accepted_reply_spec = tie.close (tie.spec (λ c. search (judge-short, rules)) (search rules) (search rules) (search rules) (search rules) (λ c. search (judge-told 24, rules)))

@@ -4,5 +4,5 @@ use Rattle.door.specs.Laws.Exports.{judge-short, judge-told}
 use Rattle.door.proofs.judge.yugerzat_judge_auth_flavor.Statement.{statement}
 use Rattle.door.proofs.judge.yugerzat_judge_auth_flavor.Tie as tie
 
-pub yugerzat-judge-auth-flavor-spec : {M : Type 1} → statement M
-yugerzat-judge-auth-flavor-spec = tie.close (tie.spec (λ c. search (judge-short, rules)) (search rules) (search rules) (search rules) (search rules) (λ c. search (judge-told 14, rules)))
+pub yugerzat_judge_auth_flavor_spec : {M : Type 1} → statement M
+yugerzat_judge_auth_flavor_spec = tie.close (tie.spec (λ c. search (judge-short, rules)) (search rules) (search rules) (search rules) (search rules) (λ c. search (judge-told 14, rules)))

@@ -4,5 +4,5 @@ use Rattle.door.specs.Laws.Exports.{judge-short, judge-told}
 use Rattle.door.proofs.judge.yugerzat_judge_bool.Statement.{statement}
 use Rattle.door.proofs.judge.yugerzat_judge_bool.Tie as tie
 
-pub yugerzat-judge-bool-spec : {M : Type 1} → statement M
-yugerzat-judge-bool-spec = tie.close (tie.spec (λ c. search (judge-short, rules)) (search rules) (search rules) (search rules) (search rules) (λ c. search (judge-told 0, rules)))
+pub yugerzat_judge_bool_spec : {M : Type 1} → statement M
+yugerzat_judge_bool_spec = tie.close (tie.spec (λ c. search (judge-short, rules)) (search rules) (search rules) (search rules) (search rules) (λ c. search (judge-told 0, rules)))

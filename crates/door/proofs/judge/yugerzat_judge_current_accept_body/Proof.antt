@@ -4,5 +4,5 @@ use Rattle.door.specs.Laws.Exports.{judge-short, judge-told}
 use Rattle.door.proofs.judge.yugerzat_judge_current_accept_body.Statement.{statement}
 use Rattle.door.proofs.judge.yugerzat_judge_current_accept_body.Tie as tie
 
-pub yugerzat-judge-current-accept-body-spec : {M : Type 1} → statement M
-yugerzat-judge-current-accept-body-spec = tie.close (tie.spec (λ c. search (judge-short, rules)) (search rules) (search rules) (search rules) (search rules) (λ c. search (judge-told 61, rules)))
+pub yugerzat_judge_current_accept_body_spec : {M : Type 1} → statement M
+yugerzat_judge_current_accept_body_spec = tie.close (tie.spec (λ c. search (judge-short, rules)) (search rules) (search rules) (search rules) (search rules) (λ c. search (judge-told 61, rules)))

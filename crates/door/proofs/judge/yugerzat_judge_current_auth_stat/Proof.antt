@@ -4,5 +4,5 @@ use Rattle.door.specs.Laws.Exports.{judge-short, judge-told}
 use Rattle.door.proofs.judge.yugerzat_judge_current_auth_stat.Statement.{statement}
 use Rattle.door.proofs.judge.yugerzat_judge_current_auth_stat.Tie as tie
 
-pub yugerzat-judge-current-auth-stat-spec : {M : Type 1} → statement M
-yugerzat-judge-current-auth-stat-spec = tie.close (tie.spec (λ c. search (judge-short, rules)) (search rules) (search rules) (search rules) (search rules) (λ c. search (judge-told 60, rules)))
+pub yugerzat_judge_current_auth_stat_spec : {M : Type 1} → statement M
+yugerzat_judge_current_auth_stat_spec = tie.close (tie.spec (λ c. search (judge-short, rules)) (search rules) (search rules) (search rules) (search rules) (λ c. search (judge-told 60, rules)))

@@ -4,5 +4,5 @@ use Rattle.door.specs.Laws.Exports.{judge-short, judge-told}
 use Rattle.door.proofs.judge.yugerzat_judge_current_rejected_reply.Statement.{statement}
 use Rattle.door.proofs.judge.yugerzat_judge_current_rejected_reply.Tie as tie
 
-pub yugerzat-judge-current-rejected-reply-spec : {M : Type 1} → statement M
-yugerzat-judge-current-rejected-reply-spec = tie.close (tie.spec (λ c. search (judge-short, rules)) (search rules) (search rules) (search rules) (search rules) (λ c. search (judge-told 63, rules)))
+pub yugerzat_judge_current_rejected_reply_spec : {M : Type 1} → statement M
+yugerzat_judge_current_rejected_reply_spec = tie.close (tie.spec (λ c. search (judge-short, rules)) (search rules) (search rules) (search rules) (search rules) (λ c. search (judge-told 63, rules)))

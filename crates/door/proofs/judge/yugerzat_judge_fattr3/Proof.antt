@@ -4,5 +4,5 @@ use Rattle.door.specs.Laws.Exports.{judge-short, judge-told}
 use Rattle.door.proofs.judge.yugerzat_judge_fattr3.Statement.{statement}
 use Rattle.door.proofs.judge.yugerzat_judge_fattr3.Tie as tie
 
-pub yugerzat-judge-fattr3-spec : {M : Type 1} → statement M
-yugerzat-judge-fattr3-spec = tie.close (tie.spec (λ c. search (judge-short, rules)) (search rules) (search rules) (search rules) (search rules) (λ c. search (judge-told 31, rules)))
+pub yugerzat_judge_fattr3_spec : {M : Type 1} → statement M
+yugerzat_judge_fattr3_spec = tie.close (tie.spec (λ c. search (judge-short, rules)) (search rules) (search rules) (search rules) (search rules) (λ c. search (judge-told 31, rules)))

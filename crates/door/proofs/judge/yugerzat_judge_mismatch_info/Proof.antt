@@ -4,5 +4,5 @@ use Rattle.door.specs.Laws.Exports.{judge-short, judge-told}
 use Rattle.door.proofs.judge.yugerzat_judge_mismatch_info.Statement.{statement}
 use Rattle.door.proofs.judge.yugerzat_judge_mismatch_info.Tie as tie
 
-pub yugerzat-judge-mismatch-info-spec : {M : Type 1} → statement M
-yugerzat-judge-mismatch-info-spec = tie.close (tie.spec (λ c. search (judge-short, rules)) (search rules) (search rules) (search rules) (search rules) (λ c. search (judge-told 27, rules)))
+pub yugerzat_judge_mismatch_info_spec : {M : Type 1} → statement M
+yugerzat_judge_mismatch_info_spec = tie.close (tie.spec (λ c. search (judge-short, rules)) (search rules) (search rules) (search rules) (search rules) (λ c. search (judge-told 27, rules)))

@@ -4,5 +4,5 @@ use Rattle.door.specs.Laws.Exports.{judge-short, judge-told}
 use Rattle.door.proofs.judge.yugerzat_judge_msg_type.Statement.{statement}
 use Rattle.door.proofs.judge.yugerzat_judge_msg_type.Tie as tie
 
-pub yugerzat-judge-msg-type-spec : {M : Type 1} → statement M
-yugerzat-judge-msg-type-spec = tie.close (tie.spec (λ c. search (judge-short, rules)) (search rules) (search rules) (search rules) (search rules) (λ c. search (judge-told 9, rules)))
+pub yugerzat_judge_msg_type_spec : {M : Type 1} → statement M
+yugerzat_judge_msg_type_spec = tie.close (tie.spec (λ c. search (judge-short, rules)) (search rules) (search rules) (search rules) (search rules) (λ c. search (judge-told 9, rules)))

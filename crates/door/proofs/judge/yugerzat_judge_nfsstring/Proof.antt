@@ -4,5 +4,5 @@ use Rattle.door.specs.Laws.Exports.{judge-short, judge-told}
 use Rattle.door.proofs.judge.yugerzat_judge_nfsstring.Statement.{statement}
 use Rattle.door.proofs.judge.yugerzat_judge_nfsstring.Tie as tie
 
-pub yugerzat-judge-nfsstring-spec : {M : Type 1} → statement M
-yugerzat-judge-nfsstring-spec = tie.close (tie.spec (λ c. search (judge-short, rules)) (search rules) (search rules) (search rules) (search rules) (λ c. search (judge-told 7, rules)))
+pub yugerzat_judge_nfsstring_spec : {M : Type 1} → statement M
+yugerzat_judge_nfsstring_spec = tie.close (tie.spec (λ c. search (judge-short, rules)) (search rules) (search rules) (search rules) (search rules) (λ c. search (judge-told 7, rules)))

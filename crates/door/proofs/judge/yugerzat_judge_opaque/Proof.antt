@@ -4,5 +4,5 @@ use Rattle.door.specs.Laws.Exports.{judge-short, judge-told}
 use Rattle.door.proofs.judge.yugerzat_judge_opaque.Statement.{statement}
 use Rattle.door.proofs.judge.yugerzat_judge_opaque.Tie as tie
 
-pub yugerzat-judge-opaque-spec : {M : Type 1} → statement M
-yugerzat-judge-opaque-spec = tie.close (tie.spec (λ c. search (judge-short, rules)) (search rules) (search rules) (search rules) (search rules) (λ c. search (judge-told 6, rules)))
+pub yugerzat_judge_opaque_spec : {M : Type 1} → statement M
+yugerzat_judge_opaque_spec = tie.close (tie.spec (λ c. search (judge-short, rules)) (search rules) (search rules) (search rules) (search rules) (λ c. search (judge-told 6, rules)))

@@ -4,5 +4,5 @@ use Rattle.door.specs.Laws.Exports.{judge-short, judge-told}
 use Rattle.door.proofs.judge.yugerzat_judge_opaque_auth.Statement.{statement}
 use Rattle.door.proofs.judge.yugerzat_judge_opaque_auth.Tie as tie
 
-pub yugerzat-judge-opaque-auth-spec : {M : Type 1} → statement M
-yugerzat-judge-opaque-auth-spec = tie.close (tie.spec (λ c. search (judge-short, rules)) (search rules) (search rules) (search rules) (search rules) (λ c. search (judge-told 19, rules)))
+pub yugerzat_judge_opaque_auth_spec : {M : Type 1} → statement M
+yugerzat_judge_opaque_auth_spec = tie.close (tie.spec (λ c. search (judge-short, rules)) (search rules) (search rules) (search rules) (search rules) (λ c. search (judge-told 19, rules)))

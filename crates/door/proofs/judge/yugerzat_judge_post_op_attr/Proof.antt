@@ -4,5 +4,5 @@ use Rattle.door.specs.Laws.Exports.{judge-short, judge-told}
 use Rattle.door.proofs.judge.yugerzat_judge_post_op_attr.Statement.{statement}
 use Rattle.door.proofs.judge.yugerzat_judge_post_op_attr.Tie as tie
 
-pub yugerzat-judge-post-op-attr-spec : {M : Type 1} → statement M
-yugerzat-judge-post-op-attr-spec = tie.close (tie.spec (λ c. search (judge-short, rules)) (search rules) (search rules) (search rules) (search rules) (λ c. search (judge-told 35, rules)))
+pub yugerzat_judge_post_op_attr_spec : {M : Type 1} → statement M
+yugerzat_judge_post_op_attr_spec = tie.close (tie.spec (λ c. search (judge-short, rules)) (search rules) (search rules) (search rules) (search rules) (λ c. search (judge-told 35, rules)))

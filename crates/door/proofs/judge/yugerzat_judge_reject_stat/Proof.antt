@@ -4,5 +4,5 @@ use Rattle.door.specs.Laws.Exports.{judge-short, judge-told}
 use Rattle.door.proofs.judge.yugerzat_judge_reject_stat.Statement.{statement}
 use Rattle.door.proofs.judge.yugerzat_judge_reject_stat.Tie as tie
 
-pub yugerzat-judge-reject-stat-spec : {M : Type 1} → statement M
-yugerzat-judge-reject-stat-spec = tie.close (tie.spec (λ c. search (judge-short, rules)) (search rules) (search rules) (search rules) (search rules) (λ c. search (judge-told 12, rules)))
+pub yugerzat_judge_reject_stat_spec : {M : Type 1} → statement M
+yugerzat_judge_reject_stat_spec = tie.close (tie.spec (λ c. search (judge-short, rules)) (search rules) (search rules) (search rules) (search rules) (λ c. search (judge-told 12, rules)))

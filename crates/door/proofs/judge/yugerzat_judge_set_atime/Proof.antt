@@ -4,5 +4,5 @@ use Rattle.door.specs.Laws.Exports.{judge-short, judge-told}
 use Rattle.door.proofs.judge.yugerzat_judge_set_atime.Statement.{statement}
 use Rattle.door.proofs.judge.yugerzat_judge_set_atime.Tie as tie
 
-pub yugerzat-judge-set-atime-spec : {M : Type 1} → statement M
-yugerzat-judge-set-atime-spec = tie.close (tie.spec (λ c. search (judge-short, rules)) (search rules) (search rules) (search rules) (search rules) (λ c. search (judge-told 42, rules)))
+pub yugerzat_judge_set_atime_spec : {M : Type 1} → statement M
+yugerzat_judge_set_atime_spec = tie.close (tie.spec (λ c. search (judge-short, rules)) (search rules) (search rules) (search rules) (search rules) (λ c. search (judge-told 42, rules)))

@@ -4,5 +4,5 @@ use Rattle.door.specs.Laws.Exports.{judge-short, judge-told}
 use Rattle.door.proofs.judge.yugerzat_judge_setattr3args.Statement.{statement}
 use Rattle.door.proofs.judge.yugerzat_judge_setattr3args.Tie as tie
 
-pub yugerzat-judge-setattr3args-spec : {M : Type 1} → statement M
-yugerzat-judge-setattr3args-spec = tie.close (tie.spec (λ c. search (judge-short, rules)) (search rules) (search rules) (search rules) (search rules) (λ c. search (judge-told 51, rules)))
+pub yugerzat_judge_setattr3args_spec : {M : Type 1} → statement M
+yugerzat_judge_setattr3args_spec = tie.close (tie.spec (λ c. search (judge-short, rules)) (search rules) (search rules) (search rules) (search rules) (λ c. search (judge-told 51, rules)))

@@ -4,5 +4,5 @@ use Rattle.door.specs.Laws.Exports.{judge-short, judge-told}
 use Rattle.door.proofs.judge.yugerzat_judge_stable_how.Statement.{statement}
 use Rattle.door.proofs.judge.yugerzat_judge_stable_how.Tie as tie
 
-pub yugerzat-judge-stable-how-spec : {M : Type 1} → statement M
-yugerzat-judge-stable-how-spec = tie.close (tie.spec (λ c. search (judge-short, rules)) (search rules) (search rules) (search rules) (search rules) (λ c. search (judge-told 47, rules)))
+pub yugerzat_judge_stable_how_spec : {M : Type 1} → statement M
+yugerzat_judge_stable_how_spec = tie.close (tie.spec (λ c. search (judge-short, rules)) (search rules) (search rules) (search rules) (search rules) (λ c. search (judge-told 47, rules)))

@@ -4,5 +4,5 @@ use Rattle.door.specs.Laws.Exports.{judge-short, judge-told}
 use Rattle.door.proofs.judge.yugerzat_judge_wcc_data.Statement.{statement}
 use Rattle.door.proofs.judge.yugerzat_judge_wcc_data.Tie as tie
 
-pub yugerzat-judge-wcc-data-spec : {M : Type 1} → statement M
-yugerzat-judge-wcc-data-spec = tie.close (tie.spec (λ c. search (judge-short, rules)) (search rules) (search rules) (search rules) (search rules) (λ c. search (judge-told 36, rules)))
+pub yugerzat_judge_wcc_data_spec : {M : Type 1} → statement M
+yugerzat_judge_wcc_data_spec = tie.close (tie.spec (λ c. search (judge-short, rules)) (search rules) (search rules) (search rules) (search rules) (λ c. search (judge-told 36, rules)))

@@ -4,5 +4,5 @@ use Rattle.door.specs.Laws.Exports.{judge-short, judge-told}
 use Rattle.door.proofs.judge.yugerzat_judge_write3res.Statement.{statement}
 use Rattle.door.proofs.judge.yugerzat_judge_write3res.Tie as tie
 
-pub yugerzat-judge-write3res-spec : {M : Type 1} → statement M
-yugerzat-judge-write3res-spec = tie.close (tie.spec (λ c. search (judge-short, rules)) (search rules) (search rules) (search rules) (search rules) (λ c. search (judge-told 58, rules)))
+pub yugerzat_judge_write3res_spec : {M : Type 1} → statement M
+yugerzat_judge_write3res_spec = tie.close (tie.spec (λ c. search (judge-short, rules)) (search rules) (search rules) (search rules) (search rules) (λ c. search (judge-told 58, rules)))

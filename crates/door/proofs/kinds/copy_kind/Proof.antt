@@ -32,8 +32,8 @@ returns-7 c = kind-amid (item_kinds ++ closed_kinds ++ message_kinds ++ attribut
 returns-8 : tie.Need-returns-8
 returns-8 c = kind-last (item_kinds ++ closed_kinds ++ message_kinds ++ attribute_kinds ++ change_kinds ++ procedure_kinds ++ current_kinds) mount_kinds _ 67 c.before.before.copy-mount.ensures (omega arith) refl
 
-pub copy-kind-spec : {M : Type 1} → statement M
-copy-kind-spec =
+pub copy_kind_spec : {M : Type 1} → statement M
+copy_kind_spec =
     tie.close
     (tie.spec
     (search rules) (search rules) returns (search rules) (search rules) returns-2 (search rules) (search rules) returns-3 (search rules) (search rules) returns-4 (search rules) (search rules) returns-5 (search rules) (search rules) returns-6 (search rules) (search rules) returns-7 (search rules) (search rules) returns-8)

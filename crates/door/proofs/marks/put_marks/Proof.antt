@@ -3,5 +3,5 @@ use Rattle.door.specs.Laws.Marks.{marks-none, marks-one, marks-two}
 use Rattle.door.proofs.marks.put_marks.Statement.{statement}
 use Rattle.door.proofs.marks.put_marks.Tie as tie
 
-pub put-marks-spec : {M : Type 1} → statement M
-put-marks-spec = tie.close (tie.spec (search rules) (search rules) (search rules) (search rules) (search rules) (search rules) (search rules) (search rules) (search rules) (search rules) (search rules) (search rules) (search rules) (search rules) (search rules) (λ c. search marks-none) (search rules) (λ c. search marks-one) (search rules) (λ c. search marks-two))
+pub put_marks_spec : {M : Type 1} → statement M
+put_marks_spec = tie.close (tie.spec (search rules) (search rules) (search rules) (search rules) (search rules) (search rules) (search rules) (search rules) (search rules) (search rules) (search rules) (search rules) (search rules) (search rules) (search rules) (λ c. search marks-none) (search rules) (λ c. search marks-one) (search rules) (λ c. search marks-two))

@@ -9,5 +9,5 @@ use Rattle.door.specs.Laws.Span.{bare-read, span-in}
 use Rattle.door.proofs.messages.copy_current_accept_body.Statement.{statement}
 use Rattle.door.proofs.messages.copy_current_accept_body.Tie as tie
 
-pub copy-current-accept-body-spec : {M : Type 1} → statement M
-copy-current-accept-body-spec = tie.close (tie.spec (search rules) (search rules) (search rules) (λ c κs. search (span-in (exactly current_accept_body) view_current_accept_body)) (search rules) (search rules) (λ c. search (bare-read (exactly current_accept_body) (no-marks current_accept_body) view_current_accept_body)) (search rules) (search rules) (λ c. search (not-read (exactly current_accept_body) view_current_accept_body)) (search rules) (λ c. search (plain-read current_accept_body view_current_accept_body)))
+pub copy_current_accept_body_spec : {M : Type 1} → statement M
+copy_current_accept_body_spec = tie.close (tie.spec (search rules) (search rules) (search rules) (λ c κs. search (span-in (exactly current_accept_body) view_current_accept_body)) (search rules) (search rules) (λ c. search (bare-read (exactly current_accept_body) (no-marks current_accept_body) view_current_accept_body)) (search rules) (search rules) (λ c. search (not-read (exactly current_accept_body) view_current_accept_body)) (search rules) (λ c. search (plain-read current_accept_body view_current_accept_body)))

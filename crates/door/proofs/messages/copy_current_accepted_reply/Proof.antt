@@ -7,5 +7,5 @@ use Rattle.door.specs.Laws.Span.{span-in, span-read}
 use Rattle.door.proofs.messages.copy_current_accepted_reply.Statement.{statement}
 use Rattle.door.proofs.messages.copy_current_accepted_reply.Tie as tie
 
-pub copy-current-accepted-reply-spec : {M : Type 1} → statement M
-copy-current-accepted-reply-spec = tie.close (tie.spec (search rules) (search rules) (search rules) (search rules) (λ c κs. search (span-in current_accepted_reply view_current_accepted_reply)) (search rules) (search rules) (λ c. search (span-read current_accepted_reply view_current_accepted_reply)) (search rules) (search rules) (search rules) (λ c. search (not-read current_accepted_reply view_current_accepted_reply)) (search rules) (λ c. search (was_read current_accepted_reply view_current_accepted_reply)))
+pub copy_current_accepted_reply_spec : {M : Type 1} → statement M
+copy_current_accepted_reply_spec = tie.close (tie.spec (search rules) (search rules) (search rules) (search rules) (λ c κs. search (span-in current_accepted_reply view_current_accepted_reply)) (search rules) (search rules) (λ c. search (span-read current_accepted_reply view_current_accepted_reply)) (search rules) (search rules) (search rules) (λ c. search (not-read current_accepted_reply view_current_accepted_reply)) (search rules) (λ c. search (was_read current_accepted_reply view_current_accepted_reply)))

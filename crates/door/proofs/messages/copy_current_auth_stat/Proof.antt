@@ -9,5 +9,5 @@ use Rattle.door.specs.Laws.Span.{bare-read, span-in}
 use Rattle.door.proofs.messages.copy_current_auth_stat.Statement.{statement}
 use Rattle.door.proofs.messages.copy_current_auth_stat.Tie as tie
 
-pub copy-current-auth-stat-spec : {M : Type 1} → statement M
-copy-current-auth-stat-spec = tie.close (tie.spec (search rules) (search rules) (search rules) (λ c κs. search (span-in (exactly current_auth_stat) view_current_auth_stat)) (search rules) (λ c. search (not-read (exactly current_auth_stat) view_current_auth_stat)) (search rules) (λ c. search (bare-read (exactly current_auth_stat) (no-marks current_auth_stat) view_current_auth_stat)))
+pub copy_current_auth_stat_spec : {M : Type 1} → statement M
+copy_current_auth_stat_spec = tie.close (tie.spec (search rules) (search rules) (search rules) (λ c κs. search (span-in (exactly current_auth_stat) view_current_auth_stat)) (search rules) (λ c. search (not-read (exactly current_auth_stat) view_current_auth_stat)) (search rules) (λ c. search (bare-read (exactly current_auth_stat) (no-marks current_auth_stat) view_current_auth_stat)))

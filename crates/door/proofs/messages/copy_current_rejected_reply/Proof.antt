@@ -9,5 +9,5 @@ use Rattle.door.specs.Laws.Span.{bare-read, span-in}
 use Rattle.door.proofs.messages.copy_current_rejected_reply.Statement.{statement}
 use Rattle.door.proofs.messages.copy_current_rejected_reply.Tie as tie
 
-pub copy-current-rejected-reply-spec : {M : Type 1} → statement M
-copy-current-rejected-reply-spec = tie.close (tie.spec (search rules) (search rules) (search rules) (λ c κs. search (span-in (exactly current_rejected_reply) view_current_rejected_reply)) (search rules) (search rules) (λ c. search (bare-read (exactly current_rejected_reply) (no-marks current_rejected_reply) view_current_rejected_reply)) (search rules) (search rules) (λ c. search (not-read (exactly current_rejected_reply) view_current_rejected_reply)) (search rules) (λ c. search (plain-read current_rejected_reply view_current_rejected_reply)))
+pub copy_current_rejected_reply_spec : {M : Type 1} → statement M
+copy_current_rejected_reply_spec = tie.close (tie.spec (search rules) (search rules) (search rules) (λ c κs. search (span-in (exactly current_rejected_reply) view_current_rejected_reply)) (search rules) (search rules) (λ c. search (bare-read (exactly current_rejected_reply) (no-marks current_rejected_reply) view_current_rejected_reply)) (search rules) (search rules) (λ c. search (not-read (exactly current_rejected_reply) view_current_rejected_reply)) (search rules) (λ c. search (plain-read current_rejected_reply view_current_rejected_reply)))

@@ -3,8 +3,8 @@ use Rattle.door.specs.Laws.Figures.{listed}
 use Rattle.door.proofs.mounting.put_list.Statement.{statement}
 use Rattle.door.proofs.mounting.put_list.Tie as tie
 
-pub put-list-spec : {M : Type 1} → statement M
-put-list-spec =
+pub put_list_spec : {M : Type 1} → statement M
+put_list_spec =
     tie.close
     (tie.spec
     (search rules) (search rules) (search rules) (search rules) (λ c. search listed))

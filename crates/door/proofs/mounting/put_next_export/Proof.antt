@@ -5,8 +5,8 @@ use Rattle.door.specs.Laws.Mounting.{shown-value}
 use Rattle.door.proofs.mounting.put_next_export.Statement.{statement}
 use Rattle.door.proofs.mounting.put_next_export.Tie as tie
 
-pub put-next-export-spec : {M : Type 1} → statement M
-put-next-export-spec =
+pub put_next_export_spec : {M : Type 1} → statement M
+put_next_export_spec =
     tie.close
     (tie.spec
     (search rules) (search rules) (search rules) (search rules) (search rules) (search rules) (search rules) (search rules) (search rules) (λ c. search (shown-value next_export_figures, listed)) (search rules) (λ c. search (shown-value next_export_figures, listed)))

@@ -5,8 +5,8 @@ use Rattle.door.specs.Laws.Mounting.{shown-value}
 use Rattle.door.proofs.mounting.put_next_group.Statement.{statement}
 use Rattle.door.proofs.mounting.put_next_group.Tie as tie
 
-pub put-next-group-spec : {M : Type 1} → statement M
-put-next-group-spec =
+pub put_next_group_spec : {M : Type 1} → statement M
+put_next_group_spec =
     tie.close
     (tie.spec
     (search rules) (search rules) (search rules) (search rules) (search rules) (search rules) (search rules) (search rules) (search rules) (λ c. search (shown-value next_group_figures, listed)) (search rules) (λ c. search (shown-value next_group_figures, listed)))

@@ -4,8 +4,8 @@ use Rattle.rpcwire.specs.Meaning.Views.{view_caller}
 use Rattle.door.proofs.mounting.tell_turn.Statement.{statement}
 use Rattle.door.proofs.mounting.tell_turn.Tie as tie
 
-pub tell-turn-spec : {M : Type 1} → statement M
-tell-turn-spec =
+pub tell_turn_spec : {M : Type 1} → statement M
+tell_turn_spec =
     tie.close
     (tie.spec
     (search rules) (search rules) (search rules) (search rules) (search rules) (search rules) (search rules) (search rules) (search rules) (search rules) (λ c. search (shows-case view_caller)) (search rules) (λ c. search (shows-case view_caller)))

@@ -4,8 +4,8 @@ use Rattle.door.specs.Laws.Values.{value-short, value-told}
 use Rattle.door.proofs.mounting.yugerzat_next_export.Statement.{statement}
 use Rattle.door.proofs.mounting.yugerzat_next_export.Tie as tie
 
-pub yugerzat-next-export-spec : {M : Type 1} → statement M
-yugerzat-next-export-spec =
+pub yugerzat_next_export_spec : {M : Type 1} → statement M
+yugerzat_next_export_spec =
     tie.close
     (tie.spec
     (λ c. search (value-short view_next_export, rules)) (search rules) (search rules) (search rules) (search rules) (search rules) (search rules)

@@ -4,8 +4,8 @@ use Rattle.door.specs.Laws.Values.{value-short, value-told}
 use Rattle.door.proofs.mounting.yugerzat_next_group.Statement.{statement}
 use Rattle.door.proofs.mounting.yugerzat_next_group.Tie as tie
 
-pub yugerzat-next-group-spec : {M : Type 1} → statement M
-yugerzat-next-group-spec =
+pub yugerzat_next_group_spec : {M : Type 1} → statement M
+yugerzat_next_group_spec =
     tie.close
     (tie.spec
     (λ c. search (value-short view_next_group, rules)) (search rules) (search rules) (search rules) (search rules) (search rules) (search rules)

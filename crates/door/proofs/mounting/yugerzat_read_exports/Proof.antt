@@ -4,8 +4,8 @@ use Rattle.door.specs.Laws.Values.{value-short, value-told}
 use Rattle.door.proofs.mounting.yugerzat_read_exports.Statement.{statement}
 use Rattle.door.proofs.mounting.yugerzat_read_exports.Tie as tie
 
-pub yugerzat-read-exports-spec : {M : Type 1} → statement M
-yugerzat-read-exports-spec =
+pub yugerzat_read_exports_spec : {M : Type 1} → statement M
+yugerzat_read_exports_spec =
     tie.close
     (tie.spec
     (λ c. search (value-short view_piece, rules)) (search rules) (search rules) (search rules) (search rules) (search rules) (search rules)

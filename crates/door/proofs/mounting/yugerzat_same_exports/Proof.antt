@@ -3,7 +3,7 @@ use Rattle.door.specs.Laws.Mounting.{same-short, same-told}
 use Rattle.door.proofs.mounting.yugerzat_same_exports.Statement.{statement}
 use Rattle.door.proofs.mounting.yugerzat_same_exports.Tie as tie
 
-pub yugerzat-same-exports-spec : {M : Type 1} → statement M
-yugerzat-same-exports-spec =
+pub yugerzat_same_exports_spec : {M : Type 1} → statement M
+yugerzat_same_exports_spec =
     tie.close
     (tie.spec (λ c. search (same-short, rules)) (search rules) (search rules) (search rules) (λ c. search (same-told, rules)))

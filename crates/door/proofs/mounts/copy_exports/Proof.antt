@@ -9,5 +9,5 @@ use Rattle.door.specs.Laws.Span.{span-in, span-read}
 use Rattle.door.proofs.mounts.copy_exports.Statement.{statement}
 use Rattle.door.proofs.mounts.copy_exports.Tie as tie
 
-pub copy-exports-spec : {M : Type 1} → statement M
-copy-exports-spec = tie.close (tie.spec (search rules) (search rules) (search rules) (search rules) (λ c κs. search (span-in exports view_piece)) (search rules) (search rules) (λ c. search (span-read exports view_piece, exports-marks)) (search rules) (search rules) (search rules) (λ c. search (not-read exports view_piece)) (search rules) (λ c. search (bounded-read exports-bounded view_piece, exports-marks)))
+pub copy_exports_spec : {M : Type 1} → statement M
+copy_exports_spec = tie.close (tie.spec (search rules) (search rules) (search rules) (search rules) (λ c κs. search (span-in exports view_piece)) (search rules) (search rules) (λ c. search (span-read exports view_piece, exports-marks)) (search rules) (search rules) (search rules) (λ c. search (not-read exports view_piece)) (search rules) (λ c. search (bounded-read exports-bounded view_piece, exports-marks)))

@@ -9,5 +9,5 @@ use Rattle.door.specs.Laws.Span.{bare-read, span-in}
 use Rattle.door.proofs.mounts.copy_mapping.Statement.{statement}
 use Rattle.door.proofs.mounts.copy_mapping.Tie as tie
 
-pub copy-mapping-spec : {M : Type 1} → statement M
-copy-mapping-spec = tie.close (tie.spec (search rules) (search rules) (search rules) (λ c κs. search (span-in (exactly port_mapping) view_mapping)) (search rules) (λ c. search (not-read (exactly port_mapping) view_mapping)) (search rules) (λ c. search (bare-read (exactly port_mapping) (no-marks port_mapping) view_mapping)))
+pub copy_mapping_spec : {M : Type 1} → statement M
+copy_mapping_spec = tie.close (tie.spec (search rules) (search rules) (search rules) (λ c κs. search (span-in (exactly port_mapping) view_mapping)) (search rules) (λ c. search (not-read (exactly port_mapping) view_mapping)) (search rules) (λ c. search (bare-read (exactly port_mapping) (no-marks port_mapping) view_mapping)))

@@ -9,5 +9,5 @@ use Rattle.door.specs.Laws.Span.{bare-read, span-in}
 use Rattle.door.proofs.mounts.copy_mountstat3.Statement.{statement}
 use Rattle.door.proofs.mounts.copy_mountstat3.Tie as tie
 
-pub copy-mountstat3-spec : {M : Type 1} → statement M
-copy-mountstat3-spec = tie.close (tie.spec (search rules) (search rules) (search rules) (λ c κs. search (span-in (exactly mountstat) view_mountstat3)) (search rules) (λ c. search (not-read (exactly mountstat) view_mountstat3)) (search rules) (λ c. search (bare-read (exactly mountstat) (no-marks mountstat) view_mountstat3)))
+pub copy_mountstat3_spec : {M : Type 1} → statement M
+copy_mountstat3_spec = tie.close (tie.spec (search rules) (search rules) (search rules) (λ c κs. search (span-in (exactly mountstat) view_mountstat3)) (search rules) (λ c. search (not-read (exactly mountstat) view_mountstat3)) (search rules) (λ c. search (bare-read (exactly mountstat) (no-marks mountstat) view_mountstat3)))

@@ -7,5 +7,5 @@ use Rattle.door.specs.Laws.Span.{span-in, span-read}
 use Rattle.door.proofs.procedures.copy_getattr3res.Statement.{statement}
 use Rattle.door.proofs.procedures.copy_getattr3res.Tie as tie
 
-pub copy-getattr3res-spec : {M : Type 1} → statement M
-copy-getattr3res-spec = tie.close (tie.spec (search rules) (search rules) (search rules) (search rules) (λ c κs. search (span-in getattr_res view_getattr3res)) (search rules) (λ c. search (not-read getattr_res view_getattr3res)) (search rules) (λ c. search (span-read getattr_res view_getattr3res)))
+pub copy_getattr3res_spec : {M : Type 1} → statement M
+copy_getattr3res_spec = tie.close (tie.spec (search rules) (search rules) (search rules) (search rules) (λ c κs. search (span-in getattr_res view_getattr3res)) (search rules) (λ c. search (not-read getattr_res view_getattr3res)) (search rules) (λ c. search (span-read getattr_res view_getattr3res)))

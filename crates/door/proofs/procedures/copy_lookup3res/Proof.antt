@@ -7,5 +7,5 @@ use Rattle.door.specs.Laws.Span.{span-in, span-read}
 use Rattle.door.proofs.procedures.copy_lookup3res.Statement.{statement}
 use Rattle.door.proofs.procedures.copy_lookup3res.Tie as tie
 
-pub copy-lookup3res-spec : {M : Type 1} → statement M
-copy-lookup3res-spec = tie.close (tie.spec (search rules) (search rules) (search rules) (search rules) (λ c κs. search (span-in lookup_res view_lookup3res)) (search rules) (search rules) (λ c. search (span-read lookup_res view_lookup3res)) (search rules) (search rules) (search rules) (λ c. search (not-read lookup_res view_lookup3res)) (search rules) (λ c. search (was_read lookup_res view_lookup3res)))
+pub copy_lookup3res_spec : {M : Type 1} → statement M
+copy_lookup3res_spec = tie.close (tie.spec (search rules) (search rules) (search rules) (search rules) (λ c κs. search (span-in lookup_res view_lookup3res)) (search rules) (search rules) (λ c. search (span-read lookup_res view_lookup3res)) (search rules) (search rules) (search rules) (λ c. search (not-read lookup_res view_lookup3res)) (search rules) (λ c. search (was_read lookup_res view_lookup3res)))

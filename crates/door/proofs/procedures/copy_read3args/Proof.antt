@@ -7,5 +7,5 @@ use Rattle.door.specs.Laws.Span.{span-in, span-read}
 use Rattle.door.proofs.procedures.copy_read3args.Statement.{statement}
 use Rattle.door.proofs.procedures.copy_read3args.Tie as tie
 
-pub copy-read3args-spec : {M : Type 1} → statement M
-copy-read3args-spec = tie.close (tie.spec (search rules) (search rules) (search rules) (search rules) (λ c κs. search (span-in read_args view_read3args)) (search rules) (search rules) (λ c. search (span-read read_args view_read3args)) (search rules) (search rules) (search rules) (λ c. search (not-read read_args view_read3args)) (search rules) (λ c. search (was_read read_args view_read3args)))
+pub copy_read3args_spec : {M : Type 1} → statement M
+copy_read3args_spec = tie.close (tie.spec (search rules) (search rules) (search rules) (search rules) (λ c κs. search (span-in read_args view_read3args)) (search rules) (search rules) (λ c. search (span-read read_args view_read3args)) (search rules) (search rules) (search rules) (λ c. search (not-read read_args view_read3args)) (search rules) (λ c. search (was_read read_args view_read3args)))

@@ -7,5 +7,5 @@ use Rattle.door.specs.Laws.Span.{span-in, span-read}
 use Rattle.door.proofs.procedures.copy_read3res.Statement.{statement}
 use Rattle.door.proofs.procedures.copy_read3res.Tie as tie
 
-pub copy-read3res-spec : {M : Type 1} → statement M
-copy-read3res-spec = tie.close (tie.spec (search rules) (search rules) (search rules) (search rules) (λ c κs. search (span-in read_res view_read3res)) (search rules) (search rules) (λ c. search (span-read read_res view_read3res)) (search rules) (search rules) (search rules) (λ c. search (not-read read_res view_read3res)) (search rules) (λ c. search (was_read read_res view_read3res)))
+pub copy_read3res_spec : {M : Type 1} → statement M
+copy_read3res_spec = tie.close (tie.spec (search rules) (search rules) (search rules) (search rules) (λ c κs. search (span-in read_res view_read3res)) (search rules) (search rules) (λ c. search (span-read read_res view_read3res)) (search rules) (search rules) (search rules) (λ c. search (not-read read_res view_read3res)) (search rules) (λ c. search (was_read read_res view_read3res)))

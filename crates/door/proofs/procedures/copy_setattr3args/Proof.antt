@@ -7,5 +7,5 @@ use Rattle.door.specs.Laws.Span.{span-in, span-read}
 use Rattle.door.proofs.procedures.copy_setattr3args.Statement.{statement}
 use Rattle.door.proofs.procedures.copy_setattr3args.Tie as tie
 
-pub copy-setattr3args-spec : {M : Type 1} → statement M
-copy-setattr3args-spec = tie.close (tie.spec (search rules) (search rules) (search rules) (search rules) (λ c κs. search (span-in setattr_args view_setattr3args)) (search rules) (search rules) (λ c. search (span-read setattr_args view_setattr3args)) (search rules) (search rules) (search rules) (λ c. search (not-read setattr_args view_setattr3args)) (search rules) (λ c. search (was_read setattr_args view_setattr3args)))
+pub copy_setattr3args_spec : {M : Type 1} → statement M
+copy_setattr3args_spec = tie.close (tie.spec (search rules) (search rules) (search rules) (search rules) (λ c κs. search (span-in setattr_args view_setattr3args)) (search rules) (search rules) (λ c. search (span-read setattr_args view_setattr3args)) (search rules) (search rules) (search rules) (λ c. search (not-read setattr_args view_setattr3args)) (search rules) (λ c. search (was_read setattr_args view_setattr3args)))

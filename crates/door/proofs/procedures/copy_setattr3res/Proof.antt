@@ -7,5 +7,5 @@ use Rattle.door.specs.Laws.Span.{span-in, span-read}
 use Rattle.door.proofs.procedures.copy_setattr3res.Statement.{statement}
 use Rattle.door.proofs.procedures.copy_setattr3res.Tie as tie
 
-pub copy-setattr3res-spec : {M : Type 1} → statement M
-copy-setattr3res-spec = tie.close (tie.spec (search rules) (search rules) (search rules) (search rules) (λ c κs. search (span-in setattr_res view_setattr3res)) (search rules) (search rules) (λ c. search (span-read setattr_res view_setattr3res)) (search rules) (search rules) (search rules) (λ c. search (not-read setattr_res view_setattr3res)) (search rules) (λ c. search (was_read setattr_res view_setattr3res)))
+pub copy_setattr3res_spec : {M : Type 1} → statement M
+copy_setattr3res_spec = tie.close (tie.spec (search rules) (search rules) (search rules) (search rules) (λ c κs. search (span-in setattr_res view_setattr3res)) (search rules) (search rules) (λ c. search (span-read setattr_res view_setattr3res)) (search rules) (search rules) (search rules) (λ c. search (not-read setattr_res view_setattr3res)) (search rules) (λ c. search (was_read setattr_res view_setattr3res)))

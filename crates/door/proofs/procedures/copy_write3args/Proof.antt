@@ -7,5 +7,5 @@ use Rattle.door.specs.Laws.Span.{span-in, span-read}
 use Rattle.door.proofs.procedures.copy_write3args.Statement.{statement}
 use Rattle.door.proofs.procedures.copy_write3args.Tie as tie
 
-pub copy-write3args-spec : {M : Type 1} → statement M
-copy-write3args-spec = tie.close (tie.spec (search rules) (search rules) (search rules) (search rules) (λ c κs. search (span-in write_args view_write3args)) (search rules) (search rules) (λ c. search (span-read write_args view_write3args)) (search rules) (search rules) (search rules) (λ c. search (not-read write_args view_write3args)) (search rules) (λ c. search (was_read write_args view_write3args)))
+pub copy_write3args_spec : {M : Type 1} → statement M
+copy_write3args_spec = tie.close (tie.spec (search rules) (search rules) (search rules) (search rules) (λ c κs. search (span-in write_args view_write3args)) (search rules) (search rules) (λ c. search (span-read write_args view_write3args)) (search rules) (search rules) (search rules) (λ c. search (not-read write_args view_write3args)) (search rules) (λ c. search (was_read write_args view_write3args)))

@@ -7,5 +7,5 @@ use Rattle.door.specs.Laws.Replies.{accept-case, accept-none, accept-some}
 use Rattle.door.proofs.replies.accept_of.Statement.{statement}
 use Rattle.door.proofs.replies.accept_of.Tie as tie
 
-pub accept-of-spec : {M : Type 1} → statement M
-accept-of-spec = tie.close (tie.spec (search rules) (search rules) (search rules) (search rules) (search rules) (search rules) (λ c. search (accept-none crate stat·.PROG_MISMATCH refl PROG_MISMATCH (λ v. refl))) (search rules) (search rules) (λ c. search (accept-case crate)) (λ c. search (accept-case crate)) (λ c. search (accept-some crate stat·.PROG_MISMATCH refl PROG_MISMATCH (λ v. refl))) (λ c. search (accept-case crate)) (λ c. search (accept-case crate)))
+pub accept_of_spec : {M : Type 1} → statement M
+accept_of_spec = tie.close (tie.spec (search rules) (search rules) (search rules) (search rules) (search rules) (search rules) (λ c. search (accept-none crate stat·.PROG_MISMATCH refl PROG_MISMATCH (λ v. refl))) (search rules) (search rules) (λ c. search (accept-case crate)) (λ c. search (accept-case crate)) (λ c. search (accept-some crate stat·.PROG_MISMATCH refl PROG_MISMATCH (λ v. refl))) (λ c. search (accept-case crate)) (λ c. search (accept-case crate)))

@@ -5,5 +5,5 @@ use Rattle.door.specs.Laws.Replies.{reply-wide, reply-none, reply-some}
 use Rattle.door.proofs.replies.given_reply.Statement.{statement}
 use Rattle.door.proofs.replies.given_reply.Tie as tie
 
-pub given-reply-spec : {M : Type 1} → statement M
-given-reply-spec = tie.close (tie.spec (search rules) (λ c. search (reply-wide crate)) (search rules) (search rules) (search rules) (λ c. search (reply-none crate found_reply)) (search rules) (search rules) (λ c. search (reply-some crate found_reply)))
+pub given_reply_spec : {M : Type 1} → statement M
+given_reply_spec = tie.close (tie.spec (search rules) (λ c. search (reply-wide crate)) (search rules) (search rules) (search rules) (λ c. search (reply-none crate found_reply)) (search rules) (search rules) (λ c. search (reply-some crate found_reply)))

@@ -4,5 +4,5 @@ use Rattle.door.specs.Laws.Exports.{rewrite-at}
 use Rattle.door.proofs.rewrite.rewrite_rest.Statement.{statement}
 use Rattle.door.proofs.rewrite.rewrite_rest.Tie as tie
 
-pub rewrite-rest-spec : {M : Type 1} → statement M
-rewrite-rest-spec = tie.close (tie.spec (search rules) (search rules) (search rules) (search rules) (search rules) (search rules) (search rules) (search rules) (search rules) (search rules) (search rules) (search rules) (search rules) (search rules) (search rules) (search rules) (search rules) (search rules) (search rules) (search rules) (search rules) (search rules) (search rules) (search rules) (search rules) (search rules) (search rules) (λ c. search rewrite-at) (search rules) (search rules) (λ c. search rewrite-at) (search rules) (search rules) (λ c. search rewrite-at) (search rules) (search rules) (λ c. search rewrite-at) (search rules) (search rules) (λ c. search rewrite-at) (search rules) (search rules) (λ c. search rewrite-at) (search rules) (search rules) (λ c. search rewrite-at) (search rules) (search rules) (λ c. search rewrite-at) (search rules) (search rules) (λ c. search rewrite-at) (search rules) (search rules) (λ c. search rewrite-at) (search rules) (search rules) (λ c. search rewrite-at) (search rules) (search rules) (λ c. search rewrite-at) (search rules) (search rules) (λ c. search rewrite-at) (search rules) (search rules) (λ c. search rewrite-at) (search rules) (search rules) (λ c. search rewrite-at) (search rules) (search rules) (λ c. search rewrite-at) (search rules) (search rules) (λ c. search rewrite-at) (search rules) (search rules) (λ c. search rewrite-at) (search rules) (search rules) (λ c. search rewrite-at) (search rules) (search rules) (λ c. search rewrite-at) (search rules) (search rules) (λ c. search rewrite-at) (search rules) (search rules) (λ c. search rewrite-at) (search rules) (search rules) (λ c. search rewrite-at) (search rules) (search rules) (λ c. search rewrite-at) (search rules) (search rules) (λ c. search rewrite-at))
+pub rewrite_rest_spec : {M : Type 1} → statement M
+rewrite_rest_spec = tie.close (tie.spec (search rules) (search rules) (search rules) (search rules) (search rules) (search rules) (search rules) (search rules) (search rules) (search rules) (search rules) (search rules) (search rules) (search rules) (search rules) (search rules) (search rules) (search rules) (search rules) (search rules) (search rules) (search rules) (search rules) (search rules) (search rules) (search rules) (search rules) (λ c. search rewrite-at) (search rules) (search rules) (λ c. search rewrite-at) (search rules) (search rules) (λ c. search rewrite-at) (search rules) (search rules) (λ c. search rewrite-at) (search rules) (search rules) (λ c. search rewrite-at) (search rules) (search rules) (λ c. search rewrite-at) (search rules) (search rules) (λ c. search rewrite-at) (search rules) (search rules) (λ c. search rewrite-at) (search rules) (search rules) (λ c. search rewrite-at) (search rules) (search rules) (λ c. search rewrite-at) (search rules) (search rules) (λ c. search rewrite-at) (search rules) (search rules) (λ c. search rewrite-at) (search rules) (search rules) (λ c. search rewrite-at) (search rules) (search rules) (λ c. search rewrite-at) (search rules) (search rules) (λ c. search rewrite-at) (search rules) (search rules) (λ c. search rewrite-at) (search rules) (search rules) (λ c. search rewrite-at) (search rules) (search rules) (λ c. search rewrite-at) (search rules) (search rules) (λ c. search rewrite-at) (search rules) (search rules) (λ c. search rewrite-at) (search rules) (search rules) (λ c. search rewrite-at) (search rules) (search rules) (λ c. search rewrite-at) (search rules) (search rules) (λ c. search rewrite-at) (search rules) (search rules) (λ c. search rewrite-at) (search rules) (search rules) (λ c. search rewrite-at))

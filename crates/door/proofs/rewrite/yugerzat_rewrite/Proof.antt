@@ -4,5 +4,5 @@ use Rattle.door.specs.Laws.Exports.{rewrite-at}
 use Rattle.door.proofs.rewrite.yugerzat_rewrite.Statement.{statement}
 use Rattle.door.proofs.rewrite.yugerzat_rewrite.Tie as tie
 
-pub yugerzat-rewrite-spec : {M : Type 1} → statement M
-yugerzat-rewrite-spec = tie.close (tie.spec (search rules) (search rules) (search rules) (search rules) (search rules) (search rules) (search rules) (search rules) (search rules) (search rules) (search rules) (search rules) (search rules) (search rules) (search rules) (search rules) (search rules) (search rules) (search rules) (search rules) (search rules) (search rules) (search rules) (search rules) (search rules) (search rules) (search rules) (λ c. search rewrite-at) (search rules) (search rules) (λ c. search rewrite-at) (search rules) (search rules) (λ c. search rewrite-at) (search rules) (search rules) (λ c. search rewrite-at) (search rules) (search rules) (λ c. search rewrite-at) (search rules) (search rules) (λ c. search rewrite-at) (search rules) (search rules) (λ c. search rewrite-at) (search rules) (search rules) (λ c. search rewrite-at) (search rules) (search rules) (λ c. search rewrite-at) (search rules) (search rules) (λ c. search rewrite-at) (search rules) (search rules) (λ c. search rewrite-at) (search rules) (search rules) (λ c. search rewrite-at) (search rules) (search rules) (λ c. search rewrite-at) (search rules) (search rules) (λ c. search rewrite-at) (search rules) (search rules) (λ c. search rewrite-at) (search rules) (search rules) (λ c. search rewrite-at) (search rules) (search rules) (λ c. search rewrite-at) (search rules) (search rules) (λ c. search rewrite-at) (search rules) (search rules) (λ c. search rewrite-at) (search rules) (search rules) (λ c. search rewrite-at) (search rules) (search rules) (λ c. search rewrite-at) (search rules) (search rules) (λ c. search rewrite-at) (search rules) (search rules) (λ c. search rewrite-at) (search rules) (search rules) (λ c. search rewrite-at) (search rules) (search rules) (λ c. search rewrite-at))
+pub yugerzat_rewrite_spec : {M : Type 1} → statement M
+yugerzat_rewrite_spec = tie.close (tie.spec (search rules) (search rules) (search rules) (search rules) (search rules) (search rules) (search rules) (search rules) (search rules) (search rules) (search rules) (search rules) (search rules) (search rules) (search rules) (search rules) (search rules) (search rules) (search rules) (search rules) (search rules) (search rules) (search rules) (search rules) (search rules) (search rules) (search rules) (λ c. search rewrite-at) (search rules) (search rules) (λ c. search rewrite-at) (search rules) (search rules) (λ c. search rewrite-at) (search rules) (search rules) (λ c. search rewrite-at) (search rules) (search rules) (λ c. search rewrite-at) (search rules) (search rules) (λ c. search rewrite-at) (search rules) (search rules) (λ c. search rewrite-at) (search rules) (search rules) (λ c. search rewrite-at) (search rules) (search rules) (λ c. search rewrite-at) (search rules) (search rules) (λ c. search rewrite-at) (search rules) (search rules) (λ c. search rewrite-at) (search rules) (search rules) (λ c. search rewrite-at) (search rules) (search rules) (λ c. search rewrite-at) (search rules) (search rules) (λ c. search rewrite-at) (search rules) (search rules) (λ c. search rewrite-at) (search rules) (search rules) (λ c. search rewrite-at) (search rules) (search rules) (λ c. search rewrite-at) (search rules) (search rules) (λ c. search rewrite-at) (search rules) (search rules) (λ c. search rewrite-at) (search rules) (search rules) (λ c. search rewrite-at) (search rules) (search rules) (λ c. search rewrite-at) (search rules) (search rules) (λ c. search rewrite-at) (search rules) (search rules) (λ c. search rewrite-at) (search rules) (search rules) (λ c. search rewrite-at) (search rules) (search rules) (λ c. search rewrite-at))

@@ -4,5 +4,5 @@ use Rattle.door.specs.Laws.Exports.{rewrite-short, rewrite-told}
 use Rattle.door.proofs.rewrite.yugerzat_rewrite_accepted_reply.Statement.{statement}
 use Rattle.door.proofs.rewrite.yugerzat_rewrite_accepted_reply.Tie as tie
 
-pub yugerzat-rewrite-accepted-reply-spec : {M : Type 1} → statement M
-yugerzat-rewrite-accepted-reply-spec = tie.close (tie.spec (λ c. search (rewrite-short, rules)) (search rules) (search rules) (search rules) (search rules) (λ c. search (rewrite-told 24, rules)))
+pub yugerzat_rewrite_accepted_reply_spec : {M : Type 1} → statement M
+yugerzat_rewrite_accepted_reply_spec = tie.close (tie.spec (λ c. search (rewrite-short, rules)) (search rules) (search rules) (search rules) (search rules) (λ c. search (rewrite-told 24, rules)))

@@ -4,5 +4,5 @@ use Rattle.door.specs.Laws.Exports.{rewrite-short, rewrite-told}
 use Rattle.door.proofs.rewrite.yugerzat_rewrite_auth_unix.Statement.{statement}
 use Rattle.door.proofs.rewrite.yugerzat_rewrite_auth_unix.Tie as tie
 
-pub yugerzat-rewrite-auth-unix-spec : {M : Type 1} → statement M
-yugerzat-rewrite-auth-unix-spec = tie.close (tie.spec (λ c. search (rewrite-short, rules)) (search rules) (search rules) (search rules) (search rules) (λ c. search (rewrite-told 18, rules)))
+pub yugerzat_rewrite_auth_unix_spec : {M : Type 1} → statement M
+yugerzat_rewrite_auth_unix_spec = tie.close (tie.spec (λ c. search (rewrite-short, rules)) (search rules) (search rules) (search rules) (search rules) (λ c. search (rewrite-told 18, rules)))

@@ -4,5 +4,5 @@ use Rattle.door.specs.Laws.Exports.{rewrite-short, rewrite-told}
 use Rattle.door.proofs.rewrite.yugerzat_rewrite_current_auth_stat.Statement.{statement}
 use Rattle.door.proofs.rewrite.yugerzat_rewrite_current_auth_stat.Tie as tie
 
-pub yugerzat-rewrite-current-auth-stat-spec : {M : Type 1} → statement M
-yugerzat-rewrite-current-auth-stat-spec = tie.close (tie.spec (λ c. search (rewrite-short, rules)) (search rules) (search rules) (search rules) (search rules) (λ c. search (rewrite-told 60, rules)))
+pub yugerzat_rewrite_current_auth_stat_spec : {M : Type 1} → statement M
+yugerzat_rewrite_current_auth_stat_spec = tie.close (tie.spec (λ c. search (rewrite-short, rules)) (search rules) (search rules) (search rules) (search rules) (λ c. search (rewrite-told 60, rules)))

@@ -4,5 +4,5 @@ use Rattle.door.specs.Laws.Exports.{rewrite-short, rewrite-told}
 use Rattle.door.proofs.rewrite.yugerzat_rewrite_dirpath.Statement.{statement}
 use Rattle.door.proofs.rewrite.yugerzat_rewrite_dirpath.Tie as tie
 
-pub yugerzat-rewrite-dirpath-spec : {M : Type 1} → statement M
-yugerzat-rewrite-dirpath-spec = tie.close (tie.spec (λ c. search (rewrite-short, rules)) (search rules) (search rules) (search rules) (search rules) (λ c. search (rewrite-told 67, rules)))
+pub yugerzat_rewrite_dirpath_spec : {M : Type 1} → statement M
+yugerzat_rewrite_dirpath_spec = tie.close (tie.spec (λ c. search (rewrite-short, rules)) (search rules) (search rules) (search rules) (search rules) (λ c. search (rewrite-told 67, rules)))

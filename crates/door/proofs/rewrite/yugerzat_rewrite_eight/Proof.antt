@@ -4,5 +4,5 @@ use Rattle.door.specs.Laws.Exports.{rewrite-short, rewrite-told}
 use Rattle.door.proofs.rewrite.yugerzat_rewrite_eight.Statement.{statement}
 use Rattle.door.proofs.rewrite.yugerzat_rewrite_eight.Tie as tie
 
-pub yugerzat-rewrite-eight-spec : {M : Type 1} → statement M
-yugerzat-rewrite-eight-spec = tie.close (tie.spec (λ c. search (rewrite-short, rules)) (search rules) (search rules) (search rules) (search rules) (λ c. search (rewrite-told 5, rules)))
+pub yugerzat_rewrite_eight_spec : {M : Type 1} → statement M
+yugerzat_rewrite_eight_spec = tie.close (tie.spec (λ c. search (rewrite-short, rules)) (search rules) (search rules) (search rules) (search rules) (λ c. search (rewrite-told 5, rules)))

@@ -4,5 +4,5 @@ use Rattle.door.specs.Laws.Exports.{rewrite-short, rewrite-told}
 use Rattle.door.proofs.rewrite.yugerzat_rewrite_exports.Statement.{statement}
 use Rattle.door.proofs.rewrite.yugerzat_rewrite_exports.Tie as tie
 
-pub yugerzat-rewrite-exports-spec : {M : Type 1} → statement M
-yugerzat-rewrite-exports-spec = tie.close (tie.spec (λ c. search (rewrite-short, rules)) (search rules) (search rules) (search rules) (search rules) (λ c. search (rewrite-told 70, rules)))
+pub yugerzat_rewrite_exports_spec : {M : Type 1} → statement M
+yugerzat_rewrite_exports_spec = tie.close (tie.spec (λ c. search (rewrite-short, rules)) (search rules) (search rules) (search rules) (search rules) (λ c. search (rewrite-told 70, rules)))

@@ -4,5 +4,5 @@ use Rattle.door.specs.Laws.Exports.{rewrite-short, rewrite-told}
 use Rattle.door.proofs.rewrite.yugerzat_rewrite_ftype3.Statement.{statement}
 use Rattle.door.proofs.rewrite.yugerzat_rewrite_ftype3.Tie as tie
 
-pub yugerzat-rewrite-ftype3-spec : {M : Type 1} → statement M
-yugerzat-rewrite-ftype3-spec = tie.close (tie.spec (λ c. search (rewrite-short, rules)) (search rules) (search rules) (search rules) (search rules) (λ c. search (rewrite-told 17, rules)))
+pub yugerzat_rewrite_ftype3_spec : {M : Type 1} → statement M
+yugerzat_rewrite_ftype3_spec = tie.close (tie.spec (λ c. search (rewrite-short, rules)) (search rules) (search rules) (search rules) (search rules) (λ c. search (rewrite-told 17, rules)))

@@ -4,5 +4,5 @@ use Rattle.door.specs.Laws.Exports.{rewrite-short, rewrite-told}
 use Rattle.door.proofs.rewrite.yugerzat_rewrite_mapping.Statement.{statement}
 use Rattle.door.proofs.rewrite.yugerzat_rewrite_mapping.Tie as tie
 
-pub yugerzat-rewrite-mapping-spec : {M : Type 1} → statement M
-yugerzat-rewrite-mapping-spec = tie.close (tie.spec (λ c. search (rewrite-short, rules)) (search rules) (search rules) (search rules) (search rules) (λ c. search (rewrite-told 71, rules)))
+pub yugerzat_rewrite_mapping_spec : {M : Type 1} → statement M
+yugerzat_rewrite_mapping_spec = tie.close (tie.spec (λ c. search (rewrite-short, rules)) (search rules) (search rules) (search rules) (search rules) (λ c. search (rewrite-told 71, rules)))

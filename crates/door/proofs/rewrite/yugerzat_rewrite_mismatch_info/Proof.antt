@@ -4,5 +4,5 @@ use Rattle.door.specs.Laws.Exports.{rewrite-short, rewrite-told}
 use Rattle.door.proofs.rewrite.yugerzat_rewrite_mismatch_info.Statement.{statement}
 use Rattle.door.proofs.rewrite.yugerzat_rewrite_mismatch_info.Tie as tie
 
-pub yugerzat-rewrite-mismatch-info-spec : {M : Type 1} → statement M
-yugerzat-rewrite-mismatch-info-spec = tie.close (tie.spec (λ c. search (rewrite-short, rules)) (search rules) (search rules) (search rules) (search rules) (λ c. search (rewrite-told 27, rules)))
+pub yugerzat_rewrite_mismatch_info_spec : {M : Type 1} → statement M
+yugerzat_rewrite_mismatch_info_spec = tie.close (tie.spec (λ c. search (rewrite-short, rules)) (search rules) (search rules) (search rules) (search rules) (λ c. search (rewrite-told 27, rules)))

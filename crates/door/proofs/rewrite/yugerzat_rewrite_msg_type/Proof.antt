@@ -4,5 +4,5 @@ use Rattle.door.specs.Laws.Exports.{rewrite-short, rewrite-told}
 use Rattle.door.proofs.rewrite.yugerzat_rewrite_msg_type.Statement.{statement}
 use Rattle.door.proofs.rewrite.yugerzat_rewrite_msg_type.Tie as tie
 
-pub yugerzat-rewrite-msg-type-spec : {M : Type 1} → statement M
-yugerzat-rewrite-msg-type-spec = tie.close (tie.spec (λ c. search (rewrite-short, rules)) (search rules) (search rules) (search rules) (search rules) (λ c. search (rewrite-told 9, rules)))
+pub yugerzat_rewrite_msg_type_spec : {M : Type 1} → statement M
+yugerzat_rewrite_msg_type_spec = tie.close (tie.spec (λ c. search (rewrite-short, rules)) (search rules) (search rules) (search rules) (search rules) (λ c. search (rewrite-told 9, rules)))

@@ -4,5 +4,5 @@ use Rattle.door.specs.Laws.Exports.{rewrite-short, rewrite-told}
 use Rattle.door.proofs.rewrite.yugerzat_rewrite_read3args.Statement.{statement}
 use Rattle.door.proofs.rewrite.yugerzat_rewrite_read3args.Tie as tie
 
-pub yugerzat-rewrite-read3args-spec : {M : Type 1} → statement M
-yugerzat-rewrite-read3args-spec = tie.close (tie.spec (λ c. search (rewrite-short, rules)) (search rules) (search rules) (search rules) (search rules) (λ c. search (rewrite-told 55, rules)))
+pub yugerzat_rewrite_read3args_spec : {M : Type 1} → statement M
+yugerzat_rewrite_read3args_spec = tie.close (tie.spec (λ c. search (rewrite-short, rules)) (search rules) (search rules) (search rules) (search rules) (λ c. search (rewrite-told 55, rules)))

@@ -4,5 +4,5 @@ use Rattle.door.specs.Laws.Exports.{rewrite-short, rewrite-told}
 use Rattle.door.proofs.rewrite.yugerzat_rewrite_set_mtime.Statement.{statement}
 use Rattle.door.proofs.rewrite.yugerzat_rewrite_set_mtime.Tie as tie
 
-pub yugerzat-rewrite-set-mtime-spec : {M : Type 1} → statement M
-yugerzat-rewrite-set-mtime-spec = tie.close (tie.spec (λ c. search (rewrite-short, rules)) (search rules) (search rules) (search rules) (search rules) (λ c. search (rewrite-told 43, rules)))
+pub yugerzat_rewrite_set_mtime_spec : {M : Type 1} → statement M
+yugerzat_rewrite_set_mtime_spec = tie.close (tie.spec (λ c. search (rewrite-short, rules)) (search rules) (search rules) (search rules) (search rules) (λ c. search (rewrite-told 43, rules)))

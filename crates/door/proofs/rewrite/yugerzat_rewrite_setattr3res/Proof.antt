@@ -4,5 +4,5 @@ use Rattle.door.specs.Laws.Exports.{rewrite-short, rewrite-told}
 use Rattle.door.proofs.rewrite.yugerzat_rewrite_setattr3res.Statement.{statement}
 use Rattle.door.proofs.rewrite.yugerzat_rewrite_setattr3res.Tie as tie
 
-pub yugerzat-rewrite-setattr3res-spec : {M : Type 1} → statement M
-yugerzat-rewrite-setattr3res-spec = tie.close (tie.spec (λ c. search (rewrite-short, rules)) (search rules) (search rules) (search rules) (search rules) (λ c. search (rewrite-told 52, rules)))
+pub yugerzat_rewrite_setattr3res_spec : {M : Type 1} → statement M
+yugerzat_rewrite_setattr3res_spec = tie.close (tie.spec (λ c. search (rewrite-short, rules)) (search rules) (search rules) (search rules) (search rules) (λ c. search (rewrite-told 52, rules)))

@@ -4,5 +4,5 @@ use Rattle.door.specs.Laws.Exports.{rewrite-short, rewrite-told}
 use Rattle.door.proofs.rewrite.yugerzat_rewrite_wcc_data.Statement.{statement}
 use Rattle.door.proofs.rewrite.yugerzat_rewrite_wcc_data.Tie as tie
 
-pub yugerzat-rewrite-wcc-data-spec : {M : Type 1} → statement M
-yugerzat-rewrite-wcc-data-spec = tie.close (tie.spec (λ c. search (rewrite-short, rules)) (search rules) (search rules) (search rules) (search rules) (λ c. search (rewrite-told 36, rules)))
+pub yugerzat_rewrite_wcc_data_spec : {M : Type 1} → statement M
+yugerzat_rewrite_wcc_data_spec = tie.close (tie.spec (λ c. search (rewrite-short, rules)) (search rules) (search rules) (search rules) (search rules) (λ c. search (rewrite-told 36, rules)))

@@ -4,5 +4,5 @@ use Rattle.door.specs.Laws.Exports.{rewrite-short, rewrite-told}
 use Rattle.door.proofs.rewrite.yugerzat_rewrite_words.Statement.{statement}
 use Rattle.door.proofs.rewrite.yugerzat_rewrite_words.Tie as tie
 
-pub yugerzat-rewrite-words-spec : {M : Type 1} → statement M
-yugerzat-rewrite-words-spec = tie.close (tie.spec (λ c. search (rewrite-short, rules)) (search rules) (search rules) (search rules) (search rules) (λ c. search (rewrite-told 8, rules)))
+pub yugerzat_rewrite_words_spec : {M : Type 1} → statement M
+yugerzat_rewrite_words_spec = tie.close (tie.spec (λ c. search (rewrite-short, rules)) (search rules) (search rules) (search rules) (search rules) (λ c. search (rewrite-told 8, rules)))

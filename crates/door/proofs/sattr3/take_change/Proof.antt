@@ -5,5 +5,5 @@ use Rattle.door.proofs.sattr3.take_change.Tie as tie
 
 ruleset steps = (rules, within-fits, within-long, change-lost)
 
-pub take-change-spec : {M : Type 1} → statement M
-take-change-spec = tie.close (tie.spec (search rules) (search rules) (search rules) (λ c. search (change-1, steps)) (λ c. search (change-1, steps)) (λ c κs. search (change-1, steps)) (search rules) (search rules) (λ c. search (change-2, steps)) (λ c. search (change-2, steps)) (λ c κs. search (change-2, steps)) (search rules) (search rules) (λ c. search (change-3, steps)) (λ c. search (change-3, steps)) (λ c. search (change-3, steps)) (λ c. search change-took))
+pub take_change_spec : {M : Type 1} → statement M
+take_change_spec = tie.close (tie.spec (search rules) (search rules) (search rules) (λ c. search (change-1, steps)) (λ c. search (change-1, steps)) (λ c κs. search (change-1, steps)) (search rules) (search rules) (λ c. search (change-2, steps)) (λ c. search (change-2, steps)) (λ c κs. search (change-2, steps)) (search rules) (search rules) (λ c. search (change-3, steps)) (λ c. search (change-3, steps)) (λ c. search (change-3, steps)) (λ c. search change-took))

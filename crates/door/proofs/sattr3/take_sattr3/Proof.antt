@@ -5,5 +5,5 @@ use Rattle.door.proofs.sattr3.take_sattr3.Tie as tie
 
 ruleset opened = (rules, never-open, whole-answer, whole_long)
 
-pub take-sattr3-spec : {M : Type 1} → statement M
-take-sattr3-spec = tie.close (tie.spec (search rules) (search rules) (search rules) (search rules) (λ c. search opened) (λ c. search opened) (λ c. search opened))
+pub take_sattr3_spec : {M : Type 1} → statement M
+take_sattr3_spec = tie.close (tie.spec (search rules) (search rules) (search rules) (search rules) (λ c. search opened) (λ c. search opened) (λ c. search opened))

@@ -5,5 +5,5 @@ use Rattle.door.specs.Laws.Taken.{set-none, set-some, sets-long, lost-here}
 use Rattle.door.proofs.sattr3.take_word.Statement.{statement}
 use Rattle.door.proofs.sattr3.take_word.Tie as tie
 
-pub take-word-spec : {M : Type 1} → statement M
-take-word-spec = tie.close (tie.spec (search rules) (search rules) (search rules) (λ c. search lost-here) (search rules) (λ c. search sets-long) (λ c. search (set-none view_u32 word)) (search rules) (search rules) (search rules) (λ c. search lost-here) (search rules) (search rules) (λ c. search sets-long) (λ c. search (set-some view_u32 word)))
+pub take_word_spec : {M : Type 1} → statement M
+take_word_spec = tie.close (tie.spec (search rules) (search rules) (search rules) (λ c. search lost-here) (search rules) (λ c. search sets-long) (λ c. search (set-none view_u32 word)) (search rules) (search rules) (search rules) (λ c. search lost-here) (search rules) (search rules) (λ c. search sets-long) (λ c. search (set-some view_u32 word)))

@@ -3,5 +3,5 @@ use Rattle.door.specs.Laws.Recast.{laid-long, cast-plain, cast-room, cast-short,
 use Rattle.door.proofs.settle.recast_sattr3.Statement.{statement}
 use Rattle.door.proofs.settle.recast_sattr3.Tie as tie
 
-pub recast-sattr3-spec : {M : Type 1} → statement M
-recast-sattr3-spec = tie.close (tie.spec (search rules) (search rules) (search rules) (search rules) (λ c. search (laid-long, rules)) (λ c. search (cast-plain, rules)) (search rules) (search rules) (search rules) (λ c. search (cast-room, rules)) (λ c κs. search (cast-short, rules)) (λ c. search (cast-long, rules)) (λ c. search (cast-loose, rules)))
+pub recast_sattr3_spec : {M : Type 1} → statement M
+recast_sattr3_spec = tie.close (tie.spec (search rules) (search rules) (search rules) (search rules) (λ c. search (laid-long, rules)) (λ c. search (cast-plain, rules)) (search rules) (search rules) (search rules) (λ c. search (cast-room, rules)) (λ c κs. search (cast-short, rules)) (λ c. search (cast-long, rules)) (λ c. search (cast-loose, rules)))

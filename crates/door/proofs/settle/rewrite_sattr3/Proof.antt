@@ -4,5 +4,5 @@ use Rattle.door.specs.Laws.Exports.{rewrite-short}
 use Rattle.door.proofs.settle.rewrite_sattr3.Statement.{statement}
 use Rattle.door.proofs.settle.rewrite_sattr3.Tie as tie
 
-pub rewrite-sattr3-spec : {M : Type 1} → statement M
-rewrite-sattr3-spec = tie.close (tie.spec (λ c. search (rewrite-short, rules)) (search rules) (search rules) (search rules) (search rules) (search rules) (search rules) (search rules) (search rules) (search rules) (search rules) (search rules) (search rules) (search rules) (search rules) (search rules) (λ c. search (recast-again, rules)) (λ c κs. search (was-walked, rules)) (search rules) (search rules) (λ c. search rules))
+pub rewrite_sattr3_spec : {M : Type 1} → statement M
+rewrite_sattr3_spec = tie.close (tie.spec (λ c. search (rewrite-short, rules)) (search rules) (search rules) (search rules) (search rules) (search rules) (search rules) (search rules) (search rules) (search rules) (search rules) (search rules) (search rules) (search rules) (search rules) (search rules) (λ c. search (recast-again, rules)) (λ c κs. search (was-walked, rules)) (search rules) (search rules) (λ c. search rules))

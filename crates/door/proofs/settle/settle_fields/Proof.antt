@@ -5,5 +5,5 @@ use Rattle.door.specs.Laws.Settled.{still-word, settle-next, flag-short, both_lo
 use Rattle.door.proofs.settle.settle_fields.Statement.{statement}
 use Rattle.door.proofs.settle.settle_fields.Tie as tie
 
-pub settle-fields-spec : {M : Type 1} → statement M
-settle-fields-spec = tie.close (tie.spec (search rules) (λ c κs. search (flag-short, rules)) (λ c. search both_long) (λ c. search (settle-next word-fixed still-word from_uid)))
+pub settle_fields_spec : {M : Type 1} → statement M
+settle_fields_spec = tie.close (tie.spec (search rules) (λ c κs. search (flag-short, rules)) (λ c. search both_long) (λ c. search (settle-next word-fixed still-word from_uid)))

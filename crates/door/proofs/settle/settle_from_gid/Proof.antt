@@ -5,5 +5,5 @@ use Rattle.door.specs.Laws.Settled.{still-word, settle-next, flag-short, both_lo
 use Rattle.door.proofs.settle.settle_from_gid.Statement.{statement}
 use Rattle.door.proofs.settle.settle_from_gid.Tie as tie
 
-pub settle-from-gid-spec : {M : Type 1} → statement M
-settle-from-gid-spec = tie.close (tie.spec (search rules) (λ c κs. search (flag-short, rules)) (λ c. search both_long) (λ c. search (settle-next word-fixed still-word from_size)))
+pub settle_from_gid_spec : {M : Type 1} → statement M
+settle_from_gid_spec = tie.close (tie.spec (search rules) (λ c κs. search (flag-short, rules)) (λ c. search both_long) (λ c. search (settle-next word-fixed still-word from_size)))

@@ -5,5 +5,5 @@ use Rattle.door.specs.Laws.Figures.{at-case}
 use Rattle.door.proofs.values_read.atime_figures.Statement.{statement}
 use Rattle.door.proofs.values_read.atime_figures.Tie as tie
 
-pub atime-figures-spec : {M : Type 1} → statement M
-atime-figures-spec = tie.close (tie.spec (search rules) (search rules) (search rules) (search rules) (search rules) (λ c. search (at-case (λ z. time_figures (atime_from z)))) (λ c. search (at-case (λ z. time_figures (atime_from z)))) (λ c. search (at-case (λ z. time_figures (atime_from z)))))
+pub atime_figures_spec : {M : Type 1} → statement M
+atime_figures_spec = tie.close (tie.spec (search rules) (search rules) (search rules) (search rules) (search rules) (λ c. search (at-case (λ z. time_figures (atime_from z)))) (λ c. search (at-case (λ z. time_figures (atime_from z)))) (λ c. search (at-case (λ z. time_figures (atime_from z)))))

@@ -5,5 +5,5 @@ use Rattle.door.specs.Laws.Figures.{at-case}
 use Rattle.door.proofs.values_read.gid_figures.Statement.{statement}
 use Rattle.door.proofs.values_read.gid_figures.Tie as tie
 
-pub gid-figures-spec : {M : Type 1} → statement M
-gid-figures-spec = tie.close (tie.spec (search rules) (search rules) (search rules) (λ c. search (at-case (λ z. option_figures (set_gid_from z)))) (λ c. search (at-case (λ z. option_figures (set_gid_from z)))))
+pub gid_figures_spec : {M : Type 1} → statement M
+gid_figures_spec = tie.close (tie.spec (search rules) (search rules) (search rules) (λ c. search (at-case (λ z. option_figures (set_gid_from z)))) (λ c. search (at-case (λ z. option_figures (set_gid_from z)))))

@@ -5,5 +5,5 @@ use Rattle.door.specs.Laws.Figures.{at-case}
 use Rattle.door.proofs.values_read.mtime_figures.Statement.{statement}
 use Rattle.door.proofs.values_read.mtime_figures.Tie as tie
 
-pub mtime-figures-spec : {M : Type 1} → statement M
-mtime-figures-spec = tie.close (tie.spec (search rules) (search rules) (search rules) (search rules) (search rules) (λ c. search (at-case (λ z. time_figures (mtime_from z)))) (λ c. search (at-case (λ z. time_figures (mtime_from z)))) (λ c. search (at-case (λ z. time_figures (mtime_from z)))))
+pub mtime_figures_spec : {M : Type 1} → statement M
+mtime_figures_spec = tie.close (tie.spec (search rules) (search rules) (search rules) (search rules) (search rules) (λ c. search (at-case (λ z. time_figures (mtime_from z)))) (λ c. search (at-case (λ z. time_figures (mtime_from z)))) (λ c. search (at-case (λ z. time_figures (mtime_from z)))))

@@ -5,5 +5,5 @@ use Rattle.door.specs.Laws.Figures.{at-case}
 use Rattle.door.proofs.values_read.size_figures.Statement.{statement}
 use Rattle.door.proofs.values_read.size_figures.Tie as tie
 
-pub size-figures-spec : {M : Type 1} → statement M
-size-figures-spec = tie.close (tie.spec (search rules) (search rules) (λ c. search (at-case (λ z. option_figures (set_size_from z)))) (λ c. search (at-case (λ z. option_figures (set_size_from z)))))
+pub size_figures_spec : {M : Type 1} → statement M
+size_figures_spec = tie.close (tie.spec (search rules) (search rules) (λ c. search (at-case (λ z. option_figures (set_size_from z)))) (λ c. search (at-case (λ z. option_figures (set_size_from z)))))

@@ -5,5 +5,5 @@ use Rattle.door.specs.Laws.Figures.{at-case}
 use Rattle.door.proofs.values_read.uid_figures.Statement.{statement}
 use Rattle.door.proofs.values_read.uid_figures.Tie as tie
 
-pub uid-figures-spec : {M : Type 1} → statement M
-uid-figures-spec = tie.close (tie.spec (search rules) (search rules) (search rules) (λ c. search (at-case (λ z. option_figures (set_uid_from z)))) (λ c. search (at-case (λ z. option_figures (set_uid_from z)))))
+pub uid_figures_spec : {M : Type 1} → statement M
+uid_figures_spec = tie.close (tie.spec (search rules) (search rules) (search rules) (λ c. search (at-case (λ z. option_figures (set_uid_from z)))) (λ c. search (at-case (λ z. option_figures (set_uid_from z)))))

@@ -4,5 +4,5 @@ use Rattle.door.specs.Laws.Values.{value-short, value-told}
 use Rattle.door.proofs.values_read.yugerzat_read_auth_unix.Statement.{statement}
 use Rattle.door.proofs.values_read.yugerzat_read_auth_unix.Tie as tie
 
-pub yugerzat-read-auth-unix-spec : {M : Type 1} → statement M
-yugerzat-read-auth-unix-spec = tie.close (tie.spec (λ c. search (value-short view_auth_unix, rules)) (search rules) (search rules) (search rules) (search rules) (search rules) (search rules) (λ c. search (value-told view_auth_unix, rules)) (search rules) (λ c. search (value-told view_auth_unix, rules)))
+pub yugerzat_read_auth_unix_spec : {M : Type 1} → statement M
+yugerzat_read_auth_unix_spec = tie.close (tie.spec (λ c. search (value-short view_auth_unix, rules)) (search rules) (search rules) (search rules) (search rules) (search rules) (search rules) (λ c. search (value-told view_auth_unix, rules)) (search rules) (λ c. search (value-told view_auth_unix, rules)))

@@ -4,5 +4,5 @@ use Rattle.door.specs.Laws.Values.{value-short, value-told}
 use Rattle.door.proofs.values_read.yugerzat_read_diropargs3.Statement.{statement}
 use Rattle.door.proofs.values_read.yugerzat_read_diropargs3.Tie as tie
 
-pub yugerzat-read-diropargs3-spec : {M : Type 1} → statement M
-yugerzat-read-diropargs3-spec = tie.close (tie.spec (λ c. search (value-short view_diropargs3, rules)) (search rules) (search rules) (search rules) (search rules) (search rules) (search rules) (λ c. search (value-told view_diropargs3, rules)) (search rules) (λ c. search (value-told view_diropargs3, rules)))
+pub yugerzat_read_diropargs3_spec : {M : Type 1} → statement M
+yugerzat_read_diropargs3_spec = tie.close (tie.spec (λ c. search (value-short view_diropargs3, rules)) (search rules) (search rules) (search rules) (search rules) (search rules) (search rules) (λ c. search (value-told view_diropargs3, rules)) (search rules) (λ c. search (value-told view_diropargs3, rules)))

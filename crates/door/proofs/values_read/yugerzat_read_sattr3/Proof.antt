@@ -7,5 +7,5 @@ use Rattle.door.proofs.values_read.yugerzat_read_sattr3.Tie as tie
 
 ruleset told = (rules, answered-fits, two-long, again-long, told-again, told-whole, sattr3-long)
 
-pub yugerzat-read-sattr3-spec : {M : Type 1} → statement M
-yugerzat-read-sattr3-spec = tie.close (tie.spec (λ c. search (value-short view_sattr3, rules)) (search rules) (search rules) (search rules) (λ c κs. search told) (λ c. search told) (λ c. search told) (search rules) (λ c κs. search told) (λ c. search told) (λ c. search told))
+pub yugerzat_read_sattr3_spec : {M : Type 1} → statement M
+yugerzat_read_sattr3_spec = tie.close (tie.spec (λ c. search (value-short view_sattr3, rules)) (search rules) (search rules) (search rules) (λ c κs. search told) (λ c. search told) (λ c. search told) (search rules) (λ c κs. search told) (λ c. search told) (λ c. search told))

@@ -4,5 +4,5 @@ use Rattle.door.specs.Laws.Given.{words_are}
 use Rattle.door.proofs.values_write.call_words.Statement.{statement}
 use Rattle.door.proofs.values_write.call_words.Tie as tie
 
-pub call-words-spec : {M : Type 1} → statement M
-call-words-spec = tie.close (tie.spec (search rules) (search rules) (search rules) (search rules) (search rules) (λ c. words_are call_words _))
+pub call_words_spec : {M : Type 1} → statement M
+call_words_spec = tie.close (tie.spec (search rules) (search rules) (search rules) (search rules) (search rules) (λ c. words_are call_words _))

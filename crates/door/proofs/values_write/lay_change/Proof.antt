@@ -13,5 +13,5 @@ returns c =
     let s : tie.Start = search in
     laid-three y.lay-hyper.ensures z.lay-time.ensures w.lay-time2.ensures (change-of _) (omega arith) (omega arith)
 
-pub lay-change-spec : {M : Type 1} → statement M
-lay-change-spec = tie.close (tie.spec (search rules) (search rules) (search rules) (search rules) (search rules) (search rules) (search rules) (search rules) (search rules) (search rules) (search rules) (search rules) (search rules) (search rules) (search rules) (search rules) (search rules) (search rules) (search rules) (search rules) (search rules) (search rules) (search rules) returns)
+pub lay_change_spec : {M : Type 1} → statement M
+lay_change_spec = tie.close (tie.spec (search rules) (search rules) (search rules) (search rules) (search rules) (search rules) (search rules) (search rules) (search rules) (search rules) (search rules) (search rules) (search rules) (search rules) (search rules) (search rules) (search rules) (search rules) (search rules) (search rules) (search rules) (search rules) (search rules) returns)

@@ -15,5 +15,5 @@ returns c =
     let s : tie.Start = search in
     lay-three _ _ _ _ _ _ _ _ _ _ _ y.lay-ids.ensures z.lay-sizes.ensures w.lay-times.ensures (fattr-of _) (ids-long _) (behind-sizes _ _ _ refl) (omega arith) (fattr-long _)
 
-pub lay-fattr3-spec : {M : Type 1} → statement M
-lay-fattr3-spec = tie.close (tie.spec (search rules) (search rules) (search rules) (search rules) (search rules) (search rules) (search rules) (search rules) (search rules) (search rules) (search rules) (search rules) (search rules) returns)
+pub lay_fattr3_spec : {M : Type 1} → statement M
+lay_fattr3_spec = tie.close (tie.spec (search rules) (search rules) (search rules) (search rules) (search rules) (search rules) (search rules) (search rules) (search rules) (search rules) (search rules) (search rules) (search rules) returns)

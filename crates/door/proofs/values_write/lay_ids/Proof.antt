@@ -16,5 +16,5 @@ returns c =
     let s : tie.Start = search in
     lay-three _ _ _ _ _ _ _ _ _ _ _ y.put-u32.ensures z.put-u32-pair.ensures w.put-u32-pair2.ensures (ids-of _) (size_is word-fixed _) (size-behind word-pair-fixed _ _ _ refl) (omega arith) (ids-long _)
 
-pub lay-ids-spec : {M : Type 1} → statement M
-lay-ids-spec = tie.close (tie.spec (search rules) (search rules) (search rules) (search rules) (search rules) (search rules) (search rules) (search rules) (search rules) (search rules) (search rules) (search rules) (search rules) (search rules) (search rules) (search rules) (search rules) (search rules) (search rules) (search rules) (search rules) (search rules) (search rules) returns)
+pub lay_ids_spec : {M : Type 1} → statement M
+lay_ids_spec = tie.close (tie.spec (search rules) (search rules) (search rules) (search rules) (search rules) (search rules) (search rules) (search rules) (search rules) (search rules) (search rules) (search rules) (search rules) (search rules) (search rules) (search rules) (search rules) (search rules) (search rules) (search rules) (search rules) (search rules) (search rules) returns)

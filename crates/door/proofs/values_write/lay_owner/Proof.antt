@@ -13,5 +13,5 @@ returns c =
     let s : tie.Start = search in
     laid-three y.lay-word.ensures z.lay-word2.ensures w.lay-word3.ensures (owner_of_lem _) (omega arith) (omega arith)
 
-pub lay-owner-spec : {M : Type 1} → statement M
-lay-owner-spec = tie.close (tie.spec (search rules) (search rules) (search rules) (search rules) (search rules) (search rules) (search rules) (search rules) (search rules) (search rules) (search rules) (search rules) (search rules) (search rules) (search rules) (search rules) (search rules) (search rules) (search rules) (search rules) (search rules) returns)
+pub lay_owner_spec : {M : Type 1} → statement M
+lay_owner_spec = tie.close (tie.spec (search rules) (search rules) (search rules) (search rules) (search rules) (search rules) (search rules) (search rules) (search rules) (search rules) (search rules) (search rules) (search rules) (search rules) (search rules) (search rules) (search rules) (search rules) (search rules) (search rules) (search rules) returns)

@@ -12,5 +12,5 @@ returns c =
     let s : tie.Start = search in
     laid-two y.lay-owner.ensures z.lay-change.ensures (sattr-of _) (omega arith) (omega arith)
 
-pub lay-sattr3-spec : {M : Type 1} → statement M
-lay-sattr3-spec = tie.close (tie.spec (search rules) (search rules) (search rules) (search rules) (search rules) (search rules) (search rules) (search rules) (search rules) (search rules) returns)
+pub lay_sattr3_spec : {M : Type 1} → statement M
+lay_sattr3_spec = tie.close (tie.spec (search rules) (search rules) (search rules) (search rules) (search rules) (search rules) (search rules) (search rules) (search rules) (search rules) returns)

@@ -16,5 +16,5 @@ returns c =
     let s : tie.Start = search in
     lay-three _ _ _ _ _ _ _ _ _ _ _ y.put-u64-pair.ensures z.put-u32-pair.ensures w.put-u64-pair2.ensures (sizes-of _) (size_is hyper-pair-fixed _) (size-behind word-pair-fixed _ _ _ refl) (omega arith) (sizes-long _)
 
-pub lay-sizes-spec : {M : Type 1} → statement M
-lay-sizes-spec = tie.close (tie.spec (search rules) (search rules) (search rules) (search rules) (search rules) (search rules) (search rules) (search rules) (search rules) (search rules) (search rules) (search rules) (search rules) (search rules) (search rules) (search rules) (search rules) (search rules) (search rules) (search rules) (search rules) returns)
+pub lay_sizes_spec : {M : Type 1} → statement M
+lay_sizes_spec = tie.close (tie.spec (search rules) (search rules) (search rules) (search rules) (search rules) (search rules) (search rules) (search rules) (search rules) (search rules) (search rules) (search rules) (search rules) (search rules) (search rules) (search rules) (search rules) (search rules) (search rules) (search rules) (search rules) returns)

@@ -16,5 +16,5 @@ returns c =
     let s : tie.Start = search in
     lay-three _ _ _ _ _ _ _ _ _ _ _ y.put-u32-pair.ensures z.put-u32-pair2.ensures w.put-u32-pair3.ensures (times-of _) (size_is word-pair-fixed _) (size-behind word-pair-fixed _ _ _ refl) (omega arith) (times_long _)
 
-pub lay-times-spec : {M : Type 1} → statement M
-lay-times-spec = tie.close (tie.spec (search rules) (search rules) (search rules) (search rules) (search rules) (search rules) (search rules) (search rules) (search rules) (search rules) (search rules) (search rules) (search rules) (search rules) (search rules) (search rules) (search rules) (search rules) (search rules) (search rules) (search rules) (search rules) (search rules) (search rules) (search rules) returns)
+pub lay_times_spec : {M : Type 1} → statement M
+lay_times_spec = tie.close (tie.spec (search rules) (search rules) (search rules) (search rules) (search rules) (search rules) (search rules) (search rules) (search rules) (search rules) (search rules) (search rules) (search rules) (search rules) (search rules) (search rules) (search rules) (search rules) (search rules) (search rules) (search rules) (search rules) (search rules) (search rules) (search rules) returns)

@@ -3,5 +3,5 @@ use Rattle.door.specs.Laws.Given.{write-wide, write_as, sattr3-wide, sattr3-some
 use Rattle.door.proofs.values_write.write_sattr3_carefully.Statement.{statement}
 use Rattle.door.proofs.values_write.write_sattr3_carefully.Tie as tie
 
-pub write-sattr3-carefully-spec : {M : Type 1} → statement M
-write-sattr3-carefully-spec = tie.close (tie.spec (search rules) (λ c. search (write-wide, sattr3-wide, rules)) (search rules) (search rules) (search rules) (search rules) (search rules) (λ c. search (write_as, sattr3-some, rules)))
+pub write_sattr3_carefully_spec : {M : Type 1} → statement M
+write_sattr3_carefully_spec = tie.close (tie.spec (search rules) (λ c. search (write-wide, sattr3-wide, rules)) (search rules) (search rules) (search rules) (search rules) (search rules) (λ c. search (write_as, sattr3-some, rules)))

@@ -9,5 +9,5 @@ again c =
     let z : tie.After-write-call-carefully = search in
     simp whole_back (simp whole at z.write-call-carefully.ensures)
 
-pub yugerzat-write-call-spec : {M : Type 1} → statement M
-yugerzat-write-call-spec = tie.close (tie.spec (λ c. search (write-no-fields, rules)) (λ c. search (write-short, rules)) (search rules) (search rules) (search rules) (search rules) (λ c. search rules) (search rules) (search rules) (search rules) (search rules) (search rules) (search rules) (search rules) (search rules) (search rules) (search rules) (search rules) (search rules) (search rules) (search rules) (search rules) (search rules) (search rules) (search rules) again)
+pub yugerzat_write_call_spec : {M : Type 1} → statement M
+yugerzat_write_call_spec = tie.close (tie.spec (λ c. search (write-no-fields, rules)) (λ c. search (write-short, rules)) (search rules) (search rules) (search rules) (search rules) (λ c. search rules) (search rules) (search rules) (search rules) (search rules) (search rules) (search rules) (search rules) (search rules) (search rules) (search rules) (search rules) (search rules) (search rules) (search rules) (search rules) (search rules) (search rules) (search rules) again)

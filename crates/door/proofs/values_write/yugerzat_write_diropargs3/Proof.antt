@@ -3,5 +3,5 @@ use Rattle.door.specs.Laws.Given.{write-no-fields, write-short, diropargs3-fits,
 use Rattle.door.proofs.values_write.yugerzat_write_diropargs3.Statement.{statement}
 use Rattle.door.proofs.values_write.yugerzat_write_diropargs3.Tie as tie
 
-pub yugerzat-write-diropargs3-spec : {M : Type 1} → statement M
-yugerzat-write-diropargs3-spec = tie.close (tie.spec (λ c. search (write-no-fields, rules)) (λ c. search (write-short, rules)) (search rules) (search rules) (search rules) (search rules) (search rules) (search rules) (search rules) (search rules) (search rules) (search rules) (search rules) (search rules) (search rules) (search rules) (search rules) (search rules) (search rules) (search rules) (search rules) (search rules) (search rules) (search rules) (λ c. search diropargs3-again) (search rules) (search rules) (search rules) (λ c. search (diropargs3-fits, rules)))
+pub yugerzat_write_diropargs3_spec : {M : Type 1} → statement M
+yugerzat_write_diropargs3_spec = tie.close (tie.spec (λ c. search (write-no-fields, rules)) (λ c. search (write-short, rules)) (search rules) (search rules) (search rules) (search rules) (search rules) (search rules) (search rules) (search rules) (search rules) (search rules) (search rules) (search rules) (search rules) (search rules) (search rules) (search rules) (search rules) (search rules) (search rules) (search rules) (search rules) (search rules) (λ c. search diropargs3-again) (search rules) (search rules) (search rules) (λ c. search (diropargs3-fits, rules)))

@@ -35,5 +35,5 @@ returns-4 c =
     let q : tie.After-sattr3-quick = search in
     search (rules, write-laid q.sattr3-quick.ensures t.if3.left)
 
-pub yugerzat-write-sattr3-spec : {M : Type 1} → statement M
-yugerzat-write-sattr3-spec = tie.close (tie.spec (λ c. search (write-no-fields, rules)) (λ c. search (write-short, rules)) (search rules) (search rules) (search rules) (search rules) (search rules) (search rules) (search rules) (search rules) (search rules) (search rules) (search rules) (search rules) (search rules) (λ c. search sattr3-again) start-in start-in-2 (search rules) lay-requires add-info (search rules) (search rules) (search rules) returns-4)
+pub yugerzat_write_sattr3_spec : {M : Type 1} → statement M
+yugerzat_write_sattr3_spec = tie.close (tie.spec (λ c. search (write-no-fields, rules)) (λ c. search (write-short, rules)) (search rules) (search rules) (search rules) (search rules) (search rules) (search rules) (search rules) (search rules) (search rules) (search rules) (search rules) (search rules) (search rules) (λ c. search sattr3-again) start-in start-in-2 (search rules) lay-requires add-info (search rules) (search rules) (search rules) returns-4)

@@ -3,5 +3,5 @@ use Rattle.door.specs.Laws.Walked.{walk-lost, walk-two}
 use Rattle.door.proofs.walk.walk_fields.Statement.{statement}
 use Rattle.door.proofs.walk.walk_fields.Tie as tie
 
-pub walk-fields-spec : {M : Type 1} → statement M
-walk-fields-spec = tie.close (tie.spec (search rules) (search rules) (search rules) (λ c. search walk-lost) (search rules) (λ c. search walk-two))
+pub walk_fields_spec : {M : Type 1} → statement M
+walk_fields_spec = tie.close (tie.spec (search rules) (search rules) (search rules) (λ c. search walk-lost) (search rules) (λ c. search walk-two))

@@ -5,5 +5,5 @@ use Rattle.door.specs.Laws.Walked.{walk-lost, walk_none, walk-some}
 use Rattle.door.proofs.walk.walk_word.Statement.{statement}
 use Rattle.door.proofs.walk.walk_word.Tie as tie
 
-pub walk-word-spec : {M : Type 1} → statement M
-walk-word-spec = tie.close (tie.spec (search rules) (search rules) (search rules) (λ c. search walk-lost) (λ c. search (walk_none view_u32 word)) (search rules) (search rules) (search rules) (λ c. search walk-lost) (λ c. search (walk-some view_u32 word)))
+pub walk_word_spec : {M : Type 1} → statement M
+walk_word_spec = tie.close (tie.spec (search rules) (search rules) (search rules) (λ c. search walk-lost) (λ c. search (walk_none view_u32 word)) (search rules) (search rules) (search rules) (λ c. search walk-lost) (λ c. search (walk-some view_u32 word)))

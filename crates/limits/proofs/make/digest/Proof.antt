@@ -10,8 +10,8 @@ invariant-loop bytes sum₀ i₀ sum i = (i ≤ length bytes) × (sum < 42949672
 abbrev decreases-loop : tie.decreases-loop
 decreases-loop bytes sum₀ i₀ sum i = length bytes - i
 
-pub digest-spec : {M : Type 1} → statement M
-digest-spec =
+pub digest_spec : {M : Type 1} → statement M
+digest_spec =
     tie.close
     (tie.spec
     invariant-loop decreases-loop (search rules) (search rules) (search rules) (search rules) (search rules) (search rules) (search rules) (search rules)

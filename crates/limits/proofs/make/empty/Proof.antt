@@ -17,8 +17,8 @@ loop-less c = simp length-set (search rules)
 loop-again : tie.Need-loop-preserved invariant-loop decreases-loop
 loop-again c = simp length-set (search rules)
 
-pub empty-spec : {M : Type 1} → statement M
-empty-spec =
+pub empty_spec : {M : Type 1} → statement M
+empty_spec =
     tie.close
     (tie.spec
     invariant-loop decreases-loop (search rules) (search rules) (search rules) loop-less loop-again (search rules) (search rules))

@@ -7,5 +7,5 @@ use Rattle.limits.proofs.make.largest.Tie as tie
 returns : tie.Need-returns
 returns c = sym (length-replicate {0} {A = ℕ} 1048584 238)
 
-pub largest-spec : {M : Type 1} → statement M
-largest-spec = tie.close (tie.spec returns)
+pub largest_spec : {M : Type 1} → statement M
+largest_spec = tie.close (tie.spec returns)

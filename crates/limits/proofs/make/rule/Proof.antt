@@ -17,8 +17,8 @@ loop-less c = simp length-set (search rules)
 loop-again : tie.Need-loop-preserved invariant-loop decreases-loop
 loop-again c = simp length-set (search rules)
 
-pub rule-spec : {M : Type 1} → statement M
-rule-spec =
+pub rule_spec : {M : Type 1} → statement M
+rule_spec =
     tie.close
     (tie.spec
     invariant-loop decreases-loop (search rules) (search rules) (search rules) (search rules) loop-less loop-again (search rules) (search rules))

@@ -3,8 +3,8 @@ use Rattle.mount.specs.Laws.Ask.{ask-refused, ask-replied, ask-silent, ask-hande
 use Rattle.mount.proofs.asking.ask.Statement.{statement}
 use Rattle.mount.proofs.asking.ask.Tie as tie
 
-pub ask-spec : {M : Type 1} → statement M
-ask-spec =
+pub ask_spec : {M : Type 1} → statement M
+ask_spec =
     tie.close
     (tie.spec
     (search rules) (search rules) (search rules) (search rules) (search rules) (search rules) (search rules) (search rules) (λ c. search ask-refused) (search rules) (λ c. search ask-replied) (search rules) (λ c. search ask-silent) (search rules)

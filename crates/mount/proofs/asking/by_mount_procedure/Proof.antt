@@ -3,8 +3,8 @@ use Rattle.mount.specs.Laws.Ask.{accepted-sends, mount-null, mount-mnt, mount-um
 use Rattle.mount.proofs.asking.by_mount_procedure.Statement.{statement}
 use Rattle.mount.proofs.asking.by_mount_procedure.Tie as tie
 
-pub by-mount-procedure-spec : {M : Type 1} → statement M
-by-mount-procedure-spec =
+pub by_mount_procedure_spec : {M : Type 1} → statement M
+by_mount_procedure_spec =
     tie.close
     (tie.spec
     (search rules) (λ c κs. search accepted-sends) (search rules) (search rules) (search rules) (λ c κs. search accepted-sends) (search rules) (λ c. search mount-null) (λ c. search mount-mnt) (λ c. search mount-umnt)

@@ -3,8 +3,8 @@ use Rattle.mount.specs.Laws.Ask.{accepted-sends, version-other, version-served}
 use Rattle.mount.proofs.asking.by_mount_version.Statement.{statement}
 use Rattle.mount.proofs.asking.by_mount_version.Tie as tie
 
-pub by-mount-version-spec : {M : Type 1} → statement M
-by-mount-version-spec =
+pub by_mount_version_spec : {M : Type 1} → statement M
+by_mount_version_spec =
     tie.close
     (tie.spec
     (search rules) (λ c κs. search accepted-sends) (search rules) (λ c. search version-other) (search rules) (search rules) (λ c. search version-served))

@@ -3,8 +3,8 @@ use Rattle.mount.specs.Laws.Ask.{accepted-sends, version-other, version-served}
 use Rattle.mount.proofs.asking.by_portmap_version.Statement.{statement}
 use Rattle.mount.proofs.asking.by_portmap_version.Tie as tie
 
-pub by-portmap-version-spec : {M : Type 1} → statement M
-by-portmap-version-spec =
+pub by_portmap_version_spec : {M : Type 1} → statement M
+by_portmap_version_spec =
     tie.close
     (tie.spec
     (search rules) (λ c κs. search accepted-sends) (search rules) (λ c. search version-other) (search rules) (search rules) (λ c. search version-served))

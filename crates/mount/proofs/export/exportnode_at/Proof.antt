@@ -6,9 +6,9 @@ use Rattle.mount.specs.Meaning.Export.{node}
 use Rattle.mount.proofs.export.exportnode_at.Statement.{statement}
 use Rattle.mount.proofs.export.exportnode_at.Tie as tie
 
-pub exportnode-at-spec : {M : Type 1} → statement M
+pub exportnode_at_spec : {M : Type 1} → statement M
 unfolding node
-exportnode-at-spec =
+exportnode_at_spec =
     tie.close
     (tie.spec
     (search rules) (search rules) (search rules) (search rules) (λ c. search (planned node-plan, asks, marked) depth 20) (search rules)

@@ -5,8 +5,8 @@ use Rattle.mount.proofs.export.lay_exports.Tie as tie
 
 ruleset lays = (rules, lay-ahead, lay-end, lay-room, lay-copied)
 
-pub lay-exports-spec : {M : Type 1} → statement M
-lay-exports-spec =
+pub lay_exports_spec : {M : Type 1} → statement M
+lay_exports_spec =
     tie.close
     (tie.spec
     (λ c. search lays) (λ c. search lays) (λ c. search lays) (λ c. search lays) (search rules) (λ c. search lays) (search rules)

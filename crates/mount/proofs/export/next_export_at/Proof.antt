@@ -3,8 +3,8 @@ use Rattle.mount.specs.Laws.Export.{next-off, next-end, next-kept, next-over, ne
 use Rattle.mount.proofs.export.next_export_at.Statement.{statement}
 use Rattle.mount.proofs.export.next_export_at.Tie as tie
 
-pub next-export-at-spec : {M : Type 1} → statement M
-next-export-at-spec =
+pub next_export_at_spec : {M : Type 1} → statement M
+next_export_at_spec =
     tie.close
     (tie.spec
     (search rules) (search rules) (search rules) (λ c. search (rules, next-off)) (search rules) (search rules) (λ c. search (rules, next-end))

@@ -6,9 +6,9 @@ use Rattle.mount.specs.Meaning.Export.{next_node}
 use Rattle.mount.proofs.export.next_node_at.Statement.{statement}
 use Rattle.mount.proofs.export.next_node_at.Tie as tie
 
-pub next-node-at-spec : {M : Type 1} → statement M
+pub next_node_at_spec : {M : Type 1} → statement M
 unfolding next_node
-next-node-at-spec =
+next_node_at_spec =
     tie.close
     (tie.spec
     (search rules) (search rules) (search rules) (search rules)

@@ -5,8 +5,8 @@ use Rattle.mount.specs.Meaning.Export.{node}
 use Rattle.mount.proofs.export.put_entry.Statement.{statement}
 use Rattle.mount.proofs.export.put_entry.Tie as tie
 
-pub put-entry-spec : {M : Type 1} → statement M
-put-entry-spec =
+pub put_entry_spec : {M : Type 1} → statement M
+put_entry_spec =
     tie.close
     (tie.spec
     (λ c. search (front-none (fixed-writer flag-fixed) node)) (search rules) (search rules) (search rules) (search rules) (search rules)

@@ -6,8 +6,8 @@ use Rattle.mount.specs.Meaning.Group.{groups}
 use Rattle.mount.proofs.export.put_node_1.Statement.{statement}
 use Rattle.mount.proofs.export.put_node_1.Tie as tie
 
-pub put-node-1-spec : {M : Type 1} → statement M
-put-node-1-spec =
+pub put_node_1_spec : {M : Type 1} → statement M
+put_node_1_spec =
     tie.close
     (tie.spec
     (search rules) (λ c. search (front-none bytes-writer groups)) (search rules) (search rules) (search rules) (search rules) (search rules)

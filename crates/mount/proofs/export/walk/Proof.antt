@@ -37,8 +37,8 @@ loop-less c = search entries
 loop-again : tie.Need-loop-preserved invariant-loop decreases-loop
 loop-again c = (search entries, search entries)
 
-pub walk-spec : {M : Type 1} → statement M
-walk-spec =
+pub walk_spec : {M : Type 1} → statement M
+walk_spec =
     tie.close
     (tie.spec
     invariant-loop decreases-loop loop-holds (search rules) (search rules) (search rules) (search rules) returns (search rules) (search rules) (search rules)

@@ -5,8 +5,8 @@ use Rattle.mount.proofs.export.write_exports.Tie as tie
 
 ruleset writes = (rules, walk_is, list-gone, list_over)
 
-pub write-exports-spec : {M : Type 1} → statement M
-write-exports-spec =
+pub write_exports_spec : {M : Type 1} → statement M
+write_exports_spec =
     tie.close
     (tie.spec
     (search rules) (search rules) (search rules) (search rules) (λ c κs. search writes) (search rules) (search rules) (λ c. search writes)

@@ -5,8 +5,8 @@ use Rattle.mount.proofs.export.write_walked.Tie as tie
 
 ruleset writes = (rules, list_read, list-ahead, list-refuses, list-place, list-room, list-writes)
 
-pub write-walked-spec : {M : Type 1} → statement M
-write-walked-spec =
+pub write_walked_spec : {M : Type 1} → statement M
+write_walked_spec =
     tie.close
     (tie.spec
     (λ c. search writes) (search rules) (search rules) (search rules) (λ c. search writes) (λ c. search writes) (λ c. search writes) (search rules)

@@ -34,8 +34,8 @@ loop-less c = search names
 loop-again : tie.Need-loop-preserved invariant-loop decreases-loop
 loop-again c = (search names, search names)
 
-pub names-behind-spec : {M : Type 1} → statement M
-names-behind-spec =
+pub names_behind_spec : {M : Type 1} → statement M
+names_behind_spec =
     tie.close
     (tie.spec
     invariant-loop decreases-loop loop-holds (search rules) (search rules) (search rules) (search rules) returns (search rules) (search rules) returns-2

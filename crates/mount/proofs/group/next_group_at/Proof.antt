@@ -6,9 +6,9 @@ use Rattle.mount.specs.Meaning.Group.{next-group}
 use Rattle.mount.proofs.group.next_group_at.Statement.{statement}
 use Rattle.mount.proofs.group.next_group_at.Tie as tie
 
-pub next-group-at-spec : {M : Type 1} → statement M
+pub next_group_at_spec : {M : Type 1} → statement M
 unfolding next-group
-next-group-at-spec =
+next_group_at_spec =
     tie.close
     (tie.spec
     (search rules) (search rules) (search rules) (search rules) (λ c. search (planned next-group-plan, asks, marked) depth 20)

@@ -41,8 +41,8 @@ loop-less c = search lays
 loop-again : tie.Need-loop-preserved invariant-loop decreases-loop
 loop-again c = (search lays, search lays, search lays)
 
-pub put-groups-spec : {M : Type 1} → statement M
-put-groups-spec =
+pub put_groups_spec : {M : Type 1} → statement M
+put_groups_spec =
     tie.close
     (tie.spec
     invariant-loop decreases-loop loop-holds (search rules) (search rules) (search rules) (search rules) returns sub-if1 (search rules) returns-2 (search rules)

@@ -5,8 +5,8 @@ use Rattle.xdr.specs.Laws.Writers.{bytes-writer}
 use Rattle.mount.proofs.group.put_name.Statement.{statement}
 use Rattle.mount.proofs.group.put_name.Tie as tie
 
-pub put-name-spec : {M : Type 1} → statement M
-put-name-spec =
+pub put_name_spec : {M : Type 1} → statement M
+put_name_spec =
     tie.close
     (tie.spec
     (λ c. search (lays-none (fixed-writer flag-fixed) bytes-writer)) (search rules) (search rules) (search rules) (search rules) (search rules)

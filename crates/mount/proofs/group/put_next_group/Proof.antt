@@ -4,8 +4,8 @@ use Rattle.mount.specs.Laws.Group.{next-group-optional}
 use Rattle.mount.proofs.group.put_next_group.Statement.{statement}
 use Rattle.mount.proofs.group.put_next_group.Tie as tie
 
-pub put-next-group-spec : {M : Type 1} → statement M
-put-next-group-spec =
+pub put_next_group_spec : {M : Type 1} → statement M
+put_next_group_spec =
     tie.close
     (tie.spec
     (search rules) (search rules) (search rules) (search rules) (search rules) (λ c. search (held-void next-group-optional)) (search rules)

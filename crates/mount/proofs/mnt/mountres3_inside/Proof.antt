@@ -5,5 +5,5 @@ use Rattle.mount.specs.Laws.Mnt.{mountres-status}
 use Rattle.mount.proofs.mnt.mountres3_inside.Statement.{statement}
 use Rattle.mount.proofs.mnt.mountres3_inside.Tie as tie
 
-pub mountres3-inside-spec : {M : Type 1} → statement M
-mountres3-inside-spec = tie.close (tie.spec (search rules) (search rules) (search rules) (λ c. search (ok-inside mountres-status)) (λ c. search (alone-inside mountres-status)))
+pub mountres3_inside_spec : {M : Type 1} → statement M
+mountres3_inside_spec = tie.close (tie.spec (search rules) (search rules) (search rules) (λ c. search (ok-inside mountres-status)) (λ c. search (alone-inside mountres-status)))

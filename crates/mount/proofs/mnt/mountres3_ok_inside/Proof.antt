@@ -4,5 +4,5 @@ use Rattle.mount.specs.Laws.Mnt.{mountres-ok-inside}
 use Rattle.mount.proofs.mnt.mountres3_ok_inside.Statement.{statement}
 use Rattle.mount.proofs.mnt.mountres3_ok_inside.Tie as tie
 
-pub mountres3-ok-inside-spec : {M : Type 1} → statement M
-mountres3-ok-inside-spec = tie.close (tie.spec (search rules) (search rules) (λ c. search mountres-ok-inside))
+pub mountres3_ok_inside_spec : {M : Type 1} → statement M
+mountres3_ok_inside_spec = tie.close (tie.spec (search rules) (search rules) (λ c. search mountres-ok-inside))

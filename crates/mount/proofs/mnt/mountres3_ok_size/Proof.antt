@@ -5,5 +5,5 @@ use Rattle.xdr.specs.Laws.Lays.{sums, by-words}
 use Rattle.mount.proofs.mnt.mountres3_ok_size.Statement.{statement}
 use Rattle.mount.proofs.mnt.mountres3_ok_size.Tie as tie
 
-pub mountres3-ok-size-spec : {M : Type 1} → statement M
-mountres3-ok-size-spec = tie.close (tie.spec (search rules) (search rules) (λ c. search (sums, by-words)) (λ c. omega arith))
+pub mountres3_ok_size_spec : {M : Type 1} → statement M
+mountres3_ok_size_spec = tie.close (tie.spec (search rules) (search rules) (λ c. search (sums, by-words)) (λ c. omega arith))

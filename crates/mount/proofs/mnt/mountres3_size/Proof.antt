@@ -8,5 +8,5 @@ use Rattle.mount.specs.Laws.Mnt.{mountres-ok-most, mountres-status, mountstat-fi
 use Rattle.mount.proofs.mnt.mountres3_size.Statement.{statement}
 use Rattle.mount.proofs.mnt.mountres3_size.Tie as tie
 
-pub mountres3-size-spec : {M : Type 1} → statement M
-mountres3-size-spec = tie.close (tie.spec (search rules) (search rules) (λ c. search (sums, mountres-ok-most)) (search rules) (λ c. search (ok-size mountres-status mountstat-fixed mountres-ok-writer (codec-writer void))) (λ c. search (alone-size mountres-status mountstat-fixed mountres-ok-writer (codec-writer void))))
+pub mountres3_size_spec : {M : Type 1} → statement M
+mountres3_size_spec = tie.close (tie.spec (search rules) (search rules) (λ c. search (sums, mountres-ok-most)) (search rules) (λ c. search (ok-size mountres-status mountstat-fixed mountres-ok-writer (codec-writer void))) (λ c. search (alone-size mountres-status mountstat-fixed mountres-ok-writer (codec-writer void))))

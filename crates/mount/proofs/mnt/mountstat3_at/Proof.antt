@@ -5,6 +5,6 @@ use Rattle.mount.specs.Meaning.Mnt.{mountstat, mountstat_number, mountstat_all, 
 use Rattle.mount.proofs.mnt.mountstat3_at.Statement.{statement}
 use Rattle.mount.proofs.mnt.mountstat3_at.Tie as tie
 
-pub mountstat3-at-spec : {M : Type 1} → statement M
+pub mountstat3_at_spec : {M : Type 1} → statement M
 unfolding mountstat
-mountstat3-at-spec = tie.close (tie.spec (search rules) (search rules) (search rules) (search rules) (λ c. search (tag-lost mountstat_number mountstat_all each_mountstat found_mountstat3)) (search rules) (search rules) (search rules) (λ c. search (tag-none mountstat_number mountstat_all each_mountstat found_mountstat3)) (λ c. search (tag_is mountstat_number mountstat_all each_mountstat found_mountstat3)))
+mountstat3_at_spec = tie.close (tie.spec (search rules) (search rules) (search rules) (search rules) (λ c. search (tag-lost mountstat_number mountstat_all each_mountstat found_mountstat3)) (search rules) (search rules) (search rules) (λ c. search (tag-none mountstat_number mountstat_all each_mountstat found_mountstat3)) (λ c. search (tag_is mountstat_number mountstat_all each_mountstat found_mountstat3)))

@@ -8,5 +8,5 @@ use Rattle.mount.specs.Laws.Mnt.{mountres-writer, mountres-status}
 use Rattle.mount.proofs.mnt.put_mountres3.Statement.{statement}
 use Rattle.mount.proofs.mnt.put_mountres3.Tie as tie
 
-pub put-mountres3-spec : {M : Type 1} → statement M
-put-mountres3-spec = tie.close (tie.spec (λ c. search of-long) (search rules) (λ c. search (put-outside mountres-writer)) (search rules) (λ c. search (put-short mountres-writer)) (search rules) (search rules) (search rules) (search rules) (search rules) (λ c. search (lays_all mountres-writer, ok-lays mountres-status)) (search rules) (λ c. search (lays_all mountres-writer, alone-lays mountres-status)))
+pub put_mountres3_spec : {M : Type 1} → statement M
+put_mountres3_spec = tie.close (tie.spec (λ c. search of-long) (search rules) (λ c. search (put-outside mountres-writer)) (search rules) (λ c. search (put-short mountres-writer)) (search rules) (search rules) (search rules) (search rules) (search rules) (λ c. search (lays_all mountres-writer, ok-lays mountres-status)) (search rules) (λ c. search (lays_all mountres-writer, alone-lays mountres-status)))

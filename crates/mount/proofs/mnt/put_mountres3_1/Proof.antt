@@ -5,5 +5,5 @@ use Rattle.mount.specs.Laws.Mnt.{mountstat-fixed, mountres-ok-writer}
 use Rattle.mount.proofs.mnt.put_mountres3_1.Statement.{statement}
 use Rattle.mount.proofs.mnt.put_mountres3_1.Tie as tie
 
-pub put-mountres3-1-spec : {M : Type 1} → statement M
-put-mountres3-1-spec = tie.close (tie.spec (λ c. search (lays-none (fixed-writer mountstat-fixed) mountres-ok-writer)) (search rules) (search rules) (search rules) (search rules) (search rules) (search rules) (search rules) (search rules) (search rules) (λ c. search (lays-both (fixed-writer mountstat-fixed) mountres-ok-writer, lays-of, lays-codec)))
+pub put_mountres3_1_spec : {M : Type 1} → statement M
+put_mountres3_1_spec = tie.close (tie.spec (λ c. search (lays-none (fixed-writer mountstat-fixed) mountres-ok-writer)) (search rules) (search rules) (search rules) (search rules) (search rules) (search rules) (search rules) (search rules) (search rules) (λ c. search (lays-both (fixed-writer mountstat-fixed) mountres-ok-writer, lays-of, lays-codec)))

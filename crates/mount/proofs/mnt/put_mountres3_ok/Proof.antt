@@ -7,5 +7,5 @@ use Rattle.mount.specs.Laws.Mnt.{mountres-ok-writer, mountres-ok-lays}
 use Rattle.mount.proofs.mnt.put_mountres3_ok.Statement.{statement}
 use Rattle.mount.proofs.mnt.put_mountres3_ok.Tie as tie
 
-pub put-mountres3-ok-spec : {M : Type 1} → statement M
-put-mountres3-ok-spec = tie.close (tie.spec (λ c. search of-long) (search rules) (λ c. search (put-outside mountres-ok-writer)) (search rules) (λ c. search (put-short mountres-ok-writer)) (search rules) (search rules) (λ c. search (lays_all mountres-ok-writer, mountres-ok-lays)))
+pub put_mountres3_ok_spec : {M : Type 1} → statement M
+put_mountres3_ok_spec = tie.close (tie.spec (λ c. search of-long) (search rules) (λ c. search (put-outside mountres-ok-writer)) (search rules) (λ c. search (put-short mountres-ok-writer)) (search rules) (search rules) (λ c. search (lays_all mountres-ok-writer, mountres-ok-lays)))

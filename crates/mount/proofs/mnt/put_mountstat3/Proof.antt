@@ -5,5 +5,5 @@ use Rattle.mount.specs.Laws.Mnt.{mountstat-bytes}
 use Rattle.mount.proofs.mnt.put_mountstat3.Statement.{statement}
 use Rattle.mount.proofs.mnt.put_mountstat3.Tie as tie
 
-pub put-mountstat3-spec : {M : Type 1} → statement M
-put-mountstat3-spec = tie.close (tie.spec (search rules) (search rules) (search rules) (λ c. search (lays, mountstat-bytes)))
+pub put_mountstat3_spec : {M : Type 1} → statement M
+put_mountstat3_spec = tie.close (tie.spec (search rules) (search rules) (search rules) (λ c. search (lays, mountstat-bytes)))

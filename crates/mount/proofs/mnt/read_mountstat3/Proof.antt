@@ -3,5 +3,5 @@ use Rattle.xdr.specs.Laws.Plans.{reads}
 use Rattle.mount.proofs.mnt.read_mountstat3.Statement.{statement}
 use Rattle.mount.proofs.mnt.read_mountstat3.Tie as tie
 
-pub read-mountstat3-spec : {M : Type 1} → statement M
-read-mountstat3-spec = tie.close (tie.spec (search reads) (search reads) (search reads) (search reads) (λ c. search reads) (λ c. search reads))
+pub read_mountstat3_spec : {M : Type 1} → statement M
+read_mountstat3_spec = tie.close (tie.spec (search reads) (search reads) (search reads) (search reads) (λ c. search reads) (λ c. search reads))

@@ -6,5 +6,5 @@ use Rattle.mount.specs.Laws.Mnt.{mountres-writer}
 use Rattle.mount.proofs.mnt.write_mountres3.Statement.{statement}
 use Rattle.mount.proofs.mnt.write_mountres3.Tie as tie
 
-pub write-mountres3-spec : {M : Type 1} → statement M
-write-mountres3-spec = tie.close (tie.spec (search rules) (search rules) (search rules) (search rules) (search rules) (λ c. search (write-off mountres-writer)) (λ c. search (write-place mountres-writer)) (λ c. search (write-place mountres-writer)) (search rules) (search rules) (search rules) (λ c. search (write-in mountres-writer, mountres-good)))
+pub write_mountres3_spec : {M : Type 1} → statement M
+write_mountres3_spec = tie.close (tie.spec (search rules) (search rules) (search rules) (search rules) (search rules) (λ c. search (write-off mountres-writer)) (λ c. search (write-place mountres-writer)) (λ c. search (write-place mountres-writer)) (search rules) (search rules) (search rules) (λ c. search (write-in mountres-writer, mountres-good)))

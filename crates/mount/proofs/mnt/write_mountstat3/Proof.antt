@@ -4,5 +4,5 @@ use Rattle.mount.specs.Laws.Mnt.{mountstat-writes}
 use Rattle.mount.proofs.mnt.write_mountstat3.Statement.{statement}
 use Rattle.mount.proofs.mnt.write_mountstat3.Tie as tie
 
-pub write-mountstat3-spec : {M : Type 1} → statement M
-write-mountstat3-spec = tie.close (tie.spec (search rules) (search rules) (search rules) (λ c. search mountstat-writes))
+pub write_mountstat3_spec : {M : Type 1} → statement M
+write_mountstat3_spec = tie.close (tie.spec (search rules) (search rules) (search rules) (λ c. search mountstat-writes))

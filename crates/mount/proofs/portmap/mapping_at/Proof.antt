@@ -8,6 +8,6 @@ use Rattle.mount.specs.Meaning.Portmap.{port_mapping}
 use Rattle.mount.proofs.portmap.mapping_at.Statement.{statement}
 use Rattle.mount.proofs.portmap.mapping_at.Tie as tie
 
-pub mapping-at-spec : {M : Type 1} → statement M
+pub mapping_at_spec : {M : Type 1} → statement M
 unfolding port_mapping
-mapping-at-spec = tie.close (tie.spec (search rules) (search rules) (search rules) (search rules) (λ c. search (by-plan port-mapping-plan, asks, marked) depth 20) (search rules) (search rules) (search rules) (search rules) (λ c. search (by-plan port-mapping-plan, asks, marked) depth 20) (search rules) (search rules) (search rules) (search rules) (λ c. search (by-plan port-mapping-plan, asks, marked) depth 20) (search rules) (search rules) (search rules) (search rules) (λ c. search (by-plan port-mapping-plan, asks, marked) depth 20) (λ c. search (by-plan port-mapping-plan, asks, marked) depth 20))
+mapping_at_spec = tie.close (tie.spec (search rules) (search rules) (search rules) (search rules) (λ c. search (by-plan port-mapping-plan, asks, marked) depth 20) (search rules) (search rules) (search rules) (search rules) (λ c. search (by-plan port-mapping-plan, asks, marked) depth 20) (search rules) (search rules) (search rules) (search rules) (λ c. search (by-plan port-mapping-plan, asks, marked) depth 20) (search rules) (search rules) (search rules) (search rules) (λ c. search (by-plan port-mapping-plan, asks, marked) depth 20) (λ c. search (by-plan port-mapping-plan, asks, marked) depth 20))

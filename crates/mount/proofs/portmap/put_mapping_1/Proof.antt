@@ -6,5 +6,5 @@ use Rattle.mount.specs.Laws.Portmap.{port-mapping-2}
 use Rattle.mount.proofs.portmap.put_mapping_1.Statement.{statement}
 use Rattle.mount.proofs.portmap.put_mapping_1.Tie as tie
 
-pub put-mapping-1-spec : {M : Type 1} → statement M
-put-mapping-1-spec = tie.close (tie.spec (λ c. search (lays-none (fixed-writer word-fixed) port-mapping-2)) (search rules) (search rules) (search rules) (search rules) (search rules) (search rules) (search rules) (search rules) (search rules) (λ c. search (lays-both (fixed-writer word-fixed) port-mapping-2, lays-of, lays-codec)))
+pub put_mapping_1_spec : {M : Type 1} → statement M
+put_mapping_1_spec = tie.close (tie.spec (λ c. search (lays-none (fixed-writer word-fixed) port-mapping-2)) (search rules) (search rules) (search rules) (search rules) (search rules) (search rules) (search rules) (search rules) (search rules) (λ c. search (lays-both (fixed-writer word-fixed) port-mapping-2, lays-of, lays-codec)))

@@ -6,5 +6,5 @@ use Rattle.mount.specs.Laws.Portmap.{port-mapping-3}
 use Rattle.mount.proofs.portmap.put_mapping_2.Statement.{statement}
 use Rattle.mount.proofs.portmap.put_mapping_2.Tie as tie
 
-pub put-mapping-2-spec : {M : Type 1} → statement M
-put-mapping-2-spec = tie.close (tie.spec (λ c. search (lays-none (fixed-writer word-fixed) port-mapping-3)) (search rules) (search rules) (search rules) (search rules) (search rules) (search rules) (search rules) (search rules) (search rules) (λ c. search (lays-both (fixed-writer word-fixed) port-mapping-3, lays-of, lays-codec)))
+pub put_mapping_2_spec : {M : Type 1} → statement M
+put_mapping_2_spec = tie.close (tie.spec (λ c. search (lays-none (fixed-writer word-fixed) port-mapping-3)) (search rules) (search rules) (search rules) (search rules) (search rules) (search rules) (search rules) (search rules) (search rules) (λ c. search (lays-both (fixed-writer word-fixed) port-mapping-3, lays-of, lays-codec)))

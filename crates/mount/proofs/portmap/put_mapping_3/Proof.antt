@@ -5,5 +5,5 @@ use Rattle.xdr.specs.Laws.Fields.{lays-none, fixed-writer, lays-both, lays-of, l
 use Rattle.mount.proofs.portmap.put_mapping_3.Statement.{statement}
 use Rattle.mount.proofs.portmap.put_mapping_3.Tie as tie
 
-pub put-mapping-3-spec : {M : Type 1} → statement M
-put-mapping-3-spec = tie.close (tie.spec (λ c. search (lays-none (fixed-writer word-fixed) (fixed-writer word-fixed))) (search rules) (search rules) (search rules) (search rules) (search rules) (search rules) (search rules) (search rules) (search rules) (λ c. search (lays-both (fixed-writer word-fixed) (fixed-writer word-fixed), lays-of, lays-codec)))
+pub put_mapping_3_spec : {M : Type 1} → statement M
+put_mapping_3_spec = tie.close (tie.spec (λ c. search (lays-none (fixed-writer word-fixed) (fixed-writer word-fixed))) (search rules) (search rules) (search rules) (search rules) (search rules) (search rules) (search rules) (search rules) (search rules) (λ c. search (lays-both (fixed-writer word-fixed) (fixed-writer word-fixed), lays-of, lays-codec)))

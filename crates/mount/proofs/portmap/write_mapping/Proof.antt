@@ -6,5 +6,5 @@ use Rattle.mount.specs.Laws.Portmap.{port-mapping-fixed}
 use Rattle.mount.proofs.portmap.write_mapping.Statement.{statement}
 use Rattle.mount.proofs.portmap.write_mapping.Tie as tie
 
-pub write-mapping-spec : {M : Type 1} → statement M
-write-mapping-spec = tie.close (tie.spec (search rules) (search rules) (search rules) (λ c. search (rules, fixed_off port-mapping-fixed)) (λ c. search rooms) (λ c. search rooms) (search rules) (search rules) (search rules) (λ c. search (rules, fixed_on port-mapping-fixed, port-mapping-good)))
+pub write_mapping_spec : {M : Type 1} → statement M
+write_mapping_spec = tie.close (tie.spec (search rules) (search rules) (search rules) (λ c. search (rules, fixed_off port-mapping-fixed)) (λ c. search rooms) (λ c. search rooms) (search rules) (search rules) (search rules) (λ c. search (rules, fixed_on port-mapping-fixed, port-mapping-good)))

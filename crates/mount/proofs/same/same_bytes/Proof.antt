@@ -46,8 +46,8 @@ loop-again c = search same
 returns-3 : tie.Need-returns-3 invariant-loop decreases-loop
 returns-3 c = search same
 
-pub same-bytes-spec : {M : Type 1} → statement M
-same-bytes-spec =
+pub same_bytes_spec : {M : Type 1} → statement M
+same_bytes_spec =
     tie.close
     (tie.spec
     invariant-loop decreases-loop returns loop-holds add-if2 shared-slice-read-if2 add-if2-2 shared-slice-read-if2-2 returns-2 add-k loop-less loop-again

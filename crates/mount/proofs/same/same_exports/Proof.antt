@@ -8,8 +8,8 @@ ruleset compared = (rules, left-too-long, right-too-long, is-outside, is-long, l
 same-nodes-requires : tie.Need-same-nodes-requires
 same-nodes-requires c κs = (search compared, search compared)
 
-pub same-exports-spec : {M : Type 1} → statement M
-same-exports-spec =
+pub same_exports_spec : {M : Type 1} → statement M
+same_exports_spec =
     tie.close
     (tie.spec
     (λ c. search compared) (λ c. search compared) (λ c κs. search rules) (λ c κs. search rules) (λ c κs. search rules) (search rules)

@@ -37,8 +37,8 @@ loop-less c = search (rules, step_less group_steps)
 loop-again : tie.Need-loop-preserved invariant-loop decreases-loop
 loop-again c = search (rules, walk-on group_steps)
 
-pub same-groups-spec : {M : Type 1} → statement M
-same-groups-spec =
+pub same_groups_spec : {M : Type 1} → statement M
+same_groups_spec =
     tie.close
     (tie.spec
     invariant-loop decreases-loop loop-holds (search rules) (search rules) (search rules) returns (search rules) (search rules) (search rules) returns-2 same-next-group-requires returns-3 (search rules) (search rules) returns-4 loop-less loop-again)

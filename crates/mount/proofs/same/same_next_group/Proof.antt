@@ -19,8 +19,8 @@ same-bytes-requires c κs = (search (rules, found_inside group_steps), search (r
 returns-4 : tie.Need-returns-4
 returns-4 c = search (rules, found-both group_steps)
 
-pub same-next-group-spec : {M : Type 1} → statement M
-same-next-group-spec =
+pub same_next_group_spec : {M : Type 1} → statement M
+same_next_group_spec =
     tie.close
     (tie.spec
     (search rules) (search rules) (search rules) (search rules) returns returns-2 (search rules) (search rules) returns-3 same-bytes-requires returns-4)

@@ -19,8 +19,8 @@ same-node-requires c κs = (search (rules, found_inside node_steps), search (rul
 returns-4 : tie.Need-returns-4
 returns-4 c = search (rules, found-both node_steps)
 
-pub same-next-node-spec : {M : Type 1} → statement M
-same-next-node-spec =
+pub same_next_node_spec : {M : Type 1} → statement M
+same_next_node_spec =
     tie.close
     (tie.spec
     (search rules) (search rules) (search rules) (search rules) returns returns-2 (search rules) (search rules) returns-3 same-node-requires returns-4)

@@ -15,5 +15,5 @@ same-groups-requires c κs = (search (rules, groups-inside), search (rules, grou
 returns-2 : tie.Need-returns-2
 returns-2 c = search (rules, groups-tell)
 
-pub same-node-spec : {M : Type 1} → statement M
-same-node-spec = tie.close (tie.spec same-bytes-requires returns same-groups-requires returns-2)
+pub same_node_spec : {M : Type 1} → statement M
+same_node_spec = tie.close (tie.spec same-bytes-requires returns same-groups-requires returns-2)

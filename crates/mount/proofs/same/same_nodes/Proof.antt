@@ -37,8 +37,8 @@ loop-less c = search (rules, step_less node_steps)
 loop-again : tie.Need-loop-preserved invariant-loop decreases-loop
 loop-again c = search (rules, walk-on node_steps)
 
-pub same-nodes-spec : {M : Type 1} → statement M
-same-nodes-spec =
+pub same_nodes_spec : {M : Type 1} → statement M
+same_nodes_spec =
     tie.close
     (tie.spec
     invariant-loop decreases-loop loop-holds (search rules) (search rules) (search rules) returns (search rules) (search rules) (search rules) returns-2 same-next-node-requires returns-3 (search rules) (search rules) returns-4 loop-less loop-again)

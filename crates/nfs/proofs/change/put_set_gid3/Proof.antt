@@ -6,5 +6,5 @@ use Rattle.nfs.specs.Laws.Change.{set-gid-optional}
 use Rattle.nfs.proofs.change.put_set_gid3.Statement.{statement}
 use Rattle.nfs.proofs.change.put_set_gid3.Tie as tie
 
-pub put-set-gid3-spec : {M : Type 1} → statement M
-put-set-gid3-spec = tie.close (tie.spec (search rules) (search rules) (search rules) (search rules) (search rules) (λ c. search (lays, none-bytes set-gid-optional)) (search rules) (λ c. search (lays, some_word set-gid-optional)))
+pub put_set_gid3_spec : {M : Type 1} → statement M
+put_set_gid3_spec = tie.close (tie.spec (search rules) (search rules) (search rules) (search rules) (search rules) (λ c. search (lays, none-bytes set-gid-optional)) (search rules) (λ c. search (lays, some_word set-gid-optional)))

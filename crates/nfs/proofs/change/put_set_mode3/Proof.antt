@@ -6,5 +6,5 @@ use Rattle.nfs.specs.Laws.Change.{set-mode-optional}
 use Rattle.nfs.proofs.change.put_set_mode3.Statement.{statement}
 use Rattle.nfs.proofs.change.put_set_mode3.Tie as tie
 
-pub put-set-mode3-spec : {M : Type 1} → statement M
-put-set-mode3-spec = tie.close (tie.spec (search rules) (search rules) (search rules) (search rules) (search rules) (λ c. search (lays, none-bytes set-mode-optional)) (search rules) (λ c. search (lays, some_word set-mode-optional)))
+pub put_set_mode3_spec : {M : Type 1} → statement M
+put_set_mode3_spec = tie.close (tie.spec (search rules) (search rules) (search rules) (search rules) (search rules) (λ c. search (lays, none-bytes set-mode-optional)) (search rules) (λ c. search (lays, some_word set-mode-optional)))

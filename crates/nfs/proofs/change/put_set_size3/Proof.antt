@@ -6,5 +6,5 @@ use Rattle.nfs.specs.Laws.Change.{set-size-optional}
 use Rattle.nfs.proofs.change.put_set_size3.Statement.{statement}
 use Rattle.nfs.proofs.change.put_set_size3.Tie as tie
 
-pub put-set-size3-spec : {M : Type 1} → statement M
-put-set-size3-spec = tie.close (tie.spec (search rules) (search rules) (search rules) (search rules) (search rules) (λ c. search (lays, none-bytes set-size-optional)) (search rules) (λ c. search (lays, some-hyper set-size-optional)))
+pub put_set_size3_spec : {M : Type 1} → statement M
+put_set_size3_spec = tie.close (tie.spec (search rules) (search rules) (search rules) (search rules) (search rules) (λ c. search (lays, none-bytes set-size-optional)) (search rules) (λ c. search (lays, some-hyper set-size-optional)))

@@ -6,5 +6,5 @@ use Rattle.nfs.specs.Laws.Change.{set-uid-optional}
 use Rattle.nfs.proofs.change.put_set_uid3.Statement.{statement}
 use Rattle.nfs.proofs.change.put_set_uid3.Tie as tie
 
-pub put-set-uid3-spec : {M : Type 1} → statement M
-put-set-uid3-spec = tie.close (tie.spec (search rules) (search rules) (search rules) (search rules) (search rules) (λ c. search (lays, none-bytes set-uid-optional)) (search rules) (λ c. search (lays, some_word set-uid-optional)))
+pub put_set_uid3_spec : {M : Type 1} → statement M
+put_set_uid3_spec = tie.close (tie.spec (search rules) (search rules) (search rules) (search rules) (search rules) (λ c. search (lays, none-bytes set-uid-optional)) (search rules) (λ c. search (lays, some_word set-uid-optional)))

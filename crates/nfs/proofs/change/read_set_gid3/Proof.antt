@@ -3,5 +3,5 @@ use Rattle.xdr.specs.Laws.Plans.{reads}
 use Rattle.nfs.proofs.change.read_set_gid3.Statement.{statement}
 use Rattle.nfs.proofs.change.read_set_gid3.Tie as tie
 
-pub read-set-gid3-spec : {M : Type 1} → statement M
-read-set-gid3-spec = tie.close (tie.spec (search reads) (search reads) (search reads) (search reads) (λ c. search reads) (λ c. search reads))
+pub read_set_gid3_spec : {M : Type 1} → statement M
+read_set_gid3_spec = tie.close (tie.spec (search reads) (search reads) (search reads) (search reads) (λ c. search reads) (λ c. search reads))

@@ -6,5 +6,5 @@ use Rattle.nfs.specs.Laws.Change.{set-gid-optional}
 use Rattle.nfs.proofs.change.set_gid3_size.Statement.{statement}
 use Rattle.nfs.proofs.change.set_gid3_size.Tie as tie
 
-pub set-gid3-size-spec : {M : Type 1} → statement M
-set-gid3-size-spec = tie.close (tie.spec (search rules) (search rules) (λ c. search (none-size set-gid-optional)) (λ c. search (some_size set-gid-optional word-fixed)))
+pub set_gid3_size_spec : {M : Type 1} → statement M
+set_gid3_size_spec = tie.close (tie.spec (search rules) (search rules) (λ c. search (none-size set-gid-optional)) (λ c. search (some_size set-gid-optional word-fixed)))

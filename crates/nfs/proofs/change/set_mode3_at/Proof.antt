@@ -8,6 +8,6 @@ use Rattle.nfs.specs.Meaning.Change.{set_mode}
 use Rattle.nfs.proofs.change.set_mode3_at.Statement.{statement}
 use Rattle.nfs.proofs.change.set_mode3_at.Tie as tie
 
-pub set-mode3-at-spec : {M : Type 1} → statement M
+pub set_mode3_at_spec : {M : Type 1} → statement M
 unfolding set_mode
-set-mode3-at-spec = tie.close (tie.spec (search rules) (search rules) (search rules) (search rules) (λ c. search (by-plan set-mode-plan, asks, marked) depth 20) (λ c. search (by-plan set-mode-plan, asks, marked) depth 20) (search rules) (search rules) (search rules) (search rules) (λ c. search (by-plan set-mode-plan, asks, marked) depth 20) (λ c. search (by-plan set-mode-plan, asks, marked) depth 20))
+set_mode3_at_spec = tie.close (tie.spec (search rules) (search rules) (search rules) (search rules) (λ c. search (by-plan set-mode-plan, asks, marked) depth 20) (λ c. search (by-plan set-mode-plan, asks, marked) depth 20) (search rules) (search rules) (search rules) (search rules) (λ c. search (by-plan set-mode-plan, asks, marked) depth 20) (λ c. search (by-plan set-mode-plan, asks, marked) depth 20))

@@ -6,5 +6,5 @@ use Rattle.nfs.specs.Laws.Change.{set-mode-optional}
 use Rattle.nfs.proofs.change.set_mode3_size.Statement.{statement}
 use Rattle.nfs.proofs.change.set_mode3_size.Tie as tie
 
-pub set-mode3-size-spec : {M : Type 1} → statement M
-set-mode3-size-spec = tie.close (tie.spec (search rules) (search rules) (λ c. search (none-size set-mode-optional)) (λ c. search (some_size set-mode-optional word-fixed)))
+pub set_mode3_size_spec : {M : Type 1} → statement M
+set_mode3_size_spec = tie.close (tie.spec (search rules) (search rules) (λ c. search (none-size set-mode-optional)) (λ c. search (some_size set-mode-optional word-fixed)))

@@ -8,6 +8,6 @@ use Rattle.nfs.specs.Meaning.Change.{set_size}
 use Rattle.nfs.proofs.change.set_size3_at.Statement.{statement}
 use Rattle.nfs.proofs.change.set_size3_at.Tie as tie
 
-pub set-size3-at-spec : {M : Type 1} → statement M
+pub set_size3_at_spec : {M : Type 1} → statement M
 unfolding set_size
-set-size3-at-spec = tie.close (tie.spec (search rules) (search rules) (search rules) (search rules) (λ c. search (by-plan set-size-plan, asks, marked) depth 20) (λ c. search (by-plan set-size-plan, asks, marked) depth 20) (search rules) (search rules) (search rules) (search rules) (λ c. search (by-plan set-size-plan, asks, marked) depth 20) (λ c. search (by-plan set-size-plan, asks, marked) depth 20))
+set_size3_at_spec = tie.close (tie.spec (search rules) (search rules) (search rules) (search rules) (λ c. search (by-plan set-size-plan, asks, marked) depth 20) (λ c. search (by-plan set-size-plan, asks, marked) depth 20) (search rules) (search rules) (search rules) (search rules) (λ c. search (by-plan set-size-plan, asks, marked) depth 20) (λ c. search (by-plan set-size-plan, asks, marked) depth 20))

@@ -6,5 +6,5 @@ use Rattle.nfs.specs.Laws.Change.{set-size-optional}
 use Rattle.nfs.proofs.change.set_size3_size.Statement.{statement}
 use Rattle.nfs.proofs.change.set_size3_size.Tie as tie
 
-pub set-size3-size-spec : {M : Type 1} → statement M
-set-size3-size-spec = tie.close (tie.spec (search rules) (search rules) (λ c. search (none-size set-size-optional)) (λ c. search (some_size set-size-optional hyper-fixed)))
+pub set_size3_size_spec : {M : Type 1} → statement M
+set_size3_size_spec = tie.close (tie.spec (search rules) (search rules) (λ c. search (none-size set-size-optional)) (λ c. search (some_size set-size-optional hyper-fixed)))

@@ -8,6 +8,6 @@ use Rattle.nfs.specs.Meaning.Change.{set_uid}
 use Rattle.nfs.proofs.change.set_uid3_at.Statement.{statement}
 use Rattle.nfs.proofs.change.set_uid3_at.Tie as tie
 
-pub set-uid3-at-spec : {M : Type 1} → statement M
+pub set_uid3_at_spec : {M : Type 1} → statement M
 unfolding set_uid
-set-uid3-at-spec = tie.close (tie.spec (search rules) (search rules) (search rules) (search rules) (λ c. search (by-plan set-uid-plan, asks, marked) depth 20) (λ c. search (by-plan set-uid-plan, asks, marked) depth 20) (search rules) (search rules) (search rules) (search rules) (λ c. search (by-plan set-uid-plan, asks, marked) depth 20) (λ c. search (by-plan set-uid-plan, asks, marked) depth 20))
+set_uid3_at_spec = tie.close (tie.spec (search rules) (search rules) (search rules) (search rules) (λ c. search (by-plan set-uid-plan, asks, marked) depth 20) (λ c. search (by-plan set-uid-plan, asks, marked) depth 20) (search rules) (search rules) (search rules) (search rules) (λ c. search (by-plan set-uid-plan, asks, marked) depth 20) (λ c. search (by-plan set-uid-plan, asks, marked) depth 20))

@@ -6,5 +6,5 @@ use Rattle.nfs.specs.Laws.Change.{set-uid-optional}
 use Rattle.nfs.proofs.change.set_uid3_size.Statement.{statement}
 use Rattle.nfs.proofs.change.set_uid3_size.Tie as tie
 
-pub set-uid3-size-spec : {M : Type 1} → statement M
-set-uid3-size-spec = tie.close (tie.spec (search rules) (search rules) (λ c. search (none-size set-uid-optional)) (λ c. search (some_size set-uid-optional word-fixed)))
+pub set_uid3_size_spec : {M : Type 1} → statement M
+set_uid3_size_spec = tie.close (tie.spec (search rules) (search rules) (λ c. search (none-size set-uid-optional)) (λ c. search (some_size set-uid-optional word-fixed)))

@@ -8,5 +8,5 @@ use Rattle.nfs.specs.Meaning.Change.{set_gid}
 use Rattle.nfs.proofs.change.write_set_gid3.Statement.{statement}
 use Rattle.nfs.proofs.change.write_set_gid3.Tie as tie
 
-pub write-set-gid3-spec : {M : Type 1} → statement M
-write-set-gid3-spec = tie.close (tie.spec (search rules) (search rules) (search rules) (search rules) (λ c. search (plain-off set_gid set-gid-small)) (λ c. search rooms) (λ c. search rooms) (search rules) (search rules) (search rules) (λ c. search (plain-on set_gid set-gid-small, set-gid-good)))
+pub write_set_gid3_spec : {M : Type 1} → statement M
+write_set_gid3_spec = tie.close (tie.spec (search rules) (search rules) (search rules) (search rules) (λ c. search (plain-off set_gid set-gid-small)) (λ c. search rooms) (λ c. search rooms) (search rules) (search rules) (search rules) (λ c. search (plain-on set_gid set-gid-small, set-gid-good)))

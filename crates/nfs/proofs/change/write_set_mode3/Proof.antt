@@ -8,5 +8,5 @@ use Rattle.nfs.specs.Meaning.Change.{set_mode}
 use Rattle.nfs.proofs.change.write_set_mode3.Statement.{statement}
 use Rattle.nfs.proofs.change.write_set_mode3.Tie as tie
 
-pub write-set-mode3-spec : {M : Type 1} → statement M
-write-set-mode3-spec = tie.close (tie.spec (search rules) (search rules) (search rules) (search rules) (λ c. search (plain-off set_mode set-mode-small)) (λ c. search rooms) (λ c. search rooms) (search rules) (search rules) (search rules) (λ c. search (plain-on set_mode set-mode-small, set-mode-good)))
+pub write_set_mode3_spec : {M : Type 1} → statement M
+write_set_mode3_spec = tie.close (tie.spec (search rules) (search rules) (search rules) (search rules) (λ c. search (plain-off set_mode set-mode-small)) (λ c. search rooms) (λ c. search rooms) (search rules) (search rules) (search rules) (λ c. search (plain-on set_mode set-mode-small, set-mode-good)))

@@ -8,5 +8,5 @@ use Rattle.nfs.specs.Meaning.Change.{set_size}
 use Rattle.nfs.proofs.change.write_set_size3.Statement.{statement}
 use Rattle.nfs.proofs.change.write_set_size3.Tie as tie
 
-pub write-set-size3-spec : {M : Type 1} → statement M
-write-set-size3-spec = tie.close (tie.spec (search rules) (search rules) (search rules) (search rules) (λ c. search (plain-off set_size set-size-small)) (λ c. search rooms) (λ c. search rooms) (search rules) (search rules) (search rules) (λ c. search (plain-on set_size set-size-small, set-size-good)))
+pub write_set_size3_spec : {M : Type 1} → statement M
+write_set_size3_spec = tie.close (tie.spec (search rules) (search rules) (search rules) (search rules) (λ c. search (plain-off set_size set-size-small)) (λ c. search rooms) (λ c. search rooms) (search rules) (search rules) (search rules) (λ c. search (plain-on set_size set-size-small, set-size-good)))

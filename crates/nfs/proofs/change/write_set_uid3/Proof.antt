@@ -8,5 +8,5 @@ use Rattle.nfs.specs.Meaning.Change.{set_uid}
 use Rattle.nfs.proofs.change.write_set_uid3.Statement.{statement}
 use Rattle.nfs.proofs.change.write_set_uid3.Tie as tie
 
-pub write-set-uid3-spec : {M : Type 1} → statement M
-write-set-uid3-spec = tie.close (tie.spec (search rules) (search rules) (search rules) (search rules) (λ c. search (plain-off set_uid set-uid-small)) (λ c. search rooms) (λ c. search rooms) (search rules) (search rules) (search rules) (λ c. search (plain-on set_uid set-uid-small, set-uid-good)))
+pub write_set_uid3_spec : {M : Type 1} → statement M
+write_set_uid3_spec = tie.close (tie.spec (search rules) (search rules) (search rules) (search rules) (λ c. search (plain-off set_uid set-uid-small)) (λ c. search rooms) (λ c. search rooms) (search rules) (search rules) (search rules) (λ c. search (plain-on set_uid set-uid-small, set-uid-good)))

@@ -6,5 +6,5 @@ use Rattle.nfs.specs.Laws.Dir.{nfs-fh-most}
 use Rattle.nfs.proofs.dir.diropargs3_size.Statement.{statement}
 use Rattle.nfs.proofs.dir.diropargs3_size.Tie as tie
 
-pub diropargs3-size-spec : {M : Type 1} → statement M
-diropargs3-size-spec = tie.close (tie.spec (search rules) (search rules) (λ c. search (sums, nfs-fh-most)) (λ c. omega arith))
+pub diropargs3_size_spec : {M : Type 1} → statement M
+diropargs3_size_spec = tie.close (tie.spec (search rules) (search rules) (λ c. search (sums, nfs-fh-most)) (λ c. omega arith))

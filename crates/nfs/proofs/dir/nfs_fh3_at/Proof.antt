@@ -7,6 +7,6 @@ use Rattle.nfs.specs.Meaning.Dir.{nfs_fh}
 use Rattle.nfs.proofs.dir.nfs_fh3_at.Statement.{statement}
 use Rattle.nfs.proofs.dir.nfs_fh3_at.Tie as tie
 
-pub nfs-fh3-at-spec : {M : Type 1} → statement M
+pub nfs_fh3_at_spec : {M : Type 1} → statement M
 unfolding nfs_fh
-nfs-fh3-at-spec = tie.close (tie.spec (search rules) (search rules) (search rules) (search rules) (λ c. search (planned nfs-fh-plan, asks, marked) depth 20) (λ c. search (planned nfs-fh-plan, asks, marked) depth 20))
+nfs_fh3_at_spec = tie.close (tie.spec (search rules) (search rules) (search rules) (search rules) (λ c. search (planned nfs-fh-plan, asks, marked) depth 20) (λ c. search (planned nfs-fh-plan, asks, marked) depth 20))

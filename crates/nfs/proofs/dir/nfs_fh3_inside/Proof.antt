@@ -4,5 +4,5 @@ use Rattle.nfs.specs.Laws.Dir.{nfs-fh-inside}
 use Rattle.nfs.proofs.dir.nfs_fh3_inside.Statement.{statement}
 use Rattle.nfs.proofs.dir.nfs_fh3_inside.Tie as tie
 
-pub nfs-fh3-inside-spec : {M : Type 1} → statement M
-nfs-fh3-inside-spec = tie.close (tie.spec (search rules) (λ c. search nfs-fh-inside))
+pub nfs_fh3_inside_spec : {M : Type 1} → statement M
+nfs_fh3_inside_spec = tie.close (tie.spec (search rules) (λ c. search nfs-fh-inside))

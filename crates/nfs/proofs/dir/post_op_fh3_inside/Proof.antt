@@ -5,5 +5,5 @@ use Rattle.nfs.specs.Laws.Dir.{post-op-fh-optional}
 use Rattle.nfs.proofs.dir.post_op_fh3_inside.Statement.{statement}
 use Rattle.nfs.proofs.dir.post_op_fh3_inside.Tie as tie
 
-pub post-op-fh3-inside-spec : {M : Type 1} → statement M
-post-op-fh3-inside-spec = tie.close (tie.spec (search rules) (search rules) (search rules) (λ c. search (void-inside post-op-fh-optional)) (λ c. search (value-inside post-op-fh-optional)))
+pub post_op_fh3_inside_spec : {M : Type 1} → statement M
+post_op_fh3_inside_spec = tie.close (tie.spec (search rules) (search rules) (search rules) (λ c. search (void-inside post-op-fh-optional)) (λ c. search (value-inside post-op-fh-optional)))

@@ -6,5 +6,5 @@ use Rattle.nfs.specs.Laws.Dir.{nfs-fh-writer}
 use Rattle.nfs.proofs.dir.put_diropargs3_1.Statement.{statement}
 use Rattle.nfs.proofs.dir.put_diropargs3_1.Tie as tie
 
-pub put-diropargs3-1-spec : {M : Type 1} → statement M
-put-diropargs3-1-spec = tie.close (tie.spec (search rules) (λ c. search (lays-none nfs-fh-writer bytes-writer)) (search rules) (search rules) (search rules) (search rules) (search rules) (search rules) (search rules) (search rules) (search rules) (λ c. search (lays-both nfs-fh-writer bytes-writer, lays-of, lays-codec)))
+pub put_diropargs3_1_spec : {M : Type 1} → statement M
+put_diropargs3_1_spec = tie.close (tie.spec (search rules) (λ c. search (lays-none nfs-fh-writer bytes-writer)) (search rules) (search rules) (search rules) (search rules) (search rules) (search rules) (search rules) (search rules) (search rules) (λ c. search (lays-both nfs-fh-writer bytes-writer, lays-of, lays-codec)))

@@ -4,5 +4,5 @@ use Rattle.nfs.specs.Laws.Dir.{nfs-fh-laid}
 use Rattle.nfs.proofs.dir.put_nfs_fh3.Statement.{statement}
 use Rattle.nfs.proofs.dir.put_nfs_fh3.Tie as tie
 
-pub put-nfs-fh3-spec : {M : Type 1} → statement M
-put-nfs-fh3-spec = tie.close (tie.spec (search rules) (search rules) (λ c. search nfs-fh-laid))
+pub put_nfs_fh3_spec : {M : Type 1} → statement M
+put_nfs_fh3_spec = tie.close (tie.spec (search rules) (search rules) (λ c. search nfs-fh-laid))

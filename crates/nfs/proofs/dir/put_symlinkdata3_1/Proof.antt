@@ -6,5 +6,5 @@ use Rattle.nfs.specs.Meaning.Set.{sattr}
 use Rattle.nfs.proofs.dir.put_symlinkdata3_1.Statement.{statement}
 use Rattle.nfs.proofs.dir.put_symlinkdata3_1.Tie as tie
 
-pub put-symlinkdata3-1-spec : {M : Type 1} → statement M
-put-symlinkdata3-1-spec = tie.close (tie.spec (search rules) (λ c. search (lays-none (codec-writer sattr) bytes-writer)) (search rules) (search rules) (search rules) (search rules) (search rules) (search rules) (search rules) (search rules) (search rules) (λ c. search (lays-both (codec-writer sattr) bytes-writer, lays-of, lays-codec)))
+pub put_symlinkdata3_1_spec : {M : Type 1} → statement M
+put_symlinkdata3_1_spec = tie.close (tie.spec (search rules) (λ c. search (lays-none (codec-writer sattr) bytes-writer)) (search rules) (search rules) (search rules) (search rules) (search rules) (search rules) (search rules) (search rules) (search rules) (λ c. search (lays-both (codec-writer sattr) bytes-writer, lays-of, lays-codec)))

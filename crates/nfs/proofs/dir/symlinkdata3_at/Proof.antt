@@ -8,6 +8,6 @@ use Rattle.nfs.specs.Meaning.Dir.{symlinkdata}
 use Rattle.nfs.proofs.dir.symlinkdata3_at.Statement.{statement}
 use Rattle.nfs.proofs.dir.symlinkdata3_at.Tie as tie
 
-pub symlinkdata3-at-spec : {M : Type 1} → statement M
+pub symlinkdata3_at_spec : {M : Type 1} → statement M
 unfolding symlinkdata
-symlinkdata3-at-spec = tie.close (tie.spec (search rules) (search rules) (search rules) (search rules) (λ c. search (planned symlinkdata-plan, asks, marked, step-sattr, lost-sattr) depth 20) (search rules) (search rules) (search rules) (search rules) (λ c. search (planned symlinkdata-plan, asks, marked, step-sattr, lost-sattr) depth 20) (λ c. search (planned symlinkdata-plan, asks, marked, step-sattr, lost-sattr) depth 20))
+symlinkdata3_at_spec = tie.close (tie.spec (search rules) (search rules) (search rules) (search rules) (λ c. search (planned symlinkdata-plan, asks, marked, step-sattr, lost-sattr) depth 20) (search rules) (search rules) (search rules) (search rules) (λ c. search (planned symlinkdata-plan, asks, marked, step-sattr, lost-sattr) depth 20) (λ c. search (planned symlinkdata-plan, asks, marked, step-sattr, lost-sattr) depth 20))

@@ -6,5 +6,5 @@ use Rattle.nfs.specs.Laws.Dir.{post-op-fh-writer}
 use Rattle.nfs.proofs.dir.write_post_op_fh3.Statement.{statement}
 use Rattle.nfs.proofs.dir.write_post_op_fh3.Tie as tie
 
-pub write-post-op-fh3-spec : {M : Type 1} → statement M
-write-post-op-fh3-spec = tie.close (tie.spec (search rules) (search rules) (search rules) (search rules) (search rules) (λ c. search (write-off post-op-fh-writer)) (λ c. search (write-place post-op-fh-writer)) (λ c. search (write-place post-op-fh-writer)) (search rules) (search rules) (search rules) (λ c. search (write-on post-op-fh-writer, post-op-fh-good)))
+pub write_post_op_fh3_spec : {M : Type 1} → statement M
+write_post_op_fh3_spec = tie.close (tie.spec (search rules) (search rules) (search rules) (search rules) (search rules) (λ c. search (write-off post-op-fh-writer)) (λ c. search (write-place post-op-fh-writer)) (λ c. search (write-place post-op-fh-writer)) (search rules) (search rules) (search rules) (λ c. search (write-on post-op-fh-writer, post-op-fh-good)))

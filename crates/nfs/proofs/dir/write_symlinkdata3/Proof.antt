@@ -6,5 +6,5 @@ use Rattle.nfs.specs.Laws.Dir.{symlinkdata-writer}
 use Rattle.nfs.proofs.dir.write_symlinkdata3.Statement.{statement}
 use Rattle.nfs.proofs.dir.write_symlinkdata3.Tie as tie
 
-pub write-symlinkdata3-spec : {M : Type 1} → statement M
-write-symlinkdata3-spec = tie.close (tie.spec (search rules) (search rules) (search rules) (search rules) (search rules) (λ c. search (write-off symlinkdata-writer)) (λ c. search (write-place symlinkdata-writer)) (λ c. search (write-place symlinkdata-writer)) (search rules) (search rules) (search rules) (λ c. search (write-on symlinkdata-writer, symlinkdata-good)))
+pub write_symlinkdata3_spec : {M : Type 1} → statement M
+write_symlinkdata3_spec = tie.close (tie.spec (search rules) (search rules) (search rules) (search rules) (search rules) (λ c. search (write-off symlinkdata-writer)) (λ c. search (write-place symlinkdata-writer)) (λ c. search (write-place symlinkdata-writer)) (search rules) (search rules) (search rules) (λ c. search (write-on symlinkdata-writer, symlinkdata-good)))

@@ -16,8 +16,8 @@ put-requires c κs =
     let t₄ : tie.Else4 = search in
     (dir-fit-ready _ _ _ _ _ t₁.if1.left t₂.if2.left d.nfs-fh3-inside.ensures t₃.if3.left n.inside.ensures t₄.if4.left, search (rules, room_at))
 
-pub fit-diropargs3-from-spec : {M : Type 1} → statement M
-fit-diropargs3-from-spec =
+pub fit_diropargs3_from_spec : {M : Type 1} → statement M
+fit_diropargs3_from_spec =
     tie.close
     (tie.spec
     (λ c. search dir-fit-off) (λ c. search dir-fit-off) (search rules) (λ c. search dir-fit-off) (search rules) (λ c. search dir-fit-off) (search rules)

@@ -4,8 +4,8 @@ use Rattle.nfs.specs.Laws.Sources.{dir-from-put}
 use Rattle.nfs.proofs.sources.put_diropargs3_from.Statement.{statement}
 use Rattle.nfs.proofs.sources.put_diropargs3_from.Tie as tie
 
-pub put-diropargs3-from-spec : {M : Type 1} → statement M
-put-diropargs3-from-spec =
+pub put_diropargs3_from_spec : {M : Type 1} → statement M
+put_diropargs3_from_spec =
     tie.close
     (tie.spec
     (search rules) (search rules) (search rules) (search rules) (search rules) (search rules) (search rules) (λ c. search dir-from-put))

@@ -3,8 +3,8 @@ use Rattle.nfs.proofs.SourceRanges.{writes-two}
 use Rattle.nfs.proofs.sources.write_diropargs3_from.Statement.{statement}
 use Rattle.nfs.proofs.sources.write_diropargs3_from.Tie as tie
 
-pub write-diropargs3-from-spec : {M : Type 1} → statement M
-write-diropargs3-from-spec =
+pub write_diropargs3_from_spec : {M : Type 1} → statement M
+write_diropargs3_from_spec =
     tie.close
     (tie.spec
     (search rules) (search rules) (search rules) (search rules) (search rules) (search rules) (search rules) (λ c. search writes-two)

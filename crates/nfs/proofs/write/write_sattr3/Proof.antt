@@ -7,8 +7,8 @@ use Rattle.nfs.proofs.Ranges.{sattr-good}
 use Rattle.nfs.proofs.write.write_sattr3.Statement.{statement}
 use Rattle.nfs.proofs.write.write_sattr3.Tie as tie
 
-pub write-sattr3-spec : {M : Type 1} → statement M
-write-sattr3-spec =
+pub write_sattr3_spec : {M : Type 1} → statement M
+write_sattr3_spec =
     tie.close
     (tie.spec
     (search rules) (search rules) (search rules) (search rules) (λ c. search (plain-off sattr sattr-small)) (λ c. search rooms)

@@ -7,8 +7,8 @@ use Rattle.nfs.proofs.Ranges.{set-atime-good}
 use Rattle.nfs.proofs.write.write_set_atime.Statement.{statement}
 use Rattle.nfs.proofs.write.write_set_atime.Tie as tie
 
-pub write-set-atime-spec : {M : Type 1} → statement M
-write-set-atime-spec =
+pub write_set_atime_spec : {M : Type 1} → statement M
+write_set_atime_spec =
     tie.close
     (tie.spec
     (search rules) (search rules) (search rules) (search rules) (λ c. search (plain-off set-atime set-atime-small)) (λ c. search rooms)

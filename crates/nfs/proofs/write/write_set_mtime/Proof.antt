@@ -7,8 +7,8 @@ use Rattle.nfs.proofs.Ranges.{set-mtime-good}
 use Rattle.nfs.proofs.write.write_set_mtime.Statement.{statement}
 use Rattle.nfs.proofs.write.write_set_mtime.Tie as tie
 
-pub write-set-mtime-spec : {M : Type 1} → statement M
-write-set-mtime-spec =
+pub write_set_mtime_spec : {M : Type 1} → statement M
+write_set_mtime_spec =
     tie.close
     (tie.spec
     (search rules) (search rules) (search rules) (search rules) (λ c. search (plain-off set-mtime set-mtime-small)) (λ c. search rooms)

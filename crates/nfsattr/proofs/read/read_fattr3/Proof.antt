@@ -2,5 +2,5 @@ use Rattle.xdr.specs.Laws.Plans.{reads}
 use Rattle.nfsattr.proofs.read.read_fattr3.Statement.{statement}
 use Rattle.nfsattr.proofs.read.read_fattr3.Tie as tie
 
-pub read-fattr3-spec : {M : Type 1} → statement M
-read-fattr3-spec = tie.close (tie.spec (search reads) (search reads) (search reads) (search reads) (λ c. search reads) (λ c. search reads))
+pub read_fattr3_spec : {M : Type 1} → statement M
+read_fattr3_spec = tie.close (tie.spec (search reads) (search reads) (search reads) (search reads) (λ c. search reads) (λ c. search reads))

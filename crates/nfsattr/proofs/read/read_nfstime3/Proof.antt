@@ -2,5 +2,5 @@ use Rattle.xdr.specs.Laws.Plans.{reads}
 use Rattle.nfsattr.proofs.read.read_nfstime3.Statement.{statement}
 use Rattle.nfsattr.proofs.read.read_nfstime3.Tie as tie
 
-pub read-nfstime3-spec : {M : Type 1} → statement M
-read-nfstime3-spec = tie.close (tie.spec (search reads) (search reads) (search reads) (search reads) (λ c. search reads) (λ c. search reads))
+pub read_nfstime3_spec : {M : Type 1} → statement M
+read_nfstime3_spec = tie.close (tie.spec (search reads) (search reads) (search reads) (search reads) (λ c. search reads) (λ c. search reads))

@@ -14,5 +14,5 @@ returns c =
       wcc_attr = of_size wcc-attr-fixed;
     }
 
-pub fixed-sizes-spec : {M : Type 1} → statement M
-fixed-sizes-spec = tie.close (tie.spec returns)
+pub fixed_sizes_spec : {M : Type 1} → statement M
+fixed_sizes_spec = tie.close (tie.spec returns)

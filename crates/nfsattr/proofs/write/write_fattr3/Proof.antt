@@ -5,8 +5,8 @@ use Rattle.nfsattr.proofs.Ranges.{fattr-good}
 use Rattle.nfsattr.proofs.write.write_fattr3.Statement.{statement}
 use Rattle.nfsattr.proofs.write.write_fattr3.Tie as tie
 
-pub write-fattr3-spec : {M : Type 1} → statement M
-write-fattr3-spec =
+pub write_fattr3_spec : {M : Type 1} → statement M
+write_fattr3_spec =
     tie.close
     (tie.spec
     (search rules) (search rules) (search rules) (λ c. search (rules, fixed_off fattr-fixed)) (λ c. search rooms) (λ c. search rooms)

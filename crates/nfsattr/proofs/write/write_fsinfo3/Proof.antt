@@ -7,8 +7,8 @@ use Rattle.nfsattr.proofs.Ranges.{fsinfo-good}
 use Rattle.nfsattr.proofs.write.write_fsinfo3.Statement.{statement}
 use Rattle.nfsattr.proofs.write.write_fsinfo3.Tie as tie
 
-pub write-fsinfo3-spec : {M : Type 1} → statement M
-write-fsinfo3-spec =
+pub write_fsinfo3_spec : {M : Type 1} → statement M
+write_fsinfo3_spec =
     tie.close
     (tie.spec
     (search rules) (search rules) (search rules) (search rules) (λ c. search (plain-off fsinfo fsinfo-small)) (λ c. search rooms)

@@ -7,8 +7,8 @@ use Rattle.nfsattr.proofs.Ranges.{post-op-attr-good}
 use Rattle.nfsattr.proofs.write.write_post_op_attr.Statement.{statement}
 use Rattle.nfsattr.proofs.write.write_post_op_attr.Tie as tie
 
-pub write-post-op-attr-spec : {M : Type 1} → statement M
-write-post-op-attr-spec =
+pub write_post_op_attr_spec : {M : Type 1} → statement M
+write_post_op_attr_spec =
     tie.close
     (tie.spec
     (search rules) (search rules) (search rules) (search rules) (λ c. search (plain-off post-op-attr post-op-attr-small)) (λ c. search rooms)

@@ -7,8 +7,8 @@ use Rattle.nfsattr.proofs.Ranges.{pre-op-attr-good}
 use Rattle.nfsattr.proofs.write.write_pre_op_attr.Statement.{statement}
 use Rattle.nfsattr.proofs.write.write_pre_op_attr.Tie as tie
 
-pub write-pre-op-attr-spec : {M : Type 1} → statement M
-write-pre-op-attr-spec =
+pub write_pre_op_attr_spec : {M : Type 1} → statement M
+write_pre_op_attr_spec =
     tie.close
     (tie.spec
     (search rules) (search rules) (search rules) (search rules) (λ c. search (plain-off pre-op-attr pre-op-attr-small)) (λ c. search rooms)

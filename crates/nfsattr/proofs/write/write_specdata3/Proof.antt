@@ -5,8 +5,8 @@ use Rattle.nfsattr.proofs.Ranges.{specdata-good}
 use Rattle.nfsattr.proofs.write.write_specdata3.Statement.{statement}
 use Rattle.nfsattr.proofs.write.write_specdata3.Tie as tie
 
-pub write-specdata3-spec : {M : Type 1} → statement M
-write-specdata3-spec =
+pub write_specdata3_spec : {M : Type 1} → statement M
+write_specdata3_spec =
     tie.close
     (tie.spec
     (search rules) (search rules) (search rules) (λ c. search (rules, fixed_off specdata-fixed)) (λ c. search rooms) (λ c. search rooms)

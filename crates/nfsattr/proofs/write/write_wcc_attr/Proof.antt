@@ -5,8 +5,8 @@ use Rattle.nfsattr.proofs.Ranges.{wcc-attr-good}
 use Rattle.nfsattr.proofs.write.write_wcc_attr.Statement.{statement}
 use Rattle.nfsattr.proofs.write.write_wcc_attr.Tie as tie
 
-pub write-wcc-attr-spec : {M : Type 1} → statement M
-write-wcc-attr-spec =
+pub write_wcc_attr_spec : {M : Type 1} → statement M
+write_wcc_attr_spec =
     tie.close
     (tie.spec
     (search rules) (search rules) (search rules) (λ c. search (rules, fixed_off wcc-attr-fixed)) (λ c. search rooms) (λ c. search rooms)

@@ -7,8 +7,8 @@ use Rattle.nfsattr.proofs.Ranges.{wcc-data-good}
 use Rattle.nfsattr.proofs.write.write_wcc_data.Statement.{statement}
 use Rattle.nfsattr.proofs.write.write_wcc_data.Tie as tie
 
-pub write-wcc-data-spec : {M : Type 1} → statement M
-write-wcc-data-spec =
+pub write_wcc_data_spec : {M : Type 1} → statement M
+write_wcc_data_spec =
     tie.close
     (tie.spec
     (search rules) (search rules) (search rules) (search rules) (λ c. search (plain-off wcc-data wcc-data-small)) (λ c. search rooms)

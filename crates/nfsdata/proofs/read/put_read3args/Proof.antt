@@ -7,5 +7,5 @@ use Rattle.nfsdata.specs.Laws.Read.{read-args-writer, read-args-lays}
 use Rattle.nfsdata.proofs.read.put_read3args.Statement.{statement}
 use Rattle.nfsdata.proofs.read.put_read3args.Tie as tie
 
-pub put-read3args-spec : {M : Type 1} → statement M
-put-read3args-spec = tie.close (tie.spec (λ c. search of-long) (search rules) (λ c. search (put-outside read-args-writer)) (search rules) (λ c. search (put-short read-args-writer)) (search rules) (search rules) (λ c. search (lays_all read-args-writer, read-args-lays)))
+pub put_read3args_spec : {M : Type 1} → statement M
+put_read3args_spec = tie.close (tie.spec (λ c. search of-long) (search rules) (λ c. search (put-outside read-args-writer)) (search rules) (λ c. search (put-short read-args-writer)) (search rules) (search rules) (λ c. search (lays_all read-args-writer, read-args-lays)))

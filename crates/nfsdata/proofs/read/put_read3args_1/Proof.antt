@@ -6,5 +6,5 @@ use Rattle.nfsdata.specs.Laws.Read.{read-args-2}
 use Rattle.nfsdata.proofs.read.put_read3args_1.Statement.{statement}
 use Rattle.nfsdata.proofs.read.put_read3args_1.Tie as tie
 
-pub put-read3args-1-spec : {M : Type 1} → statement M
-put-read3args-1-spec = tie.close (tie.spec (search rules) (λ c. search (lays-none nfs-fh-writer read-args-2)) (search rules) (search rules) (search rules) (search rules) (search rules) (search rules) (search rules) (search rules) (search rules) (λ c. search (lays-both nfs-fh-writer read-args-2, lays-of, lays-codec)))
+pub put_read3args_1_spec : {M : Type 1} → statement M
+put_read3args_1_spec = tie.close (tie.spec (search rules) (λ c. search (lays-none nfs-fh-writer read-args-2)) (search rules) (search rules) (search rules) (search rules) (search rules) (search rules) (search rules) (search rules) (search rules) (λ c. search (lays-both nfs-fh-writer read-args-2, lays-of, lays-codec)))

@@ -5,5 +5,5 @@ use Rattle.xdr.specs.Laws.Fields.{lays-none, fixed-writer, lays-both, lays-of, l
 use Rattle.nfsdata.proofs.read.put_read3args_2.Statement.{statement}
 use Rattle.nfsdata.proofs.read.put_read3args_2.Tie as tie
 
-pub put-read3args-2-spec : {M : Type 1} → statement M
-put-read3args-2-spec = tie.close (tie.spec (λ c. search (lays-none (fixed-writer hyper-fixed) (fixed-writer word-fixed))) (search rules) (search rules) (search rules) (search rules) (search rules) (search rules) (search rules) (search rules) (search rules) (λ c. search (lays-both (fixed-writer hyper-fixed) (fixed-writer word-fixed), lays-of, lays-codec)))
+pub put_read3args_2_spec : {M : Type 1} → statement M
+put_read3args_2_spec = tie.close (tie.spec (λ c. search (lays-none (fixed-writer hyper-fixed) (fixed-writer word-fixed))) (search rules) (search rules) (search rules) (search rules) (search rules) (search rules) (search rules) (search rules) (search rules) (λ c. search (lays-both (fixed-writer hyper-fixed) (fixed-writer word-fixed), lays-of, lays-codec)))

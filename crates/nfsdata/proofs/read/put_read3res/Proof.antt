@@ -8,5 +8,5 @@ use Rattle.nfsdata.specs.Laws.Read.{read-res-writer, read-res-status}
 use Rattle.nfsdata.proofs.read.put_read3res.Statement.{statement}
 use Rattle.nfsdata.proofs.read.put_read3res.Tie as tie
 
-pub put-read3res-spec : {M : Type 1} → statement M
-put-read3res-spec = tie.close (tie.spec (λ c. search of-long) (search rules) (λ c. search (put-outside read-res-writer)) (search rules) (λ c. search (put-short read-res-writer)) (search rules) (search rules) (search rules) (search rules) (search rules) (λ c. search (lays_all read-res-writer, ok-lays read-res-status)) (search rules) (λ c. search (lays_all read-res-writer, failed-lays read-res-status)))
+pub put_read3res_spec : {M : Type 1} → statement M
+put_read3res_spec = tie.close (tie.spec (λ c. search of-long) (search rules) (λ c. search (put-outside read-res-writer)) (search rules) (λ c. search (put-short read-res-writer)) (search rules) (search rules) (search rules) (search rules) (search rules) (λ c. search (lays_all read-res-writer, ok-lays read-res-status)) (search rules) (λ c. search (lays_all read-res-writer, failed-lays read-res-status)))

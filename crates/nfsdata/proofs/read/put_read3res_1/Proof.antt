@@ -6,5 +6,5 @@ use Rattle.nfsdata.specs.Laws.Read.{read-resok-writer}
 use Rattle.nfsdata.proofs.read.put_read3res_1.Statement.{statement}
 use Rattle.nfsdata.proofs.read.put_read3res_1.Tie as tie
 
-pub put-read3res-1-spec : {M : Type 1} → statement M
-put-read3res-1-spec = tie.close (tie.spec (λ c. search (lays-none (fixed-writer nfsstat-fixed) read-resok-writer)) (search rules) (search rules) (search rules) (search rules) (search rules) (search rules) (search rules) (search rules) (search rules) (λ c. search (lays-both (fixed-writer nfsstat-fixed) read-resok-writer, lays-of, lays-codec)))
+pub put_read3res_1_spec : {M : Type 1} → statement M
+put_read3res_1_spec = tie.close (tie.spec (λ c. search (lays-none (fixed-writer nfsstat-fixed) read-resok-writer)) (search rules) (search rules) (search rules) (search rules) (search rules) (search rules) (search rules) (search rules) (search rules) (λ c. search (lays-both (fixed-writer nfsstat-fixed) read-resok-writer, lays-of, lays-codec)))

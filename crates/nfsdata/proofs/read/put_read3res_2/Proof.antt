@@ -6,5 +6,5 @@ use Rattle.nfsdata.specs.Meaning.Read.{read_resfail}
 use Rattle.nfsdata.proofs.read.put_read3res_2.Statement.{statement}
 use Rattle.nfsdata.proofs.read.put_read3res_2.Tie as tie
 
-pub put-read3res-2-spec : {M : Type 1} → statement M
-put-read3res-2-spec = tie.close (tie.spec (λ c. search (lays-none (fixed-writer nfsstat-fixed) (codec-writer read_resfail))) (search rules) (search rules) (search rules) (search rules) (search rules) (search rules) (search rules) (search rules) (search rules) (λ c. search (lays-both (fixed-writer nfsstat-fixed) (codec-writer read_resfail), lays-of, lays-codec)))
+pub put_read3res_2_spec : {M : Type 1} → statement M
+put_read3res_2_spec = tie.close (tie.spec (λ c. search (lays-none (fixed-writer nfsstat-fixed) (codec-writer read_resfail))) (search rules) (search rules) (search rules) (search rules) (search rules) (search rules) (search rules) (search rules) (search rules) (λ c. search (lays-both (fixed-writer nfsstat-fixed) (codec-writer read_resfail), lays-of, lays-codec)))

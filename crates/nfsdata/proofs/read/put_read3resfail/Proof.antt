@@ -4,5 +4,5 @@ use Rattle.nfsdata.specs.Laws.Read.{read-resfail-laid}
 use Rattle.nfsdata.proofs.read.put_read3resfail.Statement.{statement}
 use Rattle.nfsdata.proofs.read.put_read3resfail.Tie as tie
 
-pub put-read3resfail-spec : {M : Type 1} → statement M
-put-read3resfail-spec = tie.close (tie.spec (search rules) (search rules) (λ c. search read-resfail-laid))
+pub put_read3resfail_spec : {M : Type 1} → statement M
+put_read3resfail_spec = tie.close (tie.spec (search rules) (search rules) (λ c. search read-resfail-laid))

@@ -6,5 +6,5 @@ use Rattle.nfsdata.specs.Laws.Read.{read-resok-2}
 use Rattle.nfsdata.proofs.read.put_read3resok_1.Statement.{statement}
 use Rattle.nfsdata.proofs.read.put_read3resok_1.Tie as tie
 
-pub put-read3resok-1-spec : {M : Type 1} → statement M
-put-read3resok-1-spec = tie.close (tie.spec (search rules) (λ c. search (lays-none (codec-writer post-op-attr) read-resok-2)) (search rules) (search rules) (search rules) (search rules) (search rules) (search rules) (search rules) (search rules) (search rules) (λ c. search (lays-both (codec-writer post-op-attr) read-resok-2, lays-of, lays-codec)))
+pub put_read3resok_1_spec : {M : Type 1} → statement M
+put_read3resok_1_spec = tie.close (tie.spec (search rules) (λ c. search (lays-none (codec-writer post-op-attr) read-resok-2)) (search rules) (search rules) (search rules) (search rules) (search rules) (search rules) (search rules) (search rules) (search rules) (λ c. search (lays-both (codec-writer post-op-attr) read-resok-2, lays-of, lays-codec)))

@@ -6,5 +6,5 @@ use Rattle.nfsdata.specs.Laws.Read.{read-resok-3}
 use Rattle.nfsdata.proofs.read.put_read3resok_2.Statement.{statement}
 use Rattle.nfsdata.proofs.read.put_read3resok_2.Tie as tie
 
-pub put-read3resok-2-spec : {M : Type 1} → statement M
-put-read3resok-2-spec = tie.close (tie.spec (λ c. search (lays-none (fixed-writer word-fixed) read-resok-3)) (search rules) (search rules) (search rules) (search rules) (search rules) (search rules) (search rules) (search rules) (search rules) (λ c. search (lays-both (fixed-writer word-fixed) read-resok-3, lays-of, lays-codec)))
+pub put_read3resok_2_spec : {M : Type 1} → statement M
+put_read3resok_2_spec = tie.close (tie.spec (λ c. search (lays-none (fixed-writer word-fixed) read-resok-3)) (search rules) (search rules) (search rules) (search rules) (search rules) (search rules) (search rules) (search rules) (search rules) (λ c. search (lays-both (fixed-writer word-fixed) read-resok-3, lays-of, lays-codec)))

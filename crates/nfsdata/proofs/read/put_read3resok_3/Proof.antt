@@ -6,5 +6,5 @@ use Rattle.xdr.specs.Laws.Fields.{lays-none, fixed-writer, lays-both, lays-of, l
 use Rattle.nfsdata.proofs.read.put_read3resok_3.Statement.{statement}
 use Rattle.nfsdata.proofs.read.put_read3resok_3.Tie as tie
 
-pub put-read3resok-3-spec : {M : Type 1} → statement M
-put-read3resok-3-spec = tie.close (tie.spec (λ c. search (lays-none (fixed-writer flag-fixed) bytes-writer)) (search rules) (search rules) (search rules) (search rules) (search rules) (search rules) (search rules) (search rules) (search rules) (λ c. search (lays-both (fixed-writer flag-fixed) bytes-writer, lays-of, lays-codec)))
+pub put_read3resok_3_spec : {M : Type 1} → statement M
+put_read3resok_3_spec = tie.close (tie.spec (λ c. search (lays-none (fixed-writer flag-fixed) bytes-writer)) (search rules) (search rules) (search rules) (search rules) (search rules) (search rules) (search rules) (search rules) (search rules) (λ c. search (lays-both (fixed-writer flag-fixed) bytes-writer, lays-of, lays-codec)))

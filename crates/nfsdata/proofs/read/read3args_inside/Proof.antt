@@ -4,5 +4,5 @@ use Rattle.nfsdata.specs.Laws.Read.{read-args-inside}
 use Rattle.nfsdata.proofs.read.read3args_inside.Statement.{statement}
 use Rattle.nfsdata.proofs.read.read3args_inside.Tie as tie
 
-pub read3args-inside-spec : {M : Type 1} → statement M
-read3args-inside-spec = tie.close (tie.spec (search rules) (λ c. search read-args-inside))
+pub read3args_inside_spec : {M : Type 1} → statement M
+read3args_inside_spec = tie.close (tie.spec (search rules) (λ c. search read-args-inside))

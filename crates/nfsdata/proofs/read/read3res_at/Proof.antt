@@ -7,5 +7,5 @@ use Rattle.nfsdata.specs.Laws.Read.{read-res-status, step-read-resok, lost-read-
 use Rattle.nfsdata.proofs.read.read3res_at.Statement.{statement}
 use Rattle.nfsdata.proofs.read.read3res_at.Tie as tie
 
-pub read3res-at-spec : {M : Type 1} → statement M
-read3res-at-spec = tie.close (tie.spec (search rules) (search rules) (search rules) (search rules) (λ c. search (nfsstat-lost read-res-status)) (search rules) (search rules) (search rules) (search rules) (search rules) (λ c. search (nfsstat-took read-res-status, asks, marked, step-read-resok, lost-read-resok) depth 20) (search rules) (search rules) (search rules) (search rules) (search rules) (λ c. search (nfsstat-took read-res-status, asks, marked, step-read-resfail, lost-read-resfail) depth 20) (λ c. search (nfsstat-took read-res-status, asks, marked, step-read-resok, lost-read-resok) depth 20) (λ c. search (nfsstat-took read-res-status, asks, marked, step-read-resfail, lost-read-resfail) depth 20))
+pub read3res_at_spec : {M : Type 1} → statement M
+read3res_at_spec = tie.close (tie.spec (search rules) (search rules) (search rules) (search rules) (λ c. search (nfsstat-lost read-res-status)) (search rules) (search rules) (search rules) (search rules) (search rules) (λ c. search (nfsstat-took read-res-status, asks, marked, step-read-resok, lost-read-resok) depth 20) (search rules) (search rules) (search rules) (search rules) (search rules) (λ c. search (nfsstat-took read-res-status, asks, marked, step-read-resfail, lost-read-resfail) depth 20) (λ c. search (nfsstat-took read-res-status, asks, marked, step-read-resok, lost-read-resok) depth 20) (λ c. search (nfsstat-took read-res-status, asks, marked, step-read-resfail, lost-read-resfail) depth 20))

@@ -9,6 +9,6 @@ use Rattle.nfsdata.specs.Meaning.Read.{read_resfail}
 use Rattle.nfsdata.proofs.read.read3resfail_at.Statement.{statement}
 use Rattle.nfsdata.proofs.read.read3resfail_at.Tie as tie
 
-pub read3resfail-at-spec : {M : Type 1} → statement M
+pub read3resfail_at_spec : {M : Type 1} → statement M
 unfolding read_resfail
-read3resfail-at-spec = tie.close (tie.spec (search rules) (search rules) (search rules) (search rules) (λ c. search (by-plan read-resfail-plan, asks, marked, step-post-op-attr, lost-post-op-attr) depth 20) (λ c. search (by-plan read-resfail-plan, asks, marked, step-post-op-attr, lost-post-op-attr) depth 20))
+read3resfail_at_spec = tie.close (tie.spec (search rules) (search rules) (search rules) (search rules) (λ c. search (by-plan read-resfail-plan, asks, marked, step-post-op-attr, lost-post-op-attr) depth 20) (λ c. search (by-plan read-resfail-plan, asks, marked, step-post-op-attr, lost-post-op-attr) depth 20))

@@ -4,5 +4,5 @@ use Rattle.nfsdata.specs.Laws.Read.{read-resfail-size}
 use Rattle.nfsdata.proofs.read.read3resfail_size.Statement.{statement}
 use Rattle.nfsdata.proofs.read.read3resfail_size.Tie as tie
 
-pub read3resfail-size-spec : {M : Type 1} → statement M
-read3resfail-size-spec = tie.close (tie.spec (search rules) (λ c. search read-resfail-size))
+pub read3resfail_size_spec : {M : Type 1} → statement M
+read3resfail_size_spec = tie.close (tie.spec (search rules) (λ c. search read-resfail-size))

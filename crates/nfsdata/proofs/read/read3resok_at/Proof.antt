@@ -8,6 +8,6 @@ use Rattle.nfsdata.specs.Meaning.Read.{read_resok}
 use Rattle.nfsdata.proofs.read.read3resok_at.Statement.{statement}
 use Rattle.nfsdata.proofs.read.read3resok_at.Tie as tie
 
-pub read3resok-at-spec : {M : Type 1} → statement M
+pub read3resok_at_spec : {M : Type 1} → statement M
 unfolding read_resok
-read3resok-at-spec = tie.close (tie.spec (search rules) (search rules) (search rules) (search rules) (λ c. search (planned read-resok-plan, asks, marked, step-post-op-attr, lost-post-op-attr) depth 20) (search rules) (search rules) (search rules) (search rules) (λ c. search (planned read-resok-plan, asks, marked, step-post-op-attr, lost-post-op-attr) depth 20) (search rules) (search rules) (search rules) (search rules) (λ c. search (planned read-resok-plan, asks, marked, step-post-op-attr, lost-post-op-attr) depth 20) (search rules) (search rules) (search rules) (search rules) (λ c. search (planned read-resok-plan, asks, marked, step-post-op-attr, lost-post-op-attr) depth 20) (λ c. search (planned read-resok-plan, asks, marked, step-post-op-attr, lost-post-op-attr) depth 20))
+read3resok_at_spec = tie.close (tie.spec (search rules) (search rules) (search rules) (search rules) (λ c. search (planned read-resok-plan, asks, marked, step-post-op-attr, lost-post-op-attr) depth 20) (search rules) (search rules) (search rules) (search rules) (λ c. search (planned read-resok-plan, asks, marked, step-post-op-attr, lost-post-op-attr) depth 20) (search rules) (search rules) (search rules) (search rules) (λ c. search (planned read-resok-plan, asks, marked, step-post-op-attr, lost-post-op-attr) depth 20) (search rules) (search rules) (search rules) (search rules) (λ c. search (planned read-resok-plan, asks, marked, step-post-op-attr, lost-post-op-attr) depth 20) (λ c. search (planned read-resok-plan, asks, marked, step-post-op-attr, lost-post-op-attr) depth 20))

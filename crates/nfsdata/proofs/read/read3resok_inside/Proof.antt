@@ -4,5 +4,5 @@ use Rattle.nfsdata.specs.Laws.Read.{read-resok-inside}
 use Rattle.nfsdata.proofs.read.read3resok_inside.Statement.{statement}
 use Rattle.nfsdata.proofs.read.read3resok_inside.Tie as tie
 
-pub read3resok-inside-spec : {M : Type 1} → statement M
-read3resok-inside-spec = tie.close (tie.spec (search rules) (λ c. search read-resok-inside))
+pub read3resok_inside_spec : {M : Type 1} → statement M
+read3resok_inside_spec = tie.close (tie.spec (search rules) (λ c. search read-resok-inside))

@@ -6,5 +6,5 @@ use Rattle.nfsattr.specs.Laws.Bytes.{post-op-attr-small}
 use Rattle.nfsdata.proofs.read.read3resok_size.Statement.{statement}
 use Rattle.nfsdata.proofs.read.read3resok_size.Tie as tie
 
-pub read3resok-size-spec : {M : Type 1} → statement M
-read3resok-size-spec = tie.close (tie.spec (search rules) (search rules) (λ c. search (sums, post-op-attr-small)) (λ c. search (sums, post-op-attr-small)) (λ c. omega arith))
+pub read3resok_size_spec : {M : Type 1} → statement M
+read3resok_size_spec = tie.close (tie.spec (search rules) (search rules) (λ c. search (sums, post-op-attr-small)) (λ c. search (sums, post-op-attr-small)) (λ c. omega arith))

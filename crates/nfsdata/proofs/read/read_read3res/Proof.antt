@@ -3,5 +3,5 @@ use Rattle.xdr.specs.Laws.Plans.{reads}
 use Rattle.nfsdata.proofs.read.read_read3res.Statement.{statement}
 use Rattle.nfsdata.proofs.read.read_read3res.Tie as tie
 
-pub read-read3res-spec : {M : Type 1} → statement M
-read-read3res-spec = tie.close (tie.spec (search reads) (search reads) (search reads) (search reads) (λ c. search reads) (λ c. search reads))
+pub read_read3res_spec : {M : Type 1} → statement M
+read_read3res_spec = tie.close (tie.spec (search reads) (search reads) (search reads) (search reads) (λ c. search reads) (λ c. search reads))

@@ -6,5 +6,5 @@ use Rattle.nfsdata.specs.Laws.Read.{read-args-writer}
 use Rattle.nfsdata.proofs.read.write_read3args.Statement.{statement}
 use Rattle.nfsdata.proofs.read.write_read3args.Tie as tie
 
-pub write-read3args-spec : {M : Type 1} → statement M
-write-read3args-spec = tie.close (tie.spec (search rules) (search rules) (search rules) (search rules) (search rules) (λ c. search (write-off read-args-writer)) (λ c. search (write-place read-args-writer)) (λ c. search (write-place read-args-writer)) (search rules) (search rules) (search rules) (λ c. search (write-on read-args-writer, read-args-good)))
+pub write_read3args_spec : {M : Type 1} → statement M
+write_read3args_spec = tie.close (tie.spec (search rules) (search rules) (search rules) (search rules) (search rules) (λ c. search (write-off read-args-writer)) (λ c. search (write-place read-args-writer)) (λ c. search (write-place read-args-writer)) (search rules) (search rules) (search rules) (λ c. search (write-on read-args-writer, read-args-good)))

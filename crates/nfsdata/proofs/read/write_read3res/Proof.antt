@@ -6,5 +6,5 @@ use Rattle.nfsdata.specs.Laws.Read.{read-res-writer}
 use Rattle.nfsdata.proofs.read.write_read3res.Statement.{statement}
 use Rattle.nfsdata.proofs.read.write_read3res.Tie as tie
 
-pub write-read3res-spec : {M : Type 1} → statement M
-write-read3res-spec = tie.close (tie.spec (search rules) (search rules) (search rules) (search rules) (search rules) (λ c. search (write-off read-res-writer)) (λ c. search (write-place read-res-writer)) (λ c. search (write-place read-res-writer)) (search rules) (search rules) (search rules) (λ c. search (write-on read-res-writer, read-res-good)))
+pub write_read3res_spec : {M : Type 1} → statement M
+write_read3res_spec = tie.close (tie.spec (search rules) (search rules) (search rules) (search rules) (search rules) (λ c. search (write-off read-res-writer)) (λ c. search (write-place read-res-writer)) (λ c. search (write-place read-res-writer)) (search rules) (search rules) (search rules) (λ c. search (write-on read-res-writer, read-res-good)))

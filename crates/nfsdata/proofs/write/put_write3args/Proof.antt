@@ -7,5 +7,5 @@ use Rattle.nfsdata.specs.Laws.Write.{write-args-writer, write-args-lays}
 use Rattle.nfsdata.proofs.write.put_write3args.Statement.{statement}
 use Rattle.nfsdata.proofs.write.put_write3args.Tie as tie
 
-pub put-write3args-spec : {M : Type 1} → statement M
-put-write3args-spec = tie.close (tie.spec (λ c. search of-long) (search rules) (λ c. search (put-outside write-args-writer)) (search rules) (λ c. search (put-short write-args-writer)) (search rules) (search rules) (λ c. search (lays_all write-args-writer, write-args-lays)))
+pub put_write3args_spec : {M : Type 1} → statement M
+put_write3args_spec = tie.close (tie.spec (λ c. search of-long) (search rules) (λ c. search (put-outside write-args-writer)) (search rules) (λ c. search (put-short write-args-writer)) (search rules) (search rules) (λ c. search (lays_all write-args-writer, write-args-lays)))

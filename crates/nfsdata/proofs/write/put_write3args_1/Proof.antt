@@ -6,5 +6,5 @@ use Rattle.nfsdata.specs.Laws.Write.{write-args-2}
 use Rattle.nfsdata.proofs.write.put_write3args_1.Statement.{statement}
 use Rattle.nfsdata.proofs.write.put_write3args_1.Tie as tie
 
-pub put-write3args-1-spec : {M : Type 1} → statement M
-put-write3args-1-spec = tie.close (tie.spec (search rules) (λ c. search (lays-none nfs-fh-writer write-args-2)) (search rules) (search rules) (search rules) (search rules) (search rules) (search rules) (search rules) (search rules) (search rules) (λ c. search (lays-both nfs-fh-writer write-args-2, lays-of, lays-codec)))
+pub put_write3args_1_spec : {M : Type 1} → statement M
+put_write3args_1_spec = tie.close (tie.spec (search rules) (λ c. search (lays-none nfs-fh-writer write-args-2)) (search rules) (search rules) (search rules) (search rules) (search rules) (search rules) (search rules) (search rules) (search rules) (λ c. search (lays-both nfs-fh-writer write-args-2, lays-of, lays-codec)))

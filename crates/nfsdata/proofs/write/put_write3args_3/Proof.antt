@@ -6,5 +6,5 @@ use Rattle.nfsdata.specs.Laws.Write.{write-args-4}
 use Rattle.nfsdata.proofs.write.put_write3args_3.Statement.{statement}
 use Rattle.nfsdata.proofs.write.put_write3args_3.Tie as tie
 
-pub put-write3args-3-spec : {M : Type 1} → statement M
-put-write3args-3-spec = tie.close (tie.spec (λ c. search (lays-none (fixed-writer word-fixed) write-args-4)) (search rules) (search rules) (search rules) (search rules) (search rules) (search rules) (search rules) (search rules) (search rules) (λ c. search (lays-both (fixed-writer word-fixed) write-args-4, lays-of, lays-codec)))
+pub put_write3args_3_spec : {M : Type 1} → statement M
+put_write3args_3_spec = tie.close (tie.spec (λ c. search (lays-none (fixed-writer word-fixed) write-args-4)) (search rules) (search rules) (search rules) (search rules) (search rules) (search rules) (search rules) (search rules) (search rules) (λ c. search (lays-both (fixed-writer word-fixed) write-args-4, lays-of, lays-codec)))

@@ -6,5 +6,5 @@ use Rattle.nfsdata.specs.Laws.Write.{stable-how-fixed}
 use Rattle.nfsdata.proofs.write.put_write3args_4.Statement.{statement}
 use Rattle.nfsdata.proofs.write.put_write3args_4.Tie as tie
 
-pub put-write3args-4-spec : {M : Type 1} → statement M
-put-write3args-4-spec = tie.close (tie.spec (λ c. search (lays-none (fixed-writer stable-how-fixed) bytes-writer)) (search rules) (search rules) (search rules) (search rules) (search rules) (search rules) (search rules) (search rules) (search rules) (λ c. search (lays-both (fixed-writer stable-how-fixed) bytes-writer, lays-of, lays-codec)))
+pub put_write3args_4_spec : {M : Type 1} → statement M
+put_write3args_4_spec = tie.close (tie.spec (λ c. search (lays-none (fixed-writer stable-how-fixed) bytes-writer)) (search rules) (search rules) (search rules) (search rules) (search rules) (search rules) (search rules) (search rules) (search rules) (λ c. search (lays-both (fixed-writer stable-how-fixed) bytes-writer, lays-of, lays-codec)))

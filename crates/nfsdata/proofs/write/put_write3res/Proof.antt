@@ -8,5 +8,5 @@ use Rattle.nfsdata.specs.Laws.Write.{write-res-writer, write-res-status}
 use Rattle.nfsdata.proofs.write.put_write3res.Statement.{statement}
 use Rattle.nfsdata.proofs.write.put_write3res.Tie as tie
 
-pub put-write3res-spec : {M : Type 1} → statement M
-put-write3res-spec = tie.close (tie.spec (λ c. search of-long) (search rules) (λ c. search (put-outside write-res-writer)) (search rules) (λ c. search (put-short write-res-writer)) (search rules) (search rules) (search rules) (search rules) (search rules) (λ c. search (lays_all write-res-writer, ok-lays write-res-status)) (search rules) (λ c. search (lays_all write-res-writer, failed-lays write-res-status)))
+pub put_write3res_spec : {M : Type 1} → statement M
+put_write3res_spec = tie.close (tie.spec (λ c. search of-long) (search rules) (λ c. search (put-outside write-res-writer)) (search rules) (λ c. search (put-short write-res-writer)) (search rules) (search rules) (search rules) (search rules) (search rules) (λ c. search (lays_all write-res-writer, ok-lays write-res-status)) (search rules) (λ c. search (lays_all write-res-writer, failed-lays write-res-status)))

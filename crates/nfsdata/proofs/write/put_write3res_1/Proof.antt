@@ -6,5 +6,5 @@ use Rattle.nfsdata.specs.Meaning.Write.{write_resok}
 use Rattle.nfsdata.proofs.write.put_write3res_1.Statement.{statement}
 use Rattle.nfsdata.proofs.write.put_write3res_1.Tie as tie
 
-pub put-write3res-1-spec : {M : Type 1} → statement M
-put-write3res-1-spec = tie.close (tie.spec (λ c. search (lays-none (fixed-writer nfsstat-fixed) (codec-writer write_resok))) (search rules) (search rules) (search rules) (search rules) (search rules) (search rules) (search rules) (search rules) (search rules) (λ c. search (lays-both (fixed-writer nfsstat-fixed) (codec-writer write_resok), lays-of, lays-codec)))
+pub put_write3res_1_spec : {M : Type 1} → statement M
+put_write3res_1_spec = tie.close (tie.spec (λ c. search (lays-none (fixed-writer nfsstat-fixed) (codec-writer write_resok))) (search rules) (search rules) (search rules) (search rules) (search rules) (search rules) (search rules) (search rules) (search rules) (λ c. search (lays-both (fixed-writer nfsstat-fixed) (codec-writer write_resok), lays-of, lays-codec)))

@@ -4,5 +4,5 @@ use Rattle.nfsdata.specs.Laws.Write.{write-resfail-laid}
 use Rattle.nfsdata.proofs.write.put_write3resfail.Statement.{statement}
 use Rattle.nfsdata.proofs.write.put_write3resfail.Tie as tie
 
-pub put-write3resfail-spec : {M : Type 1} → statement M
-put-write3resfail-spec = tie.close (tie.spec (search rules) (search rules) (λ c. search write-resfail-laid))
+pub put_write3resfail_spec : {M : Type 1} → statement M
+put_write3resfail_spec = tie.close (tie.spec (search rules) (search rules) (λ c. search write-resfail-laid))

@@ -6,5 +6,5 @@ use Rattle.nfsdata.specs.Laws.Write.{write-resok-lays}
 use Rattle.nfsdata.proofs.write.put_write3resok.Statement.{statement}
 use Rattle.nfsdata.proofs.write.put_write3resok.Tie as tie
 
-pub put-write3resok-spec : {M : Type 1} → statement M
-put-write3resok-spec = tie.close (tie.spec (search rules) (λ c. search lays) (search rules) (search rules) (λ c. search (rules, lays-plain, write-resok-lays)))
+pub put_write3resok_spec : {M : Type 1} → statement M
+put_write3resok_spec = tie.close (tie.spec (search rules) (λ c. search lays) (search rules) (search rules) (λ c. search (rules, lays-plain, write-resok-lays)))

@@ -6,5 +6,5 @@ use Rattle.nfsdata.specs.Laws.Write.{write-resok-2}
 use Rattle.nfsdata.proofs.write.put_write3resok_1.Statement.{statement}
 use Rattle.nfsdata.proofs.write.put_write3resok_1.Tie as tie
 
-pub put-write3resok-1-spec : {M : Type 1} → statement M
-put-write3resok-1-spec = tie.close (tie.spec (search rules) (λ c. search (lays-none (codec-writer wcc-data) write-resok-2)) (search rules) (search rules) (search rules) (search rules) (search rules) (search rules) (search rules) (search rules) (search rules) (λ c. search (lays-both (codec-writer wcc-data) write-resok-2, lays-of, lays-codec)))
+pub put_write3resok_1_spec : {M : Type 1} → statement M
+put_write3resok_1_spec = tie.close (tie.spec (search rules) (λ c. search (lays-none (codec-writer wcc-data) write-resok-2)) (search rules) (search rules) (search rules) (search rules) (search rules) (search rules) (search rules) (search rules) (search rules) (λ c. search (lays-both (codec-writer wcc-data) write-resok-2, lays-of, lays-codec)))

@@ -6,5 +6,5 @@ use Rattle.nfsdata.specs.Laws.Write.{stable-how-fixed}
 use Rattle.nfsdata.proofs.write.put_write3resok_3.Statement.{statement}
 use Rattle.nfsdata.proofs.write.put_write3resok_3.Tie as tie
 
-pub put-write3resok-3-spec : {M : Type 1} → statement M
-put-write3resok-3-spec = tie.close (tie.spec (λ c. search (lays-none (fixed-writer stable-how-fixed) (fixed-writer hyper-fixed))) (search rules) (search rules) (search rules) (search rules) (search rules) (search rules) (search rules) (search rules) (search rules) (λ c. search (lays-both (fixed-writer stable-how-fixed) (fixed-writer hyper-fixed), lays-of, lays-codec)))
+pub put_write3resok_3_spec : {M : Type 1} → statement M
+put_write3resok_3_spec = tie.close (tie.spec (λ c. search (lays-none (fixed-writer stable-how-fixed) (fixed-writer hyper-fixed))) (search rules) (search rules) (search rules) (search rules) (search rules) (search rules) (search rules) (search rules) (search rules) (λ c. search (lays-both (fixed-writer stable-how-fixed) (fixed-writer hyper-fixed), lays-of, lays-codec)))

@@ -3,5 +3,5 @@ use Rattle.xdr.specs.Laws.Plans.{reads}
 use Rattle.nfsdata.proofs.write.read_write3res.Statement.{statement}
 use Rattle.nfsdata.proofs.write.read_write3res.Tie as tie
 
-pub read-write3res-spec : {M : Type 1} → statement M
-read-write3res-spec = tie.close (tie.spec (search reads) (search reads) (search reads) (search reads) (λ c. search reads) (λ c. search reads))
+pub read_write3res_spec : {M : Type 1} → statement M
+read_write3res_spec = tie.close (tie.spec (search reads) (search reads) (search reads) (search reads) (λ c. search reads) (λ c. search reads))

@@ -5,6 +5,6 @@ use Rattle.nfsdata.specs.Meaning.Write.{stable-how, stable_how_number, stable_ho
 use Rattle.nfsdata.proofs.write.stable_how_at.Statement.{statement}
 use Rattle.nfsdata.proofs.write.stable_how_at.Tie as tie
 
-pub stable-how-at-spec : {M : Type 1} → statement M
+pub stable_how_at_spec : {M : Type 1} → statement M
 unfolding stable-how
-stable-how-at-spec = tie.close (tie.spec (search rules) (search rules) (search rules) (search rules) (λ c. search (tag-lost stable_how_number stable_how_all each_stable_how found_stable_how)) (search rules) (search rules) (search rules) (λ c. search (tag-none stable_how_number stable_how_all each_stable_how found_stable_how)) (λ c. search (tag_is stable_how_number stable_how_all each_stable_how found_stable_how)))
+stable_how_at_spec = tie.close (tie.spec (search rules) (search rules) (search rules) (search rules) (λ c. search (tag-lost stable_how_number stable_how_all each_stable_how found_stable_how)) (search rules) (search rules) (search rules) (λ c. search (tag-none stable_how_number stable_how_all each_stable_how found_stable_how)) (λ c. search (tag_is stable_how_number stable_how_all each_stable_how found_stable_how)))

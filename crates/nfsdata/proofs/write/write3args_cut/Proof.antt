@@ -8,6 +8,6 @@ use Rattle.nfsdata.specs.Meaning.Write.{write_args}
 use Rattle.nfsdata.proofs.write.write3args_cut.Statement.{statement}
 use Rattle.nfsdata.proofs.write.write3args_cut.Tie as tie
 
-pub write3args-cut-spec : {M : Type 1} → statement M
+pub write3args_cut_spec : {M : Type 1} → statement M
 unfolding write_args
-write3args-cut-spec = tie.close (tie.spec (search rules) (search rules) (search rules) (search rules) (λ c. search (planned write-args-plan, asks, marked, step-nfs-fh, lost-nfs-fh, step-stable-how, lost-stable-how) depth 20) (search rules) (search rules) (search rules) (search rules) (λ c. search (planned write-args-plan, asks, marked, step-nfs-fh, lost-nfs-fh, step-stable-how, lost-stable-how) depth 20) (search rules) (search rules) (search rules) (search rules) (λ c. search (planned write-args-plan, asks, marked, step-nfs-fh, lost-nfs-fh, step-stable-how, lost-stable-how) depth 20) (search rules) (search rules) (search rules) (search rules) (λ c. search (planned write-args-plan, asks, marked, step-nfs-fh, lost-nfs-fh, step-stable-how, lost-stable-how) depth 20) (search rules) (search rules) (search rules) (search rules) (λ c. let d3 : tie.After-r3 = search in search (planned write-args-plan, asks, marked, step-nfs-fh, lost-nfs-fh, step-stable-how, lost-stable-how) depth 20 fits 20000) (λ c. let d3 : tie.After-r3 = search in search (planned write-args-plan, asks, marked, step-nfs-fh, lost-nfs-fh, step-stable-how, lost-stable-how) depth 20 fits 20000))
+write3args_cut_spec = tie.close (tie.spec (search rules) (search rules) (search rules) (search rules) (λ c. search (planned write-args-plan, asks, marked, step-nfs-fh, lost-nfs-fh, step-stable-how, lost-stable-how) depth 20) (search rules) (search rules) (search rules) (search rules) (λ c. search (planned write-args-plan, asks, marked, step-nfs-fh, lost-nfs-fh, step-stable-how, lost-stable-how) depth 20) (search rules) (search rules) (search rules) (search rules) (λ c. search (planned write-args-plan, asks, marked, step-nfs-fh, lost-nfs-fh, step-stable-how, lost-stable-how) depth 20) (search rules) (search rules) (search rules) (search rules) (λ c. search (planned write-args-plan, asks, marked, step-nfs-fh, lost-nfs-fh, step-stable-how, lost-stable-how) depth 20) (search rules) (search rules) (search rules) (search rules) (λ c. let d3 : tie.After-r3 = search in search (planned write-args-plan, asks, marked, step-nfs-fh, lost-nfs-fh, step-stable-how, lost-stable-how) depth 20 fits 20000) (λ c. let d3 : tie.After-r3 = search in search (planned write-args-plan, asks, marked, step-nfs-fh, lost-nfs-fh, step-stable-how, lost-stable-how) depth 20 fits 20000))

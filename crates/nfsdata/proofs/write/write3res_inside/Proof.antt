@@ -5,5 +5,5 @@ use Rattle.nfsdata.specs.Laws.Write.{write-res-status}
 use Rattle.nfsdata.proofs.write.write3res_inside.Statement.{statement}
 use Rattle.nfsdata.proofs.write.write3res_inside.Tie as tie
 
-pub write3res-inside-spec : {M : Type 1} → statement M
-write3res-inside-spec = tie.close (tie.spec (search rules) (search rules) (λ c. search (ok-inside write-res-status)) (λ c. search (failed-inside write-res-status)))
+pub write3res_inside_spec : {M : Type 1} → statement M
+write3res_inside_spec = tie.close (tie.spec (search rules) (search rules) (λ c. search (ok-inside write-res-status)) (λ c. search (failed-inside write-res-status)))

@@ -9,5 +9,5 @@ use Rattle.nfsdata.specs.Meaning.Write.{write_resok, write_resfail}
 use Rattle.nfsdata.proofs.write.write3res_size.Statement.{statement}
 use Rattle.nfsdata.proofs.write.write3res_size.Tie as tie
 
-pub write3res-size-spec : {M : Type 1} → statement M
-write3res-size-spec = tie.close (tie.spec (search rules) (search rules) (λ c. search (sums, write-resok-small)) (search rules) (search rules) (λ c. search (sums, write-resfail-small)) (λ c. search (ok-size write-res-status nfsstat-fixed (codec-writer write_resok) (codec-writer write_resfail))) (λ c. search (failed-size write-res-status nfsstat-fixed (codec-writer write_resok) (codec-writer write_resfail))))
+pub write3res_size_spec : {M : Type 1} → statement M
+write3res_size_spec = tie.close (tie.spec (search rules) (search rules) (λ c. search (sums, write-resok-small)) (search rules) (search rules) (λ c. search (sums, write-resfail-small)) (λ c. search (ok-size write-res-status nfsstat-fixed (codec-writer write_resok) (codec-writer write_resfail))) (λ c. search (failed-size write-res-status nfsstat-fixed (codec-writer write_resok) (codec-writer write_resfail))))

@@ -9,6 +9,6 @@ use Rattle.nfsdata.specs.Meaning.Write.{write_resfail}
 use Rattle.nfsdata.proofs.write.write3resfail_at.Statement.{statement}
 use Rattle.nfsdata.proofs.write.write3resfail_at.Tie as tie
 
-pub write3resfail-at-spec : {M : Type 1} → statement M
+pub write3resfail_at_spec : {M : Type 1} → statement M
 unfolding write_resfail
-write3resfail-at-spec = tie.close (tie.spec (search rules) (search rules) (search rules) (search rules) (λ c. search (by-plan write-resfail-plan, asks, marked, step-wcc-data, lost-wcc-data) depth 20) (λ c. search (by-plan write-resfail-plan, asks, marked, step-wcc-data, lost-wcc-data) depth 20))
+write3resfail_at_spec = tie.close (tie.spec (search rules) (search rules) (search rules) (search rules) (λ c. search (by-plan write-resfail-plan, asks, marked, step-wcc-data, lost-wcc-data) depth 20) (λ c. search (by-plan write-resfail-plan, asks, marked, step-wcc-data, lost-wcc-data) depth 20))

@@ -9,6 +9,6 @@ use Rattle.nfsdata.specs.Meaning.Write.{write_resok}
 use Rattle.nfsdata.proofs.write.write3resok_at.Statement.{statement}
 use Rattle.nfsdata.proofs.write.write3resok_at.Tie as tie
 
-pub write3resok-at-spec : {M : Type 1} → statement M
+pub write3resok_at_spec : {M : Type 1} → statement M
 unfolding write_resok
-write3resok-at-spec = tie.close (tie.spec (search rules) (search rules) (search rules) (search rules) (λ c. search (by-plan write-resok-plan, asks, marked, step-wcc-data, lost-wcc-data, step-stable-how, lost-stable-how) depth 20) (search rules) (search rules) (search rules) (search rules) (λ c. search (by-plan write-resok-plan, asks, marked, step-wcc-data, lost-wcc-data, step-stable-how, lost-stable-how) depth 20) (search rules) (search rules) (search rules) (search rules) (λ c. search (by-plan write-resok-plan, asks, marked, step-wcc-data, lost-wcc-data, step-stable-how, lost-stable-how) depth 20) (search rules) (search rules) (search rules) (search rules) (λ c. search (by-plan write-resok-plan, asks, marked, step-wcc-data, lost-wcc-data, step-stable-how, lost-stable-how) depth 20) (λ c. search (by-plan write-resok-plan, asks, marked, step-wcc-data, lost-wcc-data, step-stable-how, lost-stable-how) depth 20))
+write3resok_at_spec = tie.close (tie.spec (search rules) (search rules) (search rules) (search rules) (λ c. search (by-plan write-resok-plan, asks, marked, step-wcc-data, lost-wcc-data, step-stable-how, lost-stable-how) depth 20) (search rules) (search rules) (search rules) (search rules) (λ c. search (by-plan write-resok-plan, asks, marked, step-wcc-data, lost-wcc-data, step-stable-how, lost-stable-how) depth 20) (search rules) (search rules) (search rules) (search rules) (λ c. search (by-plan write-resok-plan, asks, marked, step-wcc-data, lost-wcc-data, step-stable-how, lost-stable-how) depth 20) (search rules) (search rules) (search rules) (search rules) (λ c. search (by-plan write-resok-plan, asks, marked, step-wcc-data, lost-wcc-data, step-stable-how, lost-stable-how) depth 20) (λ c. search (by-plan write-resok-plan, asks, marked, step-wcc-data, lost-wcc-data, step-stable-how, lost-stable-how) depth 20))

@@ -6,5 +6,5 @@ use Rattle.nfsdata.specs.Laws.Write.{write-resok-size}
 use Rattle.nfsdata.proofs.write.write3resok_size.Statement.{statement}
 use Rattle.nfsdata.proofs.write.write3resok_size.Tie as tie
 
-pub write3resok-size-spec : {M : Type 1} → statement M
-write3resok-size-spec = tie.close (tie.spec (search rules) (λ c. search (sums, wcc-data-small)) (λ c. search write-resok-size))
+pub write3resok_size_spec : {M : Type 1} → statement M
+write3resok_size_spec = tie.close (tie.spec (search rules) (λ c. search (sums, wcc-data-small)) (λ c. search write-resok-size))

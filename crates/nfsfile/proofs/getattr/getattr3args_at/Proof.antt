@@ -8,6 +8,6 @@ use Rattle.nfsfile.specs.Meaning.Getattr.{getattr_args}
 use Rattle.nfsfile.proofs.getattr.getattr3args_at.Statement.{statement}
 use Rattle.nfsfile.proofs.getattr.getattr3args_at.Tie as tie
 
-pub getattr3args-at-spec : {M : Type 1} → statement M
+pub getattr3args_at_spec : {M : Type 1} → statement M
 unfolding getattr_args
-getattr3args-at-spec = tie.close (tie.spec (search rules) (search rules) (search rules) (search rules) (λ c. search (planned getattr-args-plan, asks, marked, step-nfs-fh, lost-nfs-fh) depth 20) (λ c. search (planned getattr-args-plan, asks, marked, step-nfs-fh, lost-nfs-fh) depth 20))
+getattr3args_at_spec = tie.close (tie.spec (search rules) (search rules) (search rules) (search rules) (λ c. search (planned getattr-args-plan, asks, marked, step-nfs-fh, lost-nfs-fh) depth 20) (λ c. search (planned getattr-args-plan, asks, marked, step-nfs-fh, lost-nfs-fh) depth 20))

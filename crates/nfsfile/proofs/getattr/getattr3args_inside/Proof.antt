@@ -4,5 +4,5 @@ use Rattle.nfsfile.specs.Laws.Getattr.{getattr-args-inside}
 use Rattle.nfsfile.proofs.getattr.getattr3args_inside.Statement.{statement}
 use Rattle.nfsfile.proofs.getattr.getattr3args_inside.Tie as tie
 
-pub getattr3args-inside-spec : {M : Type 1} → statement M
-getattr3args-inside-spec = tie.close (tie.spec (search rules) (λ c. search getattr-args-inside))
+pub getattr3args_inside_spec : {M : Type 1} → statement M
+getattr3args_inside_spec = tie.close (tie.spec (search rules) (λ c. search getattr-args-inside))

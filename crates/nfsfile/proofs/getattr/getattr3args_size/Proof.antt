@@ -4,5 +4,5 @@ use borrow.Author.Rules.{rules}
 use Rattle.nfsfile.proofs.getattr.getattr3args_size.Statement.{statement}
 use Rattle.nfsfile.proofs.getattr.getattr3args_size.Tie as tie
 
-pub getattr3args-size-spec : {M : Type 1} → statement M
-getattr3args-size-spec = tie.close (tie.spec (search rules) (λ c. omega arith))
+pub getattr3args_size_spec : {M : Type 1} → statement M
+getattr3args_size_spec = tie.close (tie.spec (search rules) (λ c. omega arith))

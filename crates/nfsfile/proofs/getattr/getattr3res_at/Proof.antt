@@ -7,5 +7,5 @@ use Rattle.nfsfile.specs.Laws.Getattr.{getattr-res-status, step-getattr-resok, l
 use Rattle.nfsfile.proofs.getattr.getattr3res_at.Statement.{statement}
 use Rattle.nfsfile.proofs.getattr.getattr3res_at.Tie as tie
 
-pub getattr3res-at-spec : {M : Type 1} → statement M
-getattr3res-at-spec = tie.close (tie.spec (search rules) (search rules) (search rules) (search rules) (λ c. search (nfsstat-lost getattr-res-status)) (search rules) (search rules) (search rules) (search rules) (search rules) (λ c. search (nfsstat-took getattr-res-status, asks, marked, step-getattr-resok, lost-getattr-resok) depth 20) (search rules) (λ c. search (nfsstat-took getattr-res-status, asks, marked, step-getattr-resok, lost-getattr-resok) depth 20) (λ c. search (nfsstat-took getattr-res-status, asks, marked) depth 20))
+pub getattr3res_at_spec : {M : Type 1} → statement M
+getattr3res_at_spec = tie.close (tie.spec (search rules) (search rules) (search rules) (search rules) (λ c. search (nfsstat-lost getattr-res-status)) (search rules) (search rules) (search rules) (search rules) (search rules) (λ c. search (nfsstat-took getattr-res-status, asks, marked, step-getattr-resok, lost-getattr-resok) depth 20) (search rules) (λ c. search (nfsstat-took getattr-res-status, asks, marked, step-getattr-resok, lost-getattr-resok) depth 20) (λ c. search (nfsstat-took getattr-res-status, asks, marked) depth 20))

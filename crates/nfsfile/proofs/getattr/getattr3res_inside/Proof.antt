@@ -5,5 +5,5 @@ use Rattle.nfsfile.specs.Laws.Getattr.{getattr-res-status}
 use Rattle.nfsfile.proofs.getattr.getattr3res_inside.Statement.{statement}
 use Rattle.nfsfile.proofs.getattr.getattr3res_inside.Tie as tie
 
-pub getattr3res-inside-spec : {M : Type 1} → statement M
-getattr3res-inside-spec = tie.close (tie.spec (search rules) (search rules) (λ c. search (ok-inside getattr-res-status)) (λ c. search (alone-inside getattr-res-status)))
+pub getattr3res_inside_spec : {M : Type 1} → statement M
+getattr3res_inside_spec = tie.close (tie.spec (search rules) (search rules) (λ c. search (ok-inside getattr-res-status)) (λ c. search (alone-inside getattr-res-status)))

@@ -8,5 +8,5 @@ use Rattle.nfsfile.specs.Laws.Getattr.{getattr-res-status, getattr-resok-fixed}
 use Rattle.nfsfile.proofs.getattr.getattr3res_size.Statement.{statement}
 use Rattle.nfsfile.proofs.getattr.getattr3res_size.Tie as tie
 
-pub getattr3res-size-spec : {M : Type 1} → statement M
-getattr3res-size-spec = tie.close (tie.spec (search rules) (search rules) (λ c. search (ok-fixed getattr-res-status nfsstat-fixed (fixed-writer getattr-resok-fixed) (codec-writer void))) (λ c. search (alone-size getattr-res-status nfsstat-fixed (fixed-writer getattr-resok-fixed) (codec-writer void))))
+pub getattr3res_size_spec : {M : Type 1} → statement M
+getattr3res_size_spec = tie.close (tie.spec (search rules) (search rules) (λ c. search (ok-fixed getattr-res-status nfsstat-fixed (fixed-writer getattr-resok-fixed) (codec-writer void))) (λ c. search (alone-size getattr-res-status nfsstat-fixed (fixed-writer getattr-resok-fixed) (codec-writer void))))

@@ -9,6 +9,6 @@ use Rattle.nfsfile.specs.Meaning.Getattr.{getattr_resok}
 use Rattle.nfsfile.proofs.getattr.getattr3resok_at.Statement.{statement}
 use Rattle.nfsfile.proofs.getattr.getattr3resok_at.Tie as tie
 
-pub getattr3resok-at-spec : {M : Type 1} → statement M
+pub getattr3resok_at_spec : {M : Type 1} → statement M
 unfolding getattr_resok
-getattr3resok-at-spec = tie.close (tie.spec (search rules) (search rules) (search rules) (search rules) (λ c. search (by-plan getattr-resok-plan, asks, marked, step-fattr, lost-fattr) depth 20) (λ c. search (by-plan getattr-resok-plan, asks, marked, step-fattr, lost-fattr) depth 20))
+getattr3resok_at_spec = tie.close (tie.spec (search rules) (search rules) (search rules) (search rules) (λ c. search (by-plan getattr-resok-plan, asks, marked, step-fattr, lost-fattr) depth 20) (λ c. search (by-plan getattr-resok-plan, asks, marked, step-fattr, lost-fattr) depth 20))

@@ -8,5 +8,5 @@ use Rattle.nfsfile.specs.Laws.Getattr.{getattr-res-writer, getattr-res-status}
 use Rattle.nfsfile.proofs.getattr.put_getattr3res.Statement.{statement}
 use Rattle.nfsfile.proofs.getattr.put_getattr3res.Tie as tie
 
-pub put-getattr3res-spec : {M : Type 1} → statement M
-put-getattr3res-spec = tie.close (tie.spec (λ c. search of-long) (search rules) (λ c. search (put-outside getattr-res-writer)) (search rules) (λ c. search (put-short getattr-res-writer)) (search rules) (search rules) (search rules) (search rules) (search rules) (λ c. search (lays_all getattr-res-writer, ok-lays getattr-res-status)) (search rules) (λ c. search (lays_all getattr-res-writer, alone-lays getattr-res-status)))
+pub put_getattr3res_spec : {M : Type 1} → statement M
+put_getattr3res_spec = tie.close (tie.spec (λ c. search of-long) (search rules) (λ c. search (put-outside getattr-res-writer)) (search rules) (λ c. search (put-short getattr-res-writer)) (search rules) (search rules) (search rules) (search rules) (search rules) (λ c. search (lays_all getattr-res-writer, ok-lays getattr-res-status)) (search rules) (λ c. search (lays_all getattr-res-writer, alone-lays getattr-res-status)))

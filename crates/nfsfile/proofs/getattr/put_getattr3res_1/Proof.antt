@@ -6,5 +6,5 @@ use Rattle.nfsfile.specs.Laws.Getattr.{getattr-resok-fixed}
 use Rattle.nfsfile.proofs.getattr.put_getattr3res_1.Statement.{statement}
 use Rattle.nfsfile.proofs.getattr.put_getattr3res_1.Tie as tie
 
-pub put-getattr3res-1-spec : {M : Type 1} → statement M
-put-getattr3res-1-spec = tie.close (tie.spec (λ c. search (lays-none (fixed-writer nfsstat-fixed) (fixed-writer getattr-resok-fixed))) (search rules) (search rules) (search rules) (search rules) (search rules) (search rules) (search rules) (search rules) (search rules) (λ c. search (lays-both (fixed-writer nfsstat-fixed) (fixed-writer getattr-resok-fixed), lays-of, lays-codec)))
+pub put_getattr3res_1_spec : {M : Type 1} → statement M
+put_getattr3res_1_spec = tie.close (tie.spec (λ c. search (lays-none (fixed-writer nfsstat-fixed) (fixed-writer getattr-resok-fixed))) (search rules) (search rules) (search rules) (search rules) (search rules) (search rules) (search rules) (search rules) (search rules) (λ c. search (lays-both (fixed-writer nfsstat-fixed) (fixed-writer getattr-resok-fixed), lays-of, lays-codec)))

@@ -4,5 +4,5 @@ use Rattle.nfsfile.specs.Laws.Getattr.{getattr-resok-laid}
 use Rattle.nfsfile.proofs.getattr.put_getattr3resok.Statement.{statement}
 use Rattle.nfsfile.proofs.getattr.put_getattr3resok.Tie as tie
 
-pub put-getattr3resok-spec : {M : Type 1} → statement M
-put-getattr3resok-spec = tie.close (tie.spec (search rules) (search rules) (λ c. search getattr-resok-laid))
+pub put_getattr3resok_spec : {M : Type 1} → statement M
+put_getattr3resok_spec = tie.close (tie.spec (search rules) (search rules) (λ c. search getattr-resok-laid))

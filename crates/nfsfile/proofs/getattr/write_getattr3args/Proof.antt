@@ -6,5 +6,5 @@ use Rattle.nfsfile.specs.Laws.Getattr.{getattr-args-writer}
 use Rattle.nfsfile.proofs.getattr.write_getattr3args.Statement.{statement}
 use Rattle.nfsfile.proofs.getattr.write_getattr3args.Tie as tie
 
-pub write-getattr3args-spec : {M : Type 1} → statement M
-write-getattr3args-spec = tie.close (tie.spec (search rules) (search rules) (search rules) (search rules) (search rules) (λ c. search (write-off getattr-args-writer)) (λ c. search (write-place getattr-args-writer)) (λ c. search (write-place getattr-args-writer)) (search rules) (search rules) (search rules) (λ c. search (write-on getattr-args-writer, getattr-args-good)))
+pub write_getattr3args_spec : {M : Type 1} → statement M
+write_getattr3args_spec = tie.close (tie.spec (search rules) (search rules) (search rules) (search rules) (search rules) (λ c. search (write-off getattr-args-writer)) (λ c. search (write-place getattr-args-writer)) (λ c. search (write-place getattr-args-writer)) (search rules) (search rules) (search rules) (λ c. search (write-on getattr-args-writer, getattr-args-good)))

@@ -6,5 +6,5 @@ use Rattle.nfsfile.specs.Laws.Getattr.{getattr-res-writer}
 use Rattle.nfsfile.proofs.getattr.write_getattr3res.Statement.{statement}
 use Rattle.nfsfile.proofs.getattr.write_getattr3res.Tie as tie
 
-pub write-getattr3res-spec : {M : Type 1} → statement M
-write-getattr3res-spec = tie.close (tie.spec (search rules) (search rules) (search rules) (search rules) (search rules) (λ c. search (write-off getattr-res-writer)) (λ c. search (write-place getattr-res-writer)) (λ c. search (write-place getattr-res-writer)) (search rules) (search rules) (search rules) (λ c. search (write-on getattr-res-writer, getattr-res-good)))
+pub write_getattr3res_spec : {M : Type 1} → statement M
+write_getattr3res_spec = tie.close (tie.spec (search rules) (search rules) (search rules) (search rules) (search rules) (λ c. search (write-off getattr-res-writer)) (λ c. search (write-place getattr-res-writer)) (λ c. search (write-place getattr-res-writer)) (search rules) (search rules) (search rules) (λ c. search (write-on getattr-res-writer, getattr-res-good)))

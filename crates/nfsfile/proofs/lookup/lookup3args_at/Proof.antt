@@ -8,6 +8,6 @@ use Rattle.nfsfile.specs.Meaning.Lookup.{lookup_args}
 use Rattle.nfsfile.proofs.lookup.lookup3args_at.Statement.{statement}
 use Rattle.nfsfile.proofs.lookup.lookup3args_at.Tie as tie
 
-pub lookup3args-at-spec : {M : Type 1} → statement M
+pub lookup3args_at_spec : {M : Type 1} → statement M
 unfolding lookup_args
-lookup3args-at-spec = tie.close (tie.spec (search rules) (search rules) (search rules) (search rules) (λ c. search (planned lookup-args-plan, asks, marked, step-diropargs, lost-diropargs) depth 20) (λ c. search (planned lookup-args-plan, asks, marked, step-diropargs, lost-diropargs) depth 20))
+lookup3args_at_spec = tie.close (tie.spec (search rules) (search rules) (search rules) (search rules) (λ c. search (planned lookup-args-plan, asks, marked, step-diropargs, lost-diropargs) depth 20) (λ c. search (planned lookup-args-plan, asks, marked, step-diropargs, lost-diropargs) depth 20))

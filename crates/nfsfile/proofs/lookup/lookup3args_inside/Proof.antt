@@ -4,5 +4,5 @@ use Rattle.nfsfile.specs.Laws.Lookup.{lookup-args-inside}
 use Rattle.nfsfile.proofs.lookup.lookup3args_inside.Statement.{statement}
 use Rattle.nfsfile.proofs.lookup.lookup3args_inside.Tie as tie
 
-pub lookup3args-inside-spec : {M : Type 1} → statement M
-lookup3args-inside-spec = tie.close (tie.spec (search rules) (λ c. search lookup-args-inside))
+pub lookup3args_inside_spec : {M : Type 1} → statement M
+lookup3args_inside_spec = tie.close (tie.spec (search rules) (λ c. search lookup-args-inside))

@@ -7,5 +7,5 @@ use Rattle.nfsfile.specs.Laws.Lookup.{lookup-res-status, step-lookup-resok, lost
 use Rattle.nfsfile.proofs.lookup.lookup3res_at.Statement.{statement}
 use Rattle.nfsfile.proofs.lookup.lookup3res_at.Tie as tie
 
-pub lookup3res-at-spec : {M : Type 1} → statement M
-lookup3res-at-spec = tie.close (tie.spec (search rules) (search rules) (search rules) (search rules) (λ c. search (nfsstat-lost lookup-res-status)) (search rules) (search rules) (search rules) (search rules) (search rules) (λ c. search (nfsstat-took lookup-res-status, asks, marked, step-lookup-resok, lost-lookup-resok) depth 20) (search rules) (search rules) (search rules) (search rules) (search rules) (λ c. search (nfsstat-took lookup-res-status, asks, marked, step-lookup-resfail, lost-lookup-resfail) depth 20) (λ c. search (nfsstat-took lookup-res-status, asks, marked, step-lookup-resok, lost-lookup-resok) depth 20) (λ c. search (nfsstat-took lookup-res-status, asks, marked, step-lookup-resfail, lost-lookup-resfail) depth 20))
+pub lookup3res_at_spec : {M : Type 1} → statement M
+lookup3res_at_spec = tie.close (tie.spec (search rules) (search rules) (search rules) (search rules) (λ c. search (nfsstat-lost lookup-res-status)) (search rules) (search rules) (search rules) (search rules) (search rules) (λ c. search (nfsstat-took lookup-res-status, asks, marked, step-lookup-resok, lost-lookup-resok) depth 20) (search rules) (search rules) (search rules) (search rules) (search rules) (λ c. search (nfsstat-took lookup-res-status, asks, marked, step-lookup-resfail, lost-lookup-resfail) depth 20) (λ c. search (nfsstat-took lookup-res-status, asks, marked, step-lookup-resok, lost-lookup-resok) depth 20) (λ c. search (nfsstat-took lookup-res-status, asks, marked, step-lookup-resfail, lost-lookup-resfail) depth 20))

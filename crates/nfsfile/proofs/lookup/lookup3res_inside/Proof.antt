@@ -5,5 +5,5 @@ use Rattle.nfsfile.specs.Laws.Lookup.{lookup-res-status}
 use Rattle.nfsfile.proofs.lookup.lookup3res_inside.Statement.{statement}
 use Rattle.nfsfile.proofs.lookup.lookup3res_inside.Tie as tie
 
-pub lookup3res-inside-spec : {M : Type 1} → statement M
-lookup3res-inside-spec = tie.close (tie.spec (search rules) (search rules) (search rules) (λ c. search (ok-inside lookup-res-status)) (λ c. search (failed-inside lookup-res-status)))
+pub lookup3res_inside_spec : {M : Type 1} → statement M
+lookup3res_inside_spec = tie.close (tie.spec (search rules) (search rules) (search rules) (λ c. search (ok-inside lookup-res-status)) (λ c. search (failed-inside lookup-res-status)))

@@ -9,5 +9,5 @@ use Rattle.nfsfile.specs.Meaning.Lookup.{lookup_resfail}
 use Rattle.nfsfile.proofs.lookup.lookup3res_size.Statement.{statement}
 use Rattle.nfsfile.proofs.lookup.lookup3res_size.Tie as tie
 
-pub lookup3res-size-spec : {M : Type 1} → statement M
-lookup3res-size-spec = tie.close (tie.spec (search rules) (search rules) (λ c. search (sums, lookup-resok-most)) (search rules) (search rules) (λ c. search (sums, lookup-resfail-small)) (λ c. search (ok-size lookup-res-status nfsstat-fixed lookup-resok-writer (codec-writer lookup_resfail))) (λ c. search (failed-size lookup-res-status nfsstat-fixed lookup-resok-writer (codec-writer lookup_resfail))))
+pub lookup3res_size_spec : {M : Type 1} → statement M
+lookup3res_size_spec = tie.close (tie.spec (search rules) (search rules) (λ c. search (sums, lookup-resok-most)) (search rules) (search rules) (λ c. search (sums, lookup-resfail-small)) (λ c. search (ok-size lookup-res-status nfsstat-fixed lookup-resok-writer (codec-writer lookup_resfail))) (λ c. search (failed-size lookup-res-status nfsstat-fixed lookup-resok-writer (codec-writer lookup_resfail))))

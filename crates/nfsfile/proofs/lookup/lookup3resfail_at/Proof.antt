@@ -9,6 +9,6 @@ use Rattle.nfsfile.specs.Meaning.Lookup.{lookup_resfail}
 use Rattle.nfsfile.proofs.lookup.lookup3resfail_at.Statement.{statement}
 use Rattle.nfsfile.proofs.lookup.lookup3resfail_at.Tie as tie
 
-pub lookup3resfail-at-spec : {M : Type 1} → statement M
+pub lookup3resfail_at_spec : {M : Type 1} → statement M
 unfolding lookup_resfail
-lookup3resfail-at-spec = tie.close (tie.spec (search rules) (search rules) (search rules) (search rules) (λ c. search (by-plan lookup-resfail-plan, asks, marked, step-post-op-attr, lost-post-op-attr) depth 20) (λ c. search (by-plan lookup-resfail-plan, asks, marked, step-post-op-attr, lost-post-op-attr) depth 20))
+lookup3resfail_at_spec = tie.close (tie.spec (search rules) (search rules) (search rules) (search rules) (λ c. search (by-plan lookup-resfail-plan, asks, marked, step-post-op-attr, lost-post-op-attr) depth 20) (λ c. search (by-plan lookup-resfail-plan, asks, marked, step-post-op-attr, lost-post-op-attr) depth 20))

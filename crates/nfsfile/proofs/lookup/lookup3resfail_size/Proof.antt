@@ -4,5 +4,5 @@ use Rattle.nfsfile.specs.Laws.Lookup.{lookup-resfail-size}
 use Rattle.nfsfile.proofs.lookup.lookup3resfail_size.Statement.{statement}
 use Rattle.nfsfile.proofs.lookup.lookup3resfail_size.Tie as tie
 
-pub lookup3resfail-size-spec : {M : Type 1} → statement M
-lookup3resfail-size-spec = tie.close (tie.spec (search rules) (λ c. search lookup-resfail-size))
+pub lookup3resfail_size_spec : {M : Type 1} → statement M
+lookup3resfail_size_spec = tie.close (tie.spec (search rules) (λ c. search lookup-resfail-size))

@@ -9,6 +9,6 @@ use Rattle.nfsfile.specs.Meaning.Lookup.{lookup_resok}
 use Rattle.nfsfile.proofs.lookup.lookup3resok_at.Statement.{statement}
 use Rattle.nfsfile.proofs.lookup.lookup3resok_at.Tie as tie
 
-pub lookup3resok-at-spec : {M : Type 1} → statement M
+pub lookup3resok_at_spec : {M : Type 1} → statement M
 unfolding lookup_resok
-lookup3resok-at-spec = tie.close (tie.spec (search rules) (search rules) (search rules) (search rules) (λ c. search (planned lookup-resok-plan, asks, marked, step-nfs-fh, lost-nfs-fh, step-post-op-attr, lost-post-op-attr) depth 20) (search rules) (search rules) (search rules) (search rules) (λ c. search (planned lookup-resok-plan, asks, marked, step-nfs-fh, lost-nfs-fh, step-post-op-attr, lost-post-op-attr) depth 20) (search rules) (search rules) (search rules) (search rules) (λ c. search (planned lookup-resok-plan, asks, marked, step-nfs-fh, lost-nfs-fh, step-post-op-attr, lost-post-op-attr) depth 20) (λ c. search (planned lookup-resok-plan, asks, marked, step-nfs-fh, lost-nfs-fh, step-post-op-attr, lost-post-op-attr) depth 20))
+lookup3resok_at_spec = tie.close (tie.spec (search rules) (search rules) (search rules) (search rules) (λ c. search (planned lookup-resok-plan, asks, marked, step-nfs-fh, lost-nfs-fh, step-post-op-attr, lost-post-op-attr) depth 20) (search rules) (search rules) (search rules) (search rules) (λ c. search (planned lookup-resok-plan, asks, marked, step-nfs-fh, lost-nfs-fh, step-post-op-attr, lost-post-op-attr) depth 20) (search rules) (search rules) (search rules) (search rules) (λ c. search (planned lookup-resok-plan, asks, marked, step-nfs-fh, lost-nfs-fh, step-post-op-attr, lost-post-op-attr) depth 20) (λ c. search (planned lookup-resok-plan, asks, marked, step-nfs-fh, lost-nfs-fh, step-post-op-attr, lost-post-op-attr) depth 20))

@@ -7,5 +7,5 @@ use Rattle.nfsattr.specs.Laws.Bytes.{post-op-attr-small}
 use Rattle.nfsfile.proofs.lookup.lookup3resok_size.Statement.{statement}
 use Rattle.nfsfile.proofs.lookup.lookup3resok_size.Tie as tie
 
-pub lookup3resok-size-spec : {M : Type 1} → statement M
-lookup3resok-size-spec = tie.close (tie.spec (search rules) (search rules) (λ c. search (sums, nfs-fh-most, post-op-attr-small)) (search rules) (λ c. search (sums, nfs-fh-most, post-op-attr-small)) (λ c. omega arith))
+pub lookup3resok_size_spec : {M : Type 1} → statement M
+lookup3resok_size_spec = tie.close (tie.spec (search rules) (search rules) (λ c. search (sums, nfs-fh-most, post-op-attr-small)) (search rules) (λ c. search (sums, nfs-fh-most, post-op-attr-small)) (λ c. omega arith))

@@ -6,5 +6,5 @@ use Rattle.nfsfile.specs.Laws.Lookup.{lookup-resok-2}
 use Rattle.nfsfile.proofs.lookup.put_lookup3resok_1.Statement.{statement}
 use Rattle.nfsfile.proofs.lookup.put_lookup3resok_1.Tie as tie
 
-pub put-lookup3resok-1-spec : {M : Type 1} → statement M
-put-lookup3resok-1-spec = tie.close (tie.spec (search rules) (λ c. search (lays-none nfs-fh-writer lookup-resok-2)) (search rules) (search rules) (search rules) (search rules) (search rules) (search rules) (search rules) (search rules) (search rules) (λ c. search (lays-both nfs-fh-writer lookup-resok-2, lays-of, lays-codec)))
+pub put_lookup3resok_1_spec : {M : Type 1} → statement M
+put_lookup3resok_1_spec = tie.close (tie.spec (search rules) (λ c. search (lays-none nfs-fh-writer lookup-resok-2)) (search rules) (search rules) (search rules) (search rules) (search rules) (search rules) (search rules) (search rules) (search rules) (λ c. search (lays-both nfs-fh-writer lookup-resok-2, lays-of, lays-codec)))

@@ -6,5 +6,5 @@ use Rattle.nfsfile.specs.Laws.Lookup.{lookup-args-writer}
 use Rattle.nfsfile.proofs.lookup.write_lookup3args.Statement.{statement}
 use Rattle.nfsfile.proofs.lookup.write_lookup3args.Tie as tie
 
-pub write-lookup3args-spec : {M : Type 1} → statement M
-write-lookup3args-spec = tie.close (tie.spec (search rules) (search rules) (search rules) (search rules) (search rules) (λ c. search (write-off lookup-args-writer)) (λ c. search (write-place lookup-args-writer)) (λ c. search (write-place lookup-args-writer)) (search rules) (search rules) (search rules) (λ c. search (write-on lookup-args-writer, lookup-args-good)))
+pub write_lookup3args_spec : {M : Type 1} → statement M
+write_lookup3args_spec = tie.close (tie.spec (search rules) (search rules) (search rules) (search rules) (search rules) (λ c. search (write-off lookup-args-writer)) (λ c. search (write-place lookup-args-writer)) (λ c. search (write-place lookup-args-writer)) (search rules) (search rules) (search rules) (λ c. search (write-on lookup-args-writer, lookup-args-good)))

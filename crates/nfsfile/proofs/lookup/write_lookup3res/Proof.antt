@@ -6,5 +6,5 @@ use Rattle.nfsfile.specs.Laws.Lookup.{lookup-res-writer}
 use Rattle.nfsfile.proofs.lookup.write_lookup3res.Statement.{statement}
 use Rattle.nfsfile.proofs.lookup.write_lookup3res.Tie as tie
 
-pub write-lookup3res-spec : {M : Type 1} → statement M
-write-lookup3res-spec = tie.close (tie.spec (search rules) (search rules) (search rules) (search rules) (search rules) (λ c. search (write-off lookup-res-writer)) (λ c. search (write-place lookup-res-writer)) (λ c. search (write-place lookup-res-writer)) (search rules) (search rules) (search rules) (λ c. search (write-on lookup-res-writer, lookup-res-good)))
+pub write_lookup3res_spec : {M : Type 1} → statement M
+write_lookup3res_spec = tie.close (tie.spec (search rules) (search rules) (search rules) (search rules) (search rules) (λ c. search (write-off lookup-res-writer)) (λ c. search (write-place lookup-res-writer)) (λ c. search (write-place lookup-res-writer)) (search rules) (search rules) (search rules) (λ c. search (write-on lookup-res-writer, lookup-res-good)))

@@ -6,5 +6,5 @@ use Rattle.nfsattr.specs.Laws.Sizes.{nfstime-fixed}
 use Rattle.nfsfile.proofs.setattr.put_sattrguard3_1.Statement.{statement}
 use Rattle.nfsfile.proofs.setattr.put_sattrguard3_1.Tie as tie
 
-pub put-sattrguard3-1-spec : {M : Type 1} → statement M
-put-sattrguard3-1-spec = tie.close (tie.spec (λ c. search (lays-none (fixed-writer flag-fixed) (fixed-writer nfstime-fixed))) (search rules) (search rules) (search rules) (search rules) (search rules) (search rules) (search rules) (search rules) (search rules) (λ c. search (lays-both (fixed-writer flag-fixed) (fixed-writer nfstime-fixed), lays-of, lays-codec)))
+pub put_sattrguard3_1_spec : {M : Type 1} → statement M
+put_sattrguard3_1_spec = tie.close (tie.spec (λ c. search (lays-none (fixed-writer flag-fixed) (fixed-writer nfstime-fixed))) (search rules) (search rules) (search rules) (search rules) (search rules) (search rules) (search rules) (search rules) (search rules) (λ c. search (lays-both (fixed-writer flag-fixed) (fixed-writer nfstime-fixed), lays-of, lays-codec)))

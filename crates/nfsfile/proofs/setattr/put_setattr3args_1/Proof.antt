@@ -6,5 +6,5 @@ use Rattle.nfsfile.specs.Laws.Setattr.{setattr-args-2}
 use Rattle.nfsfile.proofs.setattr.put_setattr3args_1.Statement.{statement}
 use Rattle.nfsfile.proofs.setattr.put_setattr3args_1.Tie as tie
 
-pub put-setattr3args-1-spec : {M : Type 1} → statement M
-put-setattr3args-1-spec = tie.close (tie.spec (search rules) (λ c. search (lays-none nfs-fh-writer setattr-args-2)) (search rules) (search rules) (search rules) (search rules) (search rules) (search rules) (search rules) (search rules) (search rules) (λ c. search (lays-both nfs-fh-writer setattr-args-2, lays-of, lays-codec)))
+pub put_setattr3args_1_spec : {M : Type 1} → statement M
+put_setattr3args_1_spec = tie.close (tie.spec (search rules) (λ c. search (lays-none nfs-fh-writer setattr-args-2)) (search rules) (search rules) (search rules) (search rules) (search rules) (search rules) (search rules) (search rules) (search rules) (λ c. search (lays-both nfs-fh-writer setattr-args-2, lays-of, lays-codec)))

@@ -6,5 +6,5 @@ use Rattle.nfsfile.specs.Meaning.Setattr.{sattrguard}
 use Rattle.nfsfile.proofs.setattr.put_setattr3args_2.Statement.{statement}
 use Rattle.nfsfile.proofs.setattr.put_setattr3args_2.Tie as tie
 
-pub put-setattr3args-2-spec : {M : Type 1} → statement M
-put-setattr3args-2-spec = tie.close (tie.spec (search rules) (λ c. search (lays-none (codec-writer sattr) (codec-writer sattrguard))) (search rules) (search rules) (search rules) (search rules) (search rules) (search rules) (search rules) (search rules) (search rules) (λ c. search (lays-both (codec-writer sattr) (codec-writer sattrguard), lays-of, lays-codec)))
+pub put_setattr3args_2_spec : {M : Type 1} → statement M
+put_setattr3args_2_spec = tie.close (tie.spec (search rules) (λ c. search (lays-none (codec-writer sattr) (codec-writer sattrguard))) (search rules) (search rules) (search rules) (search rules) (search rules) (search rules) (search rules) (search rules) (search rules) (λ c. search (lays-both (codec-writer sattr) (codec-writer sattrguard), lays-of, lays-codec)))

@@ -8,5 +8,5 @@ use Rattle.nfsfile.specs.Laws.Setattr.{setattr-res-writer, setattr-res-status}
 use Rattle.nfsfile.proofs.setattr.put_setattr3res.Statement.{statement}
 use Rattle.nfsfile.proofs.setattr.put_setattr3res.Tie as tie
 
-pub put-setattr3res-spec : {M : Type 1} → statement M
-put-setattr3res-spec = tie.close (tie.spec (λ c. search of-long) (search rules) (λ c. search (put-outside setattr-res-writer)) (search rules) (λ c. search (put-short setattr-res-writer)) (search rules) (search rules) (search rules) (search rules) (search rules) (λ c. search (lays_all setattr-res-writer, ok-lays setattr-res-status)) (search rules) (λ c. search (lays_all setattr-res-writer, failed-lays setattr-res-status)))
+pub put_setattr3res_spec : {M : Type 1} → statement M
+put_setattr3res_spec = tie.close (tie.spec (λ c. search of-long) (search rules) (λ c. search (put-outside setattr-res-writer)) (search rules) (λ c. search (put-short setattr-res-writer)) (search rules) (search rules) (search rules) (search rules) (search rules) (λ c. search (lays_all setattr-res-writer, ok-lays setattr-res-status)) (search rules) (λ c. search (lays_all setattr-res-writer, failed-lays setattr-res-status)))

@@ -6,5 +6,5 @@ use Rattle.nfsfile.specs.Meaning.Setattr.{setattr_resok}
 use Rattle.nfsfile.proofs.setattr.put_setattr3res_1.Statement.{statement}
 use Rattle.nfsfile.proofs.setattr.put_setattr3res_1.Tie as tie
 
-pub put-setattr3res-1-spec : {M : Type 1} → statement M
-put-setattr3res-1-spec = tie.close (tie.spec (λ c. search (lays-none (fixed-writer nfsstat-fixed) (codec-writer setattr_resok))) (search rules) (search rules) (search rules) (search rules) (search rules) (search rules) (search rules) (search rules) (search rules) (λ c. search (lays-both (fixed-writer nfsstat-fixed) (codec-writer setattr_resok), lays-of, lays-codec)))
+pub put_setattr3res_1_spec : {M : Type 1} → statement M
+put_setattr3res_1_spec = tie.close (tie.spec (λ c. search (lays-none (fixed-writer nfsstat-fixed) (codec-writer setattr_resok))) (search rules) (search rules) (search rules) (search rules) (search rules) (search rules) (search rules) (search rules) (search rules) (λ c. search (lays-both (fixed-writer nfsstat-fixed) (codec-writer setattr_resok), lays-of, lays-codec)))

@@ -6,5 +6,5 @@ use Rattle.nfsfile.specs.Meaning.Setattr.{setattr_resfail}
 use Rattle.nfsfile.proofs.setattr.put_setattr3res_2.Statement.{statement}
 use Rattle.nfsfile.proofs.setattr.put_setattr3res_2.Tie as tie
 
-pub put-setattr3res-2-spec : {M : Type 1} → statement M
-put-setattr3res-2-spec = tie.close (tie.spec (λ c. search (lays-none (fixed-writer nfsstat-fixed) (codec-writer setattr_resfail))) (search rules) (search rules) (search rules) (search rules) (search rules) (search rules) (search rules) (search rules) (search rules) (λ c. search (lays-both (fixed-writer nfsstat-fixed) (codec-writer setattr_resfail), lays-of, lays-codec)))
+pub put_setattr3res_2_spec : {M : Type 1} → statement M
+put_setattr3res_2_spec = tie.close (tie.spec (λ c. search (lays-none (fixed-writer nfsstat-fixed) (codec-writer setattr_resfail))) (search rules) (search rules) (search rules) (search rules) (search rules) (search rules) (search rules) (search rules) (search rules) (λ c. search (lays-both (fixed-writer nfsstat-fixed) (codec-writer setattr_resfail), lays-of, lays-codec)))

@@ -4,5 +4,5 @@ use Rattle.nfsfile.specs.Laws.Setattr.{setattr-resfail-laid}
 use Rattle.nfsfile.proofs.setattr.put_setattr3resfail.Statement.{statement}
 use Rattle.nfsfile.proofs.setattr.put_setattr3resfail.Tie as tie
 
-pub put-setattr3resfail-spec : {M : Type 1} → statement M
-put-setattr3resfail-spec = tie.close (tie.spec (search rules) (search rules) (λ c. search setattr-resfail-laid))
+pub put_setattr3resfail_spec : {M : Type 1} → statement M
+put_setattr3resfail_spec = tie.close (tie.spec (search rules) (search rules) (λ c. search setattr-resfail-laid))

@@ -9,6 +9,6 @@ use Rattle.nfsfile.specs.Meaning.Setattr.{sattrguard}
 use Rattle.nfsfile.proofs.setattr.sattrguard3_at.Statement.{statement}
 use Rattle.nfsfile.proofs.setattr.sattrguard3_at.Tie as tie
 
-pub sattrguard3-at-spec : {M : Type 1} → statement M
+pub sattrguard3_at_spec : {M : Type 1} → statement M
 unfolding sattrguard
-sattrguard3-at-spec = tie.close (tie.spec (search rules) (search rules) (search rules) (search rules) (λ c. search (by-plan sattrguard-plan, asks, marked, step-nfstime, lost-nfstime) depth 20) (λ c. search (by-plan sattrguard-plan, asks, marked, step-nfstime, lost-nfstime) depth 20) (search rules) (search rules) (search rules) (search rules) (λ c. search (by-plan sattrguard-plan, asks, marked, step-nfstime, lost-nfstime) depth 20) (λ c. search (by-plan sattrguard-plan, asks, marked, step-nfstime, lost-nfstime) depth 20))
+sattrguard3_at_spec = tie.close (tie.spec (search rules) (search rules) (search rules) (search rules) (λ c. search (by-plan sattrguard-plan, asks, marked, step-nfstime, lost-nfstime) depth 20) (λ c. search (by-plan sattrguard-plan, asks, marked, step-nfstime, lost-nfstime) depth 20) (search rules) (search rules) (search rules) (search rules) (λ c. search (by-plan sattrguard-plan, asks, marked, step-nfstime, lost-nfstime) depth 20) (λ c. search (by-plan sattrguard-plan, asks, marked, step-nfstime, lost-nfstime) depth 20))

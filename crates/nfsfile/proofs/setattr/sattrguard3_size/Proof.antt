@@ -6,5 +6,5 @@ use Rattle.nfsfile.specs.Laws.Setattr.{sattrguard-optional}
 use Rattle.nfsfile.proofs.setattr.sattrguard3_size.Statement.{statement}
 use Rattle.nfsfile.proofs.setattr.sattrguard3_size.Tie as tie
 
-pub sattrguard3-size-spec : {M : Type 1} → statement M
-sattrguard3-size-spec = tie.close (tie.spec (search rules) (search rules) (search rules) (λ c. search (none-size sattrguard-optional)) (λ c. search (some_size sattrguard-optional nfstime-fixed)))
+pub sattrguard3_size_spec : {M : Type 1} → statement M
+sattrguard3_size_spec = tie.close (tie.spec (search rules) (search rules) (search rules) (λ c. search (none-size sattrguard-optional)) (λ c. search (some_size sattrguard-optional nfstime-fixed)))

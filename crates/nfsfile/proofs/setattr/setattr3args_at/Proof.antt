@@ -9,6 +9,6 @@ use Rattle.nfsfile.specs.Meaning.Setattr.{setattr_args}
 use Rattle.nfsfile.proofs.setattr.setattr3args_at.Statement.{statement}
 use Rattle.nfsfile.proofs.setattr.setattr3args_at.Tie as tie
 
-pub setattr3args-at-spec : {M : Type 1} → statement M
+pub setattr3args_at_spec : {M : Type 1} → statement M
 unfolding setattr_args
-setattr3args-at-spec = tie.close (tie.spec (search rules) (search rules) (search rules) (search rules) (λ c. search (planned setattr-args-plan, asks, marked, step-nfs-fh, lost-nfs-fh, step-sattr, lost-sattr, step-sattrguard, lost-sattrguard) depth 20) (search rules) (search rules) (search rules) (search rules) (λ c. search (planned setattr-args-plan, asks, marked, step-nfs-fh, lost-nfs-fh, step-sattr, lost-sattr, step-sattrguard, lost-sattrguard) depth 20) (search rules) (search rules) (search rules) (search rules) (λ c. search (planned setattr-args-plan, asks, marked, step-nfs-fh, lost-nfs-fh, step-sattr, lost-sattr, step-sattrguard, lost-sattrguard) depth 20) (λ c. search (planned setattr-args-plan, asks, marked, step-nfs-fh, lost-nfs-fh, step-sattr, lost-sattr, step-sattrguard, lost-sattrguard) depth 20))
+setattr3args_at_spec = tie.close (tie.spec (search rules) (search rules) (search rules) (search rules) (λ c. search (planned setattr-args-plan, asks, marked, step-nfs-fh, lost-nfs-fh, step-sattr, lost-sattr, step-sattrguard, lost-sattrguard) depth 20) (search rules) (search rules) (search rules) (search rules) (λ c. search (planned setattr-args-plan, asks, marked, step-nfs-fh, lost-nfs-fh, step-sattr, lost-sattr, step-sattrguard, lost-sattrguard) depth 20) (search rules) (search rules) (search rules) (search rules) (λ c. search (planned setattr-args-plan, asks, marked, step-nfs-fh, lost-nfs-fh, step-sattr, lost-sattr, step-sattrguard, lost-sattrguard) depth 20) (λ c. search (planned setattr-args-plan, asks, marked, step-nfs-fh, lost-nfs-fh, step-sattr, lost-sattr, step-sattrguard, lost-sattrguard) depth 20))

@@ -4,5 +4,5 @@ use Rattle.nfsfile.specs.Laws.Setattr.{setattr-args-inside}
 use Rattle.nfsfile.proofs.setattr.setattr3args_inside.Statement.{statement}
 use Rattle.nfsfile.proofs.setattr.setattr3args_inside.Tie as tie
 
-pub setattr3args-inside-spec : {M : Type 1} → statement M
-setattr3args-inside-spec = tie.close (tie.spec (search rules) (λ c. search setattr-args-inside))
+pub setattr3args_inside_spec : {M : Type 1} → statement M
+setattr3args_inside_spec = tie.close (tie.spec (search rules) (λ c. search setattr-args-inside))

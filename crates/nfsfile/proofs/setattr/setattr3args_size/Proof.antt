@@ -8,5 +8,5 @@ use Rattle.nfsfile.specs.Laws.Setattr.{sattrguard-small}
 use Rattle.nfsfile.proofs.setattr.setattr3args_size.Statement.{statement}
 use Rattle.nfsfile.proofs.setattr.setattr3args_size.Tie as tie
 
-pub setattr3args-size-spec : {M : Type 1} → statement M
-setattr3args-size-spec = tie.close (tie.spec (search rules) (search rules) (λ c. search (sums, nfs-fh-most, sattr-small, sattrguard-small)) (search rules) (λ c. search (sums, nfs-fh-most, sattr-small, sattrguard-small)) (λ c. omega arith))
+pub setattr3args_size_spec : {M : Type 1} → statement M
+setattr3args_size_spec = tie.close (tie.spec (search rules) (search rules) (λ c. search (sums, nfs-fh-most, sattr-small, sattrguard-small)) (search rules) (λ c. search (sums, nfs-fh-most, sattr-small, sattrguard-small)) (λ c. omega arith))

@@ -7,5 +7,5 @@ use Rattle.nfsfile.specs.Laws.Setattr.{setattr-res-status, step-setattr-resok, l
 use Rattle.nfsfile.proofs.setattr.setattr3res_at.Statement.{statement}
 use Rattle.nfsfile.proofs.setattr.setattr3res_at.Tie as tie
 
-pub setattr3res-at-spec : {M : Type 1} → statement M
-setattr3res-at-spec = tie.close (tie.spec (search rules) (search rules) (search rules) (search rules) (λ c. search (nfsstat-lost setattr-res-status)) (search rules) (search rules) (search rules) (search rules) (search rules) (λ c. search (nfsstat-took setattr-res-status, asks, marked, step-setattr-resok, lost-setattr-resok) depth 20) (search rules) (search rules) (search rules) (search rules) (search rules) (λ c. search (nfsstat-took setattr-res-status, asks, marked, step-setattr-resfail, lost-setattr-resfail) depth 20) (λ c. search (nfsstat-took setattr-res-status, asks, marked, step-setattr-resok, lost-setattr-resok) depth 20) (λ c. search (nfsstat-took setattr-res-status, asks, marked, step-setattr-resfail, lost-setattr-resfail) depth 20))
+pub setattr3res_at_spec : {M : Type 1} → statement M
+setattr3res_at_spec = tie.close (tie.spec (search rules) (search rules) (search rules) (search rules) (λ c. search (nfsstat-lost setattr-res-status)) (search rules) (search rules) (search rules) (search rules) (search rules) (λ c. search (nfsstat-took setattr-res-status, asks, marked, step-setattr-resok, lost-setattr-resok) depth 20) (search rules) (search rules) (search rules) (search rules) (search rules) (λ c. search (nfsstat-took setattr-res-status, asks, marked, step-setattr-resfail, lost-setattr-resfail) depth 20) (λ c. search (nfsstat-took setattr-res-status, asks, marked, step-setattr-resok, lost-setattr-resok) depth 20) (λ c. search (nfsstat-took setattr-res-status, asks, marked, step-setattr-resfail, lost-setattr-resfail) depth 20))

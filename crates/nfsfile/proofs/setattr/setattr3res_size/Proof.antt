@@ -9,5 +9,5 @@ use Rattle.nfsfile.specs.Meaning.Setattr.{setattr_resok, setattr_resfail}
 use Rattle.nfsfile.proofs.setattr.setattr3res_size.Statement.{statement}
 use Rattle.nfsfile.proofs.setattr.setattr3res_size.Tie as tie
 
-pub setattr3res-size-spec : {M : Type 1} → statement M
-setattr3res-size-spec = tie.close (tie.spec (search rules) (search rules) (λ c. search (sums, setattr-resok-small)) (search rules) (search rules) (λ c. search (sums, setattr-resfail-small)) (λ c. search (ok-size setattr-res-status nfsstat-fixed (codec-writer setattr_resok) (codec-writer setattr_resfail))) (λ c. search (failed-size setattr-res-status nfsstat-fixed (codec-writer setattr_resok) (codec-writer setattr_resfail))))
+pub setattr3res_size_spec : {M : Type 1} → statement M
+setattr3res_size_spec = tie.close (tie.spec (search rules) (search rules) (λ c. search (sums, setattr-resok-small)) (search rules) (search rules) (λ c. search (sums, setattr-resfail-small)) (λ c. search (ok-size setattr-res-status nfsstat-fixed (codec-writer setattr_resok) (codec-writer setattr_resfail))) (λ c. search (failed-size setattr-res-status nfsstat-fixed (codec-writer setattr_resok) (codec-writer setattr_resfail))))

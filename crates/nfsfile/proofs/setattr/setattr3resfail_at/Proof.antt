@@ -9,6 +9,6 @@ use Rattle.nfsfile.specs.Meaning.Setattr.{setattr_resfail}
 use Rattle.nfsfile.proofs.setattr.setattr3resfail_at.Statement.{statement}
 use Rattle.nfsfile.proofs.setattr.setattr3resfail_at.Tie as tie
 
-pub setattr3resfail-at-spec : {M : Type 1} → statement M
+pub setattr3resfail_at_spec : {M : Type 1} → statement M
 unfolding setattr_resfail
-setattr3resfail-at-spec = tie.close (tie.spec (search rules) (search rules) (search rules) (search rules) (λ c. search (by-plan setattr-resfail-plan, asks, marked, step-wcc-data, lost-wcc-data) depth 20) (λ c. search (by-plan setattr-resfail-plan, asks, marked, step-wcc-data, lost-wcc-data) depth 20))
+setattr3resfail_at_spec = tie.close (tie.spec (search rules) (search rules) (search rules) (search rules) (λ c. search (by-plan setattr-resfail-plan, asks, marked, step-wcc-data, lost-wcc-data) depth 20) (λ c. search (by-plan setattr-resfail-plan, asks, marked, step-wcc-data, lost-wcc-data) depth 20))

@@ -4,5 +4,5 @@ use Rattle.nfsfile.specs.Laws.Setattr.{setattr-resfail-size}
 use Rattle.nfsfile.proofs.setattr.setattr3resfail_size.Statement.{statement}
 use Rattle.nfsfile.proofs.setattr.setattr3resfail_size.Tie as tie
 
-pub setattr3resfail-size-spec : {M : Type 1} → statement M
-setattr3resfail-size-spec = tie.close (tie.spec (search rules) (λ c. search setattr-resfail-size))
+pub setattr3resfail_size_spec : {M : Type 1} → statement M
+setattr3resfail_size_spec = tie.close (tie.spec (search rules) (λ c. search setattr-resfail-size))

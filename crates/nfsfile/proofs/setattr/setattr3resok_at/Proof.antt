@@ -9,6 +9,6 @@ use Rattle.nfsfile.specs.Meaning.Setattr.{setattr_resok}
 use Rattle.nfsfile.proofs.setattr.setattr3resok_at.Statement.{statement}
 use Rattle.nfsfile.proofs.setattr.setattr3resok_at.Tie as tie
 
-pub setattr3resok-at-spec : {M : Type 1} → statement M
+pub setattr3resok_at_spec : {M : Type 1} → statement M
 unfolding setattr_resok
-setattr3resok-at-spec = tie.close (tie.spec (search rules) (search rules) (search rules) (search rules) (λ c. search (by-plan setattr-resok-plan, asks, marked, step-wcc-data, lost-wcc-data) depth 20) (λ c. search (by-plan setattr-resok-plan, asks, marked, step-wcc-data, lost-wcc-data) depth 20))
+setattr3resok_at_spec = tie.close (tie.spec (search rules) (search rules) (search rules) (search rules) (λ c. search (by-plan setattr-resok-plan, asks, marked, step-wcc-data, lost-wcc-data) depth 20) (λ c. search (by-plan setattr-resok-plan, asks, marked, step-wcc-data, lost-wcc-data) depth 20))

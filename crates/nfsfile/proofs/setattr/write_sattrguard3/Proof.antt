@@ -8,5 +8,5 @@ use Rattle.nfsfile.specs.Meaning.Setattr.{sattrguard}
 use Rattle.nfsfile.proofs.setattr.write_sattrguard3.Statement.{statement}
 use Rattle.nfsfile.proofs.setattr.write_sattrguard3.Tie as tie
 
-pub write-sattrguard3-spec : {M : Type 1} → statement M
-write-sattrguard3-spec = tie.close (tie.spec (search rules) (search rules) (search rules) (search rules) (λ c. search (plain-off sattrguard sattrguard-small)) (λ c. search rooms) (λ c. search rooms) (search rules) (search rules) (search rules) (λ c. search (plain-on sattrguard sattrguard-small, sattrguard-good)))
+pub write_sattrguard3_spec : {M : Type 1} → statement M
+write_sattrguard3_spec = tie.close (tie.spec (search rules) (search rules) (search rules) (search rules) (λ c. search (plain-off sattrguard sattrguard-small)) (λ c. search rooms) (λ c. search rooms) (search rules) (search rules) (search rules) (λ c. search (plain-on sattrguard sattrguard-small, sattrguard-good)))

@@ -6,5 +6,5 @@ use Rattle.nfsfile.specs.Laws.Setattr.{setattr-args-writer}
 use Rattle.nfsfile.proofs.setattr.write_setattr3args.Statement.{statement}
 use Rattle.nfsfile.proofs.setattr.write_setattr3args.Tie as tie
 
-pub write-setattr3args-spec : {M : Type 1} → statement M
-write-setattr3args-spec = tie.close (tie.spec (search rules) (search rules) (search rules) (search rules) (search rules) (λ c. search (write-off setattr-args-writer)) (λ c. search (write-place setattr-args-writer)) (λ c. search (write-place setattr-args-writer)) (search rules) (search rules) (search rules) (λ c. search (write-on setattr-args-writer, setattr-args-good)))
+pub write_setattr3args_spec : {M : Type 1} → statement M
+write_setattr3args_spec = tie.close (tie.spec (search rules) (search rules) (search rules) (search rules) (search rules) (λ c. search (write-off setattr-args-writer)) (λ c. search (write-place setattr-args-writer)) (λ c. search (write-place setattr-args-writer)) (search rules) (search rules) (search rules) (λ c. search (write-on setattr-args-writer, setattr-args-good)))

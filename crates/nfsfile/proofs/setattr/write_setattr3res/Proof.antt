@@ -6,5 +6,5 @@ use Rattle.nfsfile.specs.Laws.Setattr.{setattr-res-writer}
 use Rattle.nfsfile.proofs.setattr.write_setattr3res.Statement.{statement}
 use Rattle.nfsfile.proofs.setattr.write_setattr3res.Tie as tie
 
-pub write-setattr3res-spec : {M : Type 1} → statement M
-write-setattr3res-spec = tie.close (tie.spec (search rules) (search rules) (search rules) (search rules) (search rules) (λ c. search (write-off setattr-res-writer)) (λ c. search (write-place setattr-res-writer)) (λ c. search (write-place setattr-res-writer)) (search rules) (search rules) (search rules) (λ c. search (write-on setattr-res-writer, setattr-res-good)))
+pub write_setattr3res_spec : {M : Type 1} → statement M
+write_setattr3res_spec = tie.close (tie.spec (search rules) (search rules) (search rules) (search rules) (search rules) (λ c. search (write-off setattr-res-writer)) (λ c. search (write-place setattr-res-writer)) (λ c. search (write-place setattr-res-writer)) (search rules) (search rules) (search rules) (λ c. search (write-on setattr-res-writer, setattr-res-good)))

@@ -6,5 +6,5 @@ use Rattle.nfsproc.specs.Meaning.Procedures.{getattr_arguments}
 use Rattle.nfsproc.proofs.procedures.arguments_of_getattr.Statement.{statement}
 use Rattle.nfsproc.proofs.procedures.arguments_of_getattr.Tie as tie
 
-pub arguments-of-getattr-spec : {M : Type 1} → statement M
-arguments-of-getattr-spec = tie.close (tie.spec (search rules) (search rules) (search rules) (λ c. search (for-lost getattr_arguments view_getattr3args)) (λ c. search (for-took getattr_arguments view_getattr3args)))
+pub arguments_of_getattr_spec : {M : Type 1} → statement M
+arguments_of_getattr_spec = tie.close (tie.spec (search rules) (search rules) (search rules) (λ c. search (for-lost getattr_arguments view_getattr3args)) (λ c. search (for-took getattr_arguments view_getattr3args)))

@@ -6,5 +6,5 @@ use Rattle.nfsproc.specs.Meaning.Procedures.{lookup_arguments}
 use Rattle.nfsproc.proofs.procedures.arguments_of_lookup.Statement.{statement}
 use Rattle.nfsproc.proofs.procedures.arguments_of_lookup.Tie as tie
 
-pub arguments-of-lookup-spec : {M : Type 1} → statement M
-arguments-of-lookup-spec = tie.close (tie.spec (search rules) (search rules) (search rules) (λ c. search (for-lost lookup_arguments view_lookup3args)) (λ c. search (for-took lookup_arguments view_lookup3args)))
+pub arguments_of_lookup_spec : {M : Type 1} → statement M
+arguments_of_lookup_spec = tie.close (tie.spec (search rules) (search rules) (search rules) (λ c. search (for-lost lookup_arguments view_lookup3args)) (λ c. search (for-took lookup_arguments view_lookup3args)))

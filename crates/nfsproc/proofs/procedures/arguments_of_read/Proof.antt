@@ -6,5 +6,5 @@ use Rattle.nfsproc.specs.Meaning.Procedures.{read_arguments}
 use Rattle.nfsproc.proofs.procedures.arguments_of_read.Statement.{statement}
 use Rattle.nfsproc.proofs.procedures.arguments_of_read.Tie as tie
 
-pub arguments-of-read-spec : {M : Type 1} → statement M
-arguments-of-read-spec = tie.close (tie.spec (search rules) (search rules) (search rules) (λ c. search (for-lost read_arguments view_read3args)) (λ c. search (for-took read_arguments view_read3args)))
+pub arguments_of_read_spec : {M : Type 1} → statement M
+arguments_of_read_spec = tie.close (tie.spec (search rules) (search rules) (search rules) (λ c. search (for-lost read_arguments view_read3args)) (λ c. search (for-took read_arguments view_read3args)))

@@ -6,5 +6,5 @@ use Rattle.nfsproc.specs.Meaning.Procedures.{setattr_arguments}
 use Rattle.nfsproc.proofs.procedures.arguments_of_setattr.Statement.{statement}
 use Rattle.nfsproc.proofs.procedures.arguments_of_setattr.Tie as tie
 
-pub arguments-of-setattr-spec : {M : Type 1} → statement M
-arguments-of-setattr-spec = tie.close (tie.spec (search rules) (search rules) (search rules) (λ c. search (for-lost setattr_arguments view_setattr3args)) (λ c. search (for-took setattr_arguments view_setattr3args)))
+pub arguments_of_setattr_spec : {M : Type 1} → statement M
+arguments_of_setattr_spec = tie.close (tie.spec (search rules) (search rules) (search rules) (λ c. search (for-lost setattr_arguments view_setattr3args)) (λ c. search (for-took setattr_arguments view_setattr3args)))

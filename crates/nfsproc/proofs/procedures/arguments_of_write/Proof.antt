@@ -6,5 +6,5 @@ use Rattle.nfsproc.specs.Meaning.Procedures.{write_arguments}
 use Rattle.nfsproc.proofs.procedures.arguments_of_write.Statement.{statement}
 use Rattle.nfsproc.proofs.procedures.arguments_of_write.Tie as tie
 
-pub arguments-of-write-spec : {M : Type 1} → statement M
-arguments-of-write-spec = tie.close (tie.spec (search rules) (search rules) (search rules) (λ c. search (for-lost write_arguments view_write3args)) (λ c. search (for-took write_arguments view_write3args)))
+pub arguments_of_write_spec : {M : Type 1} → statement M
+arguments_of_write_spec = tie.close (tie.spec (search rules) (search rules) (search rules) (λ c. search (for-lost write_arguments view_write3args)) (λ c. search (for-took write_arguments view_write3args)))

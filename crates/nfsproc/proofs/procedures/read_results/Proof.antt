@@ -5,5 +5,5 @@ use Rattle.nfsproc.specs.Meaning.Procedures.{results_by_number}
 use Rattle.nfsproc.proofs.procedures.read_results.Statement.{statement}
 use Rattle.nfsproc.proofs.procedures.read_results.Tie as tie
 
-pub read-results-spec : {M : Type 1} → statement M
-read-results-spec = tie.close (tie.spec (search rules) (search rules) (search rules) (search rules) (search rules) (λ c. search (by-procedure results_by_number)) (λ c. search (by-procedure results_by_number)) (λ c. search (by-procedure results_by_number)) (λ c. search (by-procedure results_by_number)) (λ c. search (by-procedure results_by_number)) (λ c. by-none results_by_number _ _ _ _ (search rules) c.match.rest))
+pub read_results_spec : {M : Type 1} → statement M
+read_results_spec = tie.close (tie.spec (search rules) (search rules) (search rules) (search rules) (search rules) (λ c. search (by-procedure results_by_number)) (λ c. search (by-procedure results_by_number)) (λ c. search (by-procedure results_by_number)) (λ c. search (by-procedure results_by_number)) (λ c. search (by-procedure results_by_number)) (λ c. by-none results_by_number _ _ _ _ (search rules) c.match.rest))

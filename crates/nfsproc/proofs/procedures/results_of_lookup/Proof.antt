@@ -6,5 +6,5 @@ use Rattle.nfsproc.specs.Meaning.Procedures.{lookup_results}
 use Rattle.nfsproc.proofs.procedures.results_of_lookup.Statement.{statement}
 use Rattle.nfsproc.proofs.procedures.results_of_lookup.Tie as tie
 
-pub results-of-lookup-spec : {M : Type 1} → statement M
-results-of-lookup-spec = tie.close (tie.spec (search rules) (search rules) (search rules) (λ c. search (for-lost lookup_results view_lookup3res)) (λ c. search (for-took lookup_results view_lookup3res)))
+pub results_of_lookup_spec : {M : Type 1} → statement M
+results_of_lookup_spec = tie.close (tie.spec (search rules) (search rules) (search rules) (λ c. search (for-lost lookup_results view_lookup3res)) (λ c. search (for-took lookup_results view_lookup3res)))

@@ -6,5 +6,5 @@ use Rattle.nfsproc.specs.Meaning.Procedures.{setattr_results}
 use Rattle.nfsproc.proofs.procedures.results_of_setattr.Statement.{statement}
 use Rattle.nfsproc.proofs.procedures.results_of_setattr.Tie as tie
 
-pub results-of-setattr-spec : {M : Type 1} → statement M
-results-of-setattr-spec = tie.close (tie.spec (search rules) (search rules) (search rules) (λ c. search (for-lost setattr_results view_setattr3res)) (λ c. search (for-took setattr_results view_setattr3res)))
+pub results_of_setattr_spec : {M : Type 1} → statement M
+results_of_setattr_spec = tie.close (tie.spec (search rules) (search rules) (search rules) (λ c. search (for-lost setattr_results view_setattr3res)) (λ c. search (for-took setattr_results view_setattr3res)))

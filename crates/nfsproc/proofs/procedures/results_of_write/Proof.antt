@@ -6,5 +6,5 @@ use Rattle.nfsproc.specs.Meaning.Procedures.{write_results}
 use Rattle.nfsproc.proofs.procedures.results_of_write.Statement.{statement}
 use Rattle.nfsproc.proofs.procedures.results_of_write.Tie as tie
 
-pub results-of-write-spec : {M : Type 1} → statement M
-results-of-write-spec = tie.close (tie.spec (search rules) (search rules) (search rules) (λ c. search (for-lost write_results view_write3res)) (λ c. search (for-took write_results view_write3res)))
+pub results_of_write_spec : {M : Type 1} → statement M
+results_of_write_spec = tie.close (tie.spec (search rules) (search rules) (search rules) (λ c. search (for-lost write_results view_write3res)) (λ c. search (for-took write_results view_write3res)))

@@ -155,9 +155,9 @@ left_meets : {M : Type 1} {𝓤 : Ura M} (𝓛 : Logic 𝓤) (mem : Memory → S
 left_meets {𝓤 = 𝓤} 𝓛 mem run 𝓣 known-left = walk_Meets 𝓛 left.ended stayed (Goes-none 𝓛 1 B yes (λ κs x f. refl), tt) (left.clauses 𝓛 mem run) (WpFn 𝓤 𝓛.H 𝓣.C 𝓣.Λ code.function) (WpFn-mono 𝓤 𝓛.H 𝓛.laws 𝓣 code.function)
     (left-walks 𝓛 mem run 𝓣.C 𝓣.Λ (fm_of 𝓤 𝓛.H 𝓛.laws 𝓣) known-left)
 
-pub left-spec : {M : Type 1} → stated.statement M
+pub left_spec : {M : Type 1} → stated.statement M
 unfolding code.routine tables_of
-left-spec 𝓤 𝓛 𝓜 𝓡 =
+left_spec 𝓤 𝓛 𝓜 𝓡 =
     entered 𝓤 𝓛.H (triple_of 𝓛 left.signature (left.spec 𝓛 𝓜.mem 𝓡.run))
     (tables 𝓤 𝓛.H 𝓜 𝓡 code.env).C (tables 𝓤 𝓛.H 𝓜 𝓡 code.env).Λ #step code.function (code.unfolded 𝓤 𝓛.H 𝓜 𝓡)
     (left_meets 𝓛 𝓜.mem 𝓡.run (tables_of 𝓤 𝓛.H 𝓜 (tables 𝓤 𝓛.H 𝓜 𝓡 code.env))

@@ -46,9 +46,9 @@ kind = record {
   after-name = after.name;
 }
 
-pub nfs-fh3-spec : {M : Type 1} → stated.statement M
+pub nfs_fh3_spec : {M : Type 1} → stated.statement M
 unfolding code.routine tables_of
-nfs-fh3-spec 𝓤 𝓛 𝓜 𝓡 =
+nfs_fh3_spec 𝓤 𝓛 𝓜 𝓡 =
     entered 𝓤 𝓛.H (triple_of 𝓛 step.signature (step.spec 𝓛 𝓜.mem 𝓡.run))
     (tables 𝓤 𝓛.H 𝓜 𝓡 code.env).C (tables 𝓤 𝓛.H 𝓜 𝓡 code.env).Λ #step code.function (code.unfolded 𝓤 𝓛.H 𝓜 𝓡)
     (meets kind 𝓛 (tables_of 𝓤 𝓛.H 𝓜 (tables 𝓤 𝓛.H 𝓜 𝓡 code.env))

@@ -12,5 +12,5 @@ returns c = search rules
 returns-2 : tie.Need-returns-2
 returns-2 c = sym (ap (λ (a : Fattr3Read). onward (view_fattr3 a) c.before.before.before.args.at) c.before.answer.given.1)
 
-pub after-fattr3-spec : {M : Type 1} → statement M
-after-fattr3-spec = tie.close (tie.spec (search rules) (search rules) returns returns-2)
+pub after_fattr3_spec : {M : Type 1} → statement M
+after_fattr3_spec = tie.close (tie.spec (search rules) (search rules) returns returns-2)

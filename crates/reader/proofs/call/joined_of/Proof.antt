@@ -20,8 +20,8 @@ returns-3 c = rw (on view_rpc_msg refl c.before.before.before.before.before.befo
 returns-4 : tie.Need-returns-4
 returns-4 c = rw (on view_rpc_msg refl c.before.before.before.before.before.before.before.m.given.1, on view_diropargs3 refl c.before.before.before.before.d.given.1, on view_sattr3 refl c.before.a.given.1)
 
-pub joined-of-spec : {M : Type 1} → statement M
-joined-of-spec =
+pub joined_of_spec : {M : Type 1} → statement M
+joined_of_spec =
     tie.close
     (tie.spec
     (search rules) (search rules) (search rules) returns (search rules) (search rules) (search rules) returns-2 (search rules) (search rules) (search rules)

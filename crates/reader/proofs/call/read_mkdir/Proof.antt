@@ -125,9 +125,9 @@ end = record {
   name = joined-def.name;
 }
 
-pub read-mkdir-spec : {M : Type 1} → stated.statement M
+pub read_mkdir_spec : {M : Type 1} → stated.statement M
 unfolding code.routine tables_of
-read-mkdir-spec 𝓤 𝓛 𝓜 𝓡 =
+read_mkdir_spec 𝓤 𝓛 𝓜 𝓡 =
     entered 𝓤 𝓛.H (triple_of 𝓛 read-mkdir.signature (read-mkdir.spec 𝓛 𝓜.mem 𝓡.run))
     (tables 𝓤 𝓛.H 𝓜 𝓡 code.env).C (tables 𝓤 𝓛.H 𝓜 𝓡 code.env).Λ #read-mkdir code.function (code.unfolded 𝓤 𝓛.H 𝓜 𝓡)
     (meets message dirops attributes end 𝓛 (tables_of 𝓤 𝓛.H 𝓜 (tables 𝓤 𝓛.H 𝓜 𝓡 code.env))

@@ -6,5 +6,5 @@ use Rattle.rpc.specs.Meaning.Crate.{crate}
 use Rattle.rpc.proofs.fit.accept_body_size.Statement.{statement}
 use Rattle.rpc.proofs.fit.accept_body_size.Tie as tie
 
-pub accept-body-size-spec : {M : Type 1} → statement M
-accept-body-size-spec = tie.close (tie.spec (search rules) (search rules) (search rules) (search rules) (search rules) (search rules) (λ c. omega (arith, same_size (accept_size crate))) (λ c. omega (arith, same_size (accept_size crate))) (λ c. omega (arith, same_size (accept_size crate))) (λ c. omega (arith, same_size (accept_size crate))) (λ c. omega (arith, same_size (accept_size crate))))
+pub accept_body_size_spec : {M : Type 1} → statement M
+accept_body_size_spec = tie.close (tie.spec (search rules) (search rules) (search rules) (search rules) (search rules) (search rules) (λ c. omega (arith, same_size (accept_size crate))) (λ c. omega (arith, same_size (accept_size crate))) (λ c. omega (arith, same_size (accept_size crate))) (λ c. omega (arith, same_size (accept_size crate))) (λ c. omega (arith, same_size (accept_size crate))))

@@ -4,5 +4,5 @@ use Rattle.rpc.specs.Laws.Sizes.{sums}
 use Rattle.rpc.proofs.fit.opaque_auth_size.Statement.{statement}
 use Rattle.rpc.proofs.fit.opaque_auth_size.Tie as tie
 
-pub opaque-auth-size-spec : {M : Type 1} → statement M
-opaque-auth-size-spec = tie.close (tie.spec (search rules) (λ c. search sums) (λ c. (omega arith, search sums)))
+pub opaque_auth_size_spec : {M : Type 1} → statement M
+opaque_auth_size_spec = tie.close (tie.spec (search rules) (λ c. search sums) (λ c. (omega arith, search sums)))

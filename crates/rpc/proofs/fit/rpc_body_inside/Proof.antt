@@ -3,5 +3,5 @@ use Rattle.rpc.specs.Laws.ReplySizes.{insides}
 use Rattle.rpc.proofs.fit.rpc_body_inside.Statement.{statement}
 use Rattle.rpc.proofs.fit.rpc_body_inside.Tie as tie
 
-pub rpc-body-inside-spec : {M : Type 1} → statement M
-rpc-body-inside-spec = tie.close (tie.spec (search rules) (search rules) (search rules) (search rules) (λ c. search insides) (λ c. search insides))
+pub rpc_body_inside_spec : {M : Type 1} → statement M
+rpc_body_inside_spec = tie.close (tie.spec (search rules) (search rules) (search rules) (search rules) (λ c. search insides) (λ c. search insides))

@@ -3,8 +3,8 @@ use Rattle.rpc.specs.Laws.Plans.{inner}
 use Rattle.rpc.proofs.inner.accept_stat_at.Statement.{statement}
 use Rattle.rpc.proofs.inner.accept_stat_at.Tie as tie
 
-pub accept-stat-at-spec : {M : Type 1} → statement M
-accept-stat-at-spec =
+pub accept_stat_at_spec : {M : Type 1} → statement M
+accept_stat_at_spec =
     tie.close
     (tie.spec
     (search rules) (search rules) (search rules) (search rules) (λ c. search inner depth 20) (λ c. search inner depth 20)

@@ -3,8 +3,8 @@ use Rattle.rpc.specs.Laws.Plans.{inner}
 use Rattle.rpc.proofs.inner.auth_flavor_at.Statement.{statement}
 use Rattle.rpc.proofs.inner.auth_flavor_at.Tie as tie
 
-pub auth-flavor-at-spec : {M : Type 1} → statement M
-auth-flavor-at-spec =
+pub auth_flavor_at_spec : {M : Type 1} → statement M
+auth_flavor_at_spec =
     tie.close
     (tie.spec
     (search rules) (search rules) (search rules) (search rules) (λ c. search inner depth 20) (λ c. search inner depth 20)

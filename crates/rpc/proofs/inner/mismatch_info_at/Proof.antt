@@ -3,8 +3,8 @@ use Rattle.rpc.specs.Laws.Plans.{inner}
 use Rattle.rpc.proofs.inner.mismatch_info_at.Statement.{statement}
 use Rattle.rpc.proofs.inner.mismatch_info_at.Tie as tie
 
-pub mismatch-info-at-spec : {M : Type 1} → statement M
-mismatch-info-at-spec =
+pub mismatch_info_at_spec : {M : Type 1} → statement M
+mismatch_info_at_spec =
     tie.close
     (tie.spec
     (search rules) (search rules) (search rules) (search rules) (λ c. search inner depth 20) (λ c. search inner depth 20))

@@ -3,8 +3,8 @@ use Rattle.rpc.specs.Laws.Plans.{inner}
 use Rattle.rpc.proofs.inner.msg_type_at.Statement.{statement}
 use Rattle.rpc.proofs.inner.msg_type_at.Tie as tie
 
-pub msg-type-at-spec : {M : Type 1} → statement M
-msg-type-at-spec =
+pub msg_type_at_spec : {M : Type 1} → statement M
+msg_type_at_spec =
     tie.close
     (tie.spec
     (search rules) (search rules) (search rules) (search rules) (λ c. search inner depth 20) (λ c. search inner depth 20)

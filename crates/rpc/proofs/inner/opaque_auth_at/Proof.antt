@@ -3,8 +3,8 @@ use Rattle.rpc.specs.Laws.Plans.{inner}
 use Rattle.rpc.proofs.inner.opaque_auth_at.Statement.{statement}
 use Rattle.rpc.proofs.inner.opaque_auth_at.Tie as tie
 
-pub opaque-auth-at-spec : {M : Type 1} → statement M
-opaque-auth-at-spec =
+pub opaque_auth_at_spec : {M : Type 1} → statement M
+opaque_auth_at_spec =
     tie.close
     (tie.spec
     (search rules) (search rules) (search rules) (search rules) (λ c. search inner depth 20) (search rules) (search rules) (search rules)

@@ -3,8 +3,8 @@ use Rattle.rpc.specs.Laws.Plans.{inner}
 use Rattle.rpc.proofs.inner.reject_stat_at.Statement.{statement}
 use Rattle.rpc.proofs.inner.reject_stat_at.Tie as tie
 
-pub reject-stat-at-spec : {M : Type 1} → statement M
-reject-stat-at-spec =
+pub reject_stat_at_spec : {M : Type 1} → statement M
+reject_stat_at_spec =
     tie.close
     (tie.spec
     (search rules) (search rules) (search rules) (search rules) (λ c. search inner depth 20) (λ c. search inner depth 20)

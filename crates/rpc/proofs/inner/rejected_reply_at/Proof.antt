@@ -3,8 +3,8 @@ use Rattle.rpc.specs.Laws.Plans.{inner}
 use Rattle.rpc.proofs.inner.rejected_reply_at.Statement.{statement}
 use Rattle.rpc.proofs.inner.rejected_reply_at.Tie as tie
 
-pub rejected-reply-at-spec : {M : Type 1} → statement M
-rejected-reply-at-spec =
+pub rejected_reply_at_spec : {M : Type 1} → statement M
+rejected_reply_at_spec =
     tie.close
     (tie.spec
     (search rules) (search rules) (search rules) (search rules) (λ c. search inner depth 20) (search rules) (search rules) (search rules)

@@ -3,8 +3,8 @@ use Rattle.rpc.specs.Laws.Plans.{inner}
 use Rattle.rpc.proofs.inner.rpc_body_at.Statement.{statement}
 use Rattle.rpc.proofs.inner.rpc_body_at.Tie as tie
 
-pub rpc-body-at-spec : {M : Type 1} → statement M
-rpc-body-at-spec =
+pub rpc_body_at_spec : {M : Type 1} → statement M
+rpc_body_at_spec =
     tie.close
     (tie.spec
     (search rules) (search rules) (search rules) (search rules) (λ c. search inner depth 20) (search rules) (search rules) (search rules)

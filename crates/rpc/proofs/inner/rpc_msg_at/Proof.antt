@@ -3,8 +3,8 @@ use Rattle.rpc.specs.Laws.Plans.{inner}
 use Rattle.rpc.proofs.inner.rpc_msg_at.Statement.{statement}
 use Rattle.rpc.proofs.inner.rpc_msg_at.Tie as tie
 
-pub rpc-msg-at-spec : {M : Type 1} → statement M
-rpc-msg-at-spec =
+pub rpc_msg_at_spec : {M : Type 1} → statement M
+rpc_msg_at_spec =
     tie.close
     (tie.spec
     (search rules) (search rules) (search rules) (search rules) (λ c. search inner depth 20) (search rules) (search rules) (search rules)

@@ -22,8 +22,8 @@ bare (PROG_MISMATCH v) h =
 bare PROC_UNAVAIL h = refl
 bare GARBAGE_ARGS h = refl
 
-pub put-accept-body-spec : {M : Type 1} → statement M
-put-accept-body-spec =
+pub put_accept_body_spec : {M : Type 1} → statement M
+put_accept_body_spec =
     tie.close
     (tie.spec
     (search rules) (search rules) (search rules) (search rules) (λ c. search (puts, bare)) (λ c. omega (arith, same_size (accept_size crate)))

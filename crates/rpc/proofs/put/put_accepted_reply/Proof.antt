@@ -5,8 +5,8 @@ use Rattle.rpc.specs.Laws.ReplyPuts.{puts, readies}
 use Rattle.rpc.proofs.put.put_accepted_reply.Statement.{statement}
 use Rattle.rpc.proofs.put.put_accepted_reply.Tie as tie
 
-pub put-accepted-reply-spec : {M : Type 1} → statement M
-put-accepted-reply-spec =
+pub put_accepted_reply_spec : {M : Type 1} → statement M
+put_accepted_reply_spec =
     tie.close
     (tie.spec
     (λ c κs. (search readies, omega arith)) (search rules) (search rules) (search rules) (search rules)

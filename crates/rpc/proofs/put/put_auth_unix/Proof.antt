@@ -3,5 +3,5 @@ use Rattle.rpc.specs.Laws.Sources.{puts-from, readies-from}
 use Rattle.rpc.proofs.put.put_auth_unix.Statement.{statement}
 use Rattle.rpc.proofs.put.put_auth_unix.Tie as tie
 
-pub put-auth-unix-spec : {M : Type 1} → statement M
-put-auth-unix-spec = tie.close (tie.spec (λ c κs. search readies-from) (search rules) (λ c. search puts-from))
+pub put_auth_unix_spec : {M : Type 1} → statement M
+put_auth_unix_spec = tie.close (tie.spec (λ c κs. search readies-from) (search rules) (λ c. search puts-from))

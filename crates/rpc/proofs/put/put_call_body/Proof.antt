@@ -3,5 +3,5 @@ use Rattle.rpc.specs.Laws.Sources.{puts-from, readies-from}
 use Rattle.rpc.proofs.put.put_call_body.Statement.{statement}
 use Rattle.rpc.proofs.put.put_call_body.Tie as tie
 
-pub put-call-body-spec : {M : Type 1} → statement M
-put-call-body-spec = tie.close (tie.spec (λ c κs. search readies-from) (search rules) (λ c. search puts-from))
+pub put_call_body_spec : {M : Type 1} → statement M
+put_call_body_spec = tie.close (tie.spec (λ c κs. search readies-from) (search rules) (λ c. search puts-from))

@@ -5,8 +5,8 @@ use Rattle.rpc.specs.Laws.Sources.{puts-from}
 use Rattle.rpc.proofs.put.put_call_body_from.Statement.{statement}
 use Rattle.rpc.proofs.put.put_call_body_from.Tie as tie
 
-pub put-call-body-from-spec : {M : Type 1} → statement M
-put-call-body-from-spec =
+pub put_call_body_from_spec : {M : Type 1} → statement M
+put_call_body_from_spec =
     tie.close
     (tie.spec
     (search rules) (search rules) (search rules) (search rules) (search rules) (search rules) (search rules) (search rules)

@@ -8,8 +8,8 @@ use Rattle.rpc.specs.Laws.ReplyPuts.{puts, readies}
 use Rattle.rpc.proofs.put.put_rpc_body.Statement.{statement}
 use Rattle.rpc.proofs.put.put_rpc_body.Tie as tie
 
-pub put-rpc-body-spec : {M : Type 1} → statement M
-put-rpc-body-spec =
+pub put_rpc_body_spec : {M : Type 1} → statement M
+put_rpc_body_spec =
     tie.close
     (tie.spec
     (search rules) (search rules) (λ c. omega (arith, same_size (body_size crate))) (λ c. omega (arith, same_size (body_size crate))) (search rules)

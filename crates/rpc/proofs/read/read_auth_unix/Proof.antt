@@ -2,5 +2,5 @@ use Rattle.xdr.specs.Laws.Plans.{reads}
 use Rattle.rpc.proofs.read.read_auth_unix.Statement.{statement}
 use Rattle.rpc.proofs.read.read_auth_unix.Tie as tie
 
-pub read-auth-unix-spec : {M : Type 1} → statement M
-read-auth-unix-spec = tie.close (tie.spec (search reads) (search reads) (search reads) (search reads) (λ c. search reads) (λ c. search reads))
+pub read_auth_unix_spec : {M : Type 1} → statement M
+read_auth_unix_spec = tie.close (tie.spec (search reads) (search reads) (search reads) (search reads) (λ c. search reads) (λ c. search reads))

@@ -3,8 +3,8 @@ use Rattle.rpc.proofs.Ranges.{writes}
 use Rattle.rpc.proofs.write.write_accept_body.Statement.{statement}
 use Rattle.rpc.proofs.write.write_accept_body.Tie as tie
 
-pub write-accept-body-spec : {M : Type 1} → statement M
-write-accept-body-spec =
+pub write_accept_body_spec : {M : Type 1} → statement M
+write_accept_body_spec =
     tie.close
     (tie.spec
     (search rules) (search rules) (search rules) (search rules) (λ c. search writes) (λ c. search writes) (λ c. search writes)

@@ -3,8 +3,8 @@ use Rattle.rpc.proofs.Ranges.{writes}
 use Rattle.rpc.proofs.write.write_accepted_reply.Statement.{statement}
 use Rattle.rpc.proofs.write.write_accepted_reply.Tie as tie
 
-pub write-accepted-reply-spec : {M : Type 1} → statement M
-write-accepted-reply-spec =
+pub write_accepted_reply_spec : {M : Type 1} → statement M
+write_accepted_reply_spec =
     tie.close
     (tie.spec
     (search rules) (search rules) (search rules) (search rules) (search rules) (λ c. search writes) (λ c. search writes)

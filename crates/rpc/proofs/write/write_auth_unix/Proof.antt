@@ -3,8 +3,8 @@ use Rattle.rpc.proofs.Ranges.{writes}
 use Rattle.rpc.proofs.write.write_auth_unix.Statement.{statement}
 use Rattle.rpc.proofs.write.write_auth_unix.Tie as tie
 
-pub write-auth-unix-spec : {M : Type 1} → statement M
-write-auth-unix-spec =
+pub write_auth_unix_spec : {M : Type 1} → statement M
+write_auth_unix_spec =
     tie.close
     (tie.spec
     (search rules) (search rules) (search rules) (search rules) (search rules) (λ c. search writes) (λ c. search writes)

@@ -3,8 +3,8 @@ use Rattle.rpc.proofs.Ranges.{writes-two}
 use Rattle.rpc.proofs.write.write_auth_unix_from.Statement.{statement}
 use Rattle.rpc.proofs.write.write_auth_unix_from.Tie as tie
 
-pub write-auth-unix-from-spec : {M : Type 1} → statement M
-write-auth-unix-from-spec =
+pub write_auth_unix_from_spec : {M : Type 1} → statement M
+write_auth_unix_from_spec =
     tie.close
     (tie.spec
     (search rules) (search rules) (search rules) (search rules) (search rules) (search rules) (search rules) (λ c. search writes-two)

@@ -3,8 +3,8 @@ use Rattle.rpc.proofs.Ranges.{writes}
 use Rattle.rpc.proofs.write.write_call_body.Statement.{statement}
 use Rattle.rpc.proofs.write.write_call_body.Tie as tie
 
-pub write-call-body-spec : {M : Type 1} → statement M
-write-call-body-spec =
+pub write_call_body_spec : {M : Type 1} → statement M
+write_call_body_spec =
     tie.close
     (tie.spec
     (search rules) (search rules) (search rules) (search rules) (search rules) (λ c. search writes) (λ c. search writes)

@@ -3,8 +3,8 @@ use Rattle.rpc.proofs.Ranges.{writes-two}
 use Rattle.rpc.proofs.write.write_call_from.Statement.{statement}
 use Rattle.rpc.proofs.write.write_call_from.Tie as tie
 
-pub write-call-from-spec : {M : Type 1} → statement M
-write-call-from-spec =
+pub write_call_from_spec : {M : Type 1} → statement M
+write_call_from_spec =
     tie.close
     (tie.spec
     (search rules) (search rules) (search rules) (search rules) (search rules) (search rules) (search rules)

@@ -3,5 +3,5 @@ use Rattle.rpc.specs.Laws.Closed.{numbered}
 use Rattle.rpc.proofs.write.write_reject_stat.Statement.{statement}
 use Rattle.rpc.proofs.write.write_reject_stat.Tie as tie
 
-pub write-reject-stat-spec : {M : Type 1} → statement M
-write-reject-stat-spec = tie.close (tie.spec (search rules) (search rules) (search rules) (λ c. search numbered))
+pub write_reject_stat_spec : {M : Type 1} → statement M
+write_reject_stat_spec = tie.close (tie.spec (search rules) (search rules) (search rules) (λ c. search numbered))

@@ -3,8 +3,8 @@ use Rattle.rpc.proofs.Ranges.{writes}
 use Rattle.rpc.proofs.write.write_rejected_reply.Statement.{statement}
 use Rattle.rpc.proofs.write.write_rejected_reply.Tie as tie
 
-pub write-rejected-reply-spec : {M : Type 1} → statement M
-write-rejected-reply-spec =
+pub write_rejected_reply_spec : {M : Type 1} → statement M
+write_rejected_reply_spec =
     tie.close
     (tie.spec
     (search rules) (search rules) (search rules) (search rules) (λ c. search writes) (λ c. search writes) (λ c. search writes)

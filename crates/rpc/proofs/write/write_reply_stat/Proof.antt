@@ -3,5 +3,5 @@ use Rattle.rpc.specs.Laws.Closed.{numbered}
 use Rattle.rpc.proofs.write.write_reply_stat.Statement.{statement}
 use Rattle.rpc.proofs.write.write_reply_stat.Tie as tie
 
-pub write-reply-stat-spec : {M : Type 1} → statement M
-write-reply-stat-spec = tie.close (tie.spec (search rules) (search rules) (search rules) (λ c. search numbered))
+pub write_reply_stat_spec : {M : Type 1} → statement M
+write_reply_stat_spec = tie.close (tie.spec (search rules) (search rules) (search rules) (λ c. search numbered))

@@ -247,8 +247,8 @@ returns-5 c =
     let l = c.before in
     owed l.before _ _ (feed-over (S₀ l.before) (Run l.before) (D₀ l.before) l.loop.buf l.loop.s l.loop.i l.loop.invariant c.loop-test.false)
 
-pub feed-spec : {M : Type 1} → statement M
-feed-spec =
+pub feed_spec : {M : Type 1} → statement M
+feed_spec =
     tie.close
     (tie.spec
     invariant-loop decreases-loop fits-requires returns returns-2 loop-holds mul-word shared-slice-read-wide wide-requires add-word add-header-byte

@@ -38,8 +38,8 @@ returns-7 c =
     ∙ fits-flags a.s a.n one.if1.false two.if2.false three.if3.false four.if4.false five.if5.false
     (subst (λ (k : ℕ). a.s.header_value < k) l.limit.ensures six.if6.false)
 
-pub fits-spec : {M : Type 1} → statement M
-fits-spec =
+pub fits_spec : {M : Type 1} → statement M
+fits_spec =
     tie.close
     (tie.spec
     returns returns-2 returns-3 returns-4 returns-5 (search rules) returns-6 (search rules) returns-7)

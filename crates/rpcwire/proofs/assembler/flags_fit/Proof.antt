@@ -20,8 +20,8 @@ returns-4 c = simp (ne_eqb c.before.before.args.left 0 c.before.if1.false, c.if4
 returns-5 : tie.Need-returns-5
 returns-5 c = let a = c.before.before.args in flags-on a.left a.count a.last a.stopped (omega arith) c.if4.false
 
-pub flags-fit-spec : {M : Type 1} → statement M
-flags-fit-spec =
+pub flags_fit_spec : {M : Type 1} → statement M
+flags_fit_spec =
     tie.close
     (tie.spec
     returns returns-2 returns-3 returns-4 returns-5)

@@ -11,8 +11,8 @@ returns c = simp (lt-leb c.before.args.capacity 1048576 c.if1.true)
 returns-2 : tie.Need-returns-2
 returns-2 c = ap made c.in-header.ensures ∙ sym (simp (le-leb c.before.before.args.capacity 1048576 c.before.if1.false))
 
-pub fresh-assembler-spec : {M : Type 1} → statement M
-fresh-assembler-spec =
+pub fresh_assembler_spec : {M : Type 1} → statement M
+fresh_assembler_spec =
     tie.close
     (tie.spec
     returns (search rules) returns-2)

@@ -19,8 +19,8 @@ returns-3 : tie.Need-returns-3
 unfolding header_byte headed
 returns-3 c = let a = c.before.before.before.args in c.settle.ensures ∙ simp (le-ltb a.count 3 c.before.before.if1.false, le-leb (a.word % 2147483648) (a.capacity - a.placed) c.before.if2.false)
 
-pub header-byte-spec : {M : Type 1} → statement M
-header-byte-spec =
+pub header_byte_spec : {M : Type 1} → statement M
+header_byte_spec =
     tie.close
     (tie.spec
     (search rules) (search rules) returns (search rules) (search rules) returns-2 (search rules) returns-3)

@@ -16,8 +16,8 @@ returns-3 c = sym (ap (λ (k : ℕ). 256 ^ k) c.if3.true)
 returns-4 : tie.Need-returns-4
 returns-4 c = let h : c.before.before.before.args.count ≡ 3 = omega arith in sym (ap (λ (k : ℕ). 256 ^ k) h)
 
-pub limit-spec : {M : Type 1} → statement M
-limit-spec =
+pub limit_spec : {M : Type 1} → statement M
+limit_spec =
     tie.close
     (tie.spec
     returns returns-2 returns-3 returns-4)

@@ -15,8 +15,8 @@ returns-2 c = let a = c.before.before.before.args in ap (λ s. more s a.used) c.
 returns-3 : tie.Need-returns-3
 returns-3 c = let a = c.before.before.args in ap (λ s. more s a.used) c.in-fragment.ensures ∙ sym (settled_on a.capacity a.placed a.left a.last a.used (omega arith))
 
-pub settle-spec : {M : Type 1} → statement M
-settle-spec =
+pub settle_spec : {M : Type 1} → statement M
+settle_spec =
     tie.close
     (tie.spec
     (search rules) returns (search rules) returns-2 (search rules) returns-3)

@@ -18,8 +18,8 @@ other AUTH_UNIX h e = ⊎_elim (λ k. omega arith) (λ k. ⊎_elim (λ k. omega 
 other AUTH_SHORT h e = omega arith
 other AUTH_DES h e = omega arith
 
-pub by-call-spec : {M : Type 1} → statement M
-by-call-spec =
+pub by_call_spec : {M : Type 1} → statement M
+by_call_spec =
     tie.close
     (tie.spec
     (search rules) (search rules) (search rules) (λ c. search (flavor-other, other)) (search rules) (search rules) (search rules) (search rules)

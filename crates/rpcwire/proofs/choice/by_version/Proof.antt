@@ -24,8 +24,8 @@ returns-3 c = let a = c.before.before.before.before.before.before.args in progra
 returns-4 : tie.Need-returns-4
 returns-4 c = let a = c.before.before.before.before.before.before.before.before.before.before.before.args in program-other a.seen a.out.now a.serves a.xid a.call (view_caller a.caller) a.arguments c.before.before.before.before.before.before.before.if1.false c.before.before.before.before.before.before.if2.false (not-served a.call.prog c.before.before.before.before.before.match.rest.1) (c.before.before.reply2.ensures ∙ ap (λ m. replying m a.out.now) c.before.before.before.before.prog-unavail-reply-message.ensures)
 
-pub by-version-spec : {M : Type 1} → statement M
-by-version-spec =
+pub by_version_spec : {M : Type 1} → statement M
+by_version_spec =
     tie.close
     (tie.spec
     (search rules) reply-requires (search rules) returns returns-2 (search rules) reply-requires-2 returns-3 (search rules) returns-4)

@@ -7,8 +7,8 @@ use Rattle.rpcwire.specs.Laws.Choice.{message-lost, message-reply, message-call}
 use Rattle.rpcwire.proofs.choice.current_choose.Statement.{statement}
 use Rattle.rpcwire.proofs.choice.current_choose.Tie as tie
 
-pub current-choose-spec : {M : Type 1} → statement M
-current-choose-spec =
+pub current_choose_spec : {M : Type 1} → statement M
+current_choose_spec =
     tie.close
     (tie.spec
     (search rules) (search rules) (search rules) (search rules) (λ c. search (message-lost current view_current_rpc_msg lost_current_rpc_msg)) (search rules) (search rules)

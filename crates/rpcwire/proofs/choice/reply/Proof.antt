@@ -11,8 +11,8 @@ returns c = reply-none c.before.before.before.before.before.before.before.before
 returns-2 : tie.Need-returns-2
 returns-2 c = reply-done c.before.before.before.before.before.before.before.before.before.before.args.m c.before.before.before.before.before.before.before.before.before.before.requires c.before.before.before.before.before.before.before.before.before.before.args.out.now c.before.before.before.before.before.write-rpc-msg.ensures (ap view_wrote c.before.wrote.given.1)
 
-pub reply-spec : {M : Type 1} → statement M
-reply-spec =
+pub reply_spec : {M : Type 1} → statement M
+reply_spec =
     tie.close
     (tie.spec
     (search rules) (search rules) (search rules) (search rules) (search rules) returns (search rules) returns-2)

@@ -17,8 +17,8 @@ returns-3 c = fragment-short _ _ _ (known_bytes c.before.before.before.before.be
 returns-4 : tie.Need-returns-4
 returns-4 c = fragment-done _ _ _ (known_bytes c.before.before.before.before.before.before.before.before.before.before.before.before.before.args.message.now c.before.before.before.before.before.before.before.before.before.before.before.before.shared-slice-known.given) c.before.before.before.before.before.before.before.before.before.before.if1.false c.before.before.before.before.before.before.before.before.before.if2.false c.before.before.before.before.before.before.before.before.if3.false c.before.before.before.before.before.before.put-u32.ensures refl c.before.before.copy.ensures.1
 
-pub write-fragment-spec : {M : Type 1} → statement M
-write-fragment-spec =
+pub write_fragment_spec : {M : Type 1} → statement M
+write_fragment_spec =
     tie.close
     (tie.spec
     returns returns-2 (search rules) (search rules) (search rules) returns-3 (search rules) (search rules) (search rules) (search rules) (search rules)

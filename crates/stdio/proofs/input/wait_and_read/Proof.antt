@@ -11,8 +11,8 @@ invariant-loop space₀ turns₀ t₀ space turns t = (t.count ≤ length space)
 abbrev decreases-loop : tie.decreases-loop
 decreases-loop space₀ turns₀ t₀ space turns t = turns
 
-pub wait-and-read-spec : {M : Type 1} → statement M
-wait-and-read-spec =
+pub wait_and_read_spec : {M : Type 1} → statement M
+wait_and_read_spec =
     tie.close
     (tie.spec
     invariant-loop decreases-loop (search rules) (search rules) (search rules) (search rules) (search rules) (search rules) (search rules) (search rules)

@@ -15,5 +15,5 @@ returns-2 c = sym (lt-leb (c.before.before.args.count + c.before.before.args.n) 
 returns-3 : tie.Need-returns-3
 returns-3 c = sym (le-leb (c.before.before.args.count + c.before.before.args.n) c.before.before.args.room (omega arith))
 
-pub fits-spec : {M : Type 1} → statement M
-fits-spec = tie.close (tie.spec returns returns-2 returns-3)
+pub fits_spec : {M : Type 1} → statement M
+fits_spec = tie.close (tie.spec returns returns-2 returns-3)

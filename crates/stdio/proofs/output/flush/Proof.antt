@@ -14,5 +14,5 @@ returns-2 c =
 returns-3 : tie.Need-returns-3
 returns-3 c = record { is = flushed-now _ _ c.before.before.if1.false; idle = λ e z. never (sym (c.before.write-front.ensures z) ∙ c.if2.false) }
 
-pub flush-spec : {M : Type 1} → statement M
-flush-spec = tie.close (tie.spec returns (search rules) (search rules) returns-2 returns-3)
+pub flush_spec : {M : Type 1} → statement M
+flush_spec = tie.close (tie.spec returns (search rules) (search rules) returns-2 returns-3)

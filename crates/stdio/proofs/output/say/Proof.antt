@@ -35,8 +35,8 @@ returns-4 c =
 returns-5 : tie.Need-returns-5
 returns-5 c = said-long c.before.before.before.before.before.before.before.before.before.before.args.buf.now c.before.before.before.before.before.before.before.before.before.before.args.at c.before.before.before.before.before.before.before.before.before.before.args.text.now c.before.before.before.before.before.before.before.if1.false (sym c.before.before.before.before.before.before.fits2.ensures ∙ c.before.before.before.before.before.if2.false) c.write-all.result c.before.if4.false
 
-pub say-spec : {M : Type 1} → statement M
-say-spec =
+pub say_spec : {M : Type 1} → statement M
+say_spec =
     tie.close
     (tie.spec
     returns (search rules) lay-requires add-t14 (search rules) returns-2 (search rules) (search rules) returns-3 (search rules) (search rules)

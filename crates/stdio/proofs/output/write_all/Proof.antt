@@ -18,8 +18,8 @@ returns c = λ e. absurd (omega (arith, e))
 returns-2 : tie.Need-returns-2 invariant-loop decreases-loop
 returns-2 c = λ e. refl
 
-pub write-all-spec : {M : Type 1} → statement M
-write-all-spec =
+pub write_all_spec : {M : Type 1} → statement M
+write_all_spec =
     tie.close
     (tie.spec
     invariant-loop decreases-loop (search rules) (search rules) (search rules) (search rules) (search rules) (search rules) (search rules) returns

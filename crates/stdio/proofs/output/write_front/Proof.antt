@@ -9,5 +9,5 @@ returns c = λ e. c.write-all.ensures (omega (arith, e))
 returns-2 : tie.Need-returns-2
 returns-2 c = λ e. c.write-all2.ensures (omega (arith, e))
 
-pub write-front-spec : {M : Type 1} → statement M
-write-front-spec = tie.close (tie.spec (search rules) (search rules) (search rules) (search rules) returns (search rules) returns-2)
+pub write_front_spec : {M : Type 1} → statement M
+write_front_spec = tie.close (tie.spec (search rules) (search rules) (search rules) (search rules) returns (search rules) returns-2)

@@ -10,8 +10,8 @@ invariant-loop bytes turns₀ t₀ turns t = t.count ≤ length bytes
 abbrev decreases-loop : tie.decreases-loop
 decreases-loop bytes turns₀ t₀ turns t = turns
 
-pub write-some-spec : {M : Type 1} → statement M
-write-some-spec =
+pub write_some_spec : {M : Type 1} → statement M
+write_some_spec =
     tie.close
     (tie.spec
     invariant-loop decreases-loop (search rules) (search rules) (search rules) (search rules) (search rules) (search rules) (search rules) (search rules)

@@ -27,8 +27,8 @@ loop-again c = (search rules, below_more _ _ c.before.before.before.before.loop.
 returns-2 : tie.Need-returns-2 invariant-loop decreases-loop
 returns-2 c = record { all = λ t k l. c.before.loop.invariant.1 k (omega arith); not = λ t. never t }
 
-pub are-digits-spec : {M : Type 1} → statement M
-are-digits-spec =
+pub are_digits_spec : {M : Type 1} → statement M
+are_digits_spec =
     tie.close
     (tie.spec
     invariant-loop decreases-loop loop-holds (search rules) (search rules) returns (search rules) (search rules) loop-again returns-2)

@@ -33,8 +33,8 @@ put-requires c κs = (record { two = omega arith; digits = c.before.before.are-d
 returns-7 : tie.Need-returns-7
 returns-7 c = takes _ c.of2.ensures.0 c.of2.ensures.1 (search rules) (search rules) c.before.before.before.put.ensures.1 (inr (omega arith, c.before.before.before.put.ensures.0))
 
-pub unhex-spec : {M : Type 1} → statement M
-unhex-spec =
+pub unhex_spec : {M : Type 1} → statement M
+unhex_spec =
     tie.close
     (tie.spec
     (search rules) returns (search rules) (search rules) returns-2 (search rules) returns-3 (search rules) returns-4 (search rules) returns-5

@@ -40,8 +40,8 @@ loop-again c = (search rules, search rules, turn c.before.before.before.before.b
 returns-6 : tie.Need-returns-6 invariant-loop decreases-loop
 returns-6 c = (omega arith, record { some = omega arith; digits = λ k l. c.before.loop.invariant.3 k (omega arith); value = whole _ c.before.loop.i _ (omega arith) c.before.loop.invariant.2 })
 
-pub decimal-spec : {M : Type 1} → statement M
-decimal-spec =
+pub decimal_spec : {M : Type 1} → statement M
+decimal_spec =
     tie.close
     (tie.spec
     invariant-loop decreases-loop returns loop-holds (search rules) returns-2 returns-3 (search rules) returns-4 (search rules) (search rules) returns-5

@@ -23,8 +23,8 @@ past l n h =
 returns : tie.Need-returns
 returns c = (past c.before.before.args.line.now c.before.before.args.start c.if1.true, (omega arith, omega arith))
 
-pub word-end-spec : {M : Type 1} → statement M
-word-end-spec =
+pub word_end_spec : {M : Type 1} → statement M
+word_end_spec =
     tie.close
     (tie.spec
     returns (search rules) (search rules))

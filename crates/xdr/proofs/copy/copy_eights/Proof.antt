@@ -3,8 +3,8 @@ use Rattle.xdr.specs.Laws.Copying.{two_ends}
 use Rattle.xdr.proofs.copy.copy_eights.Statement.{statement}
 use Rattle.xdr.proofs.copy.copy_eights.Tie as tie
 
-pub copy-eights-spec : {M : Type 1} → statement M
-copy-eights-spec =
+pub copy_eights_spec : {M : Type 1} → statement M
+copy_eights_spec =
     tie.close
     (tie.spec
     (search rules) (search rules) (search rules) (search rules) (search rules) (search rules) (search rules) (search rules)

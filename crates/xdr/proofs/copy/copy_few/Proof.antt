@@ -5,8 +5,8 @@ use Rattle.xdr.specs.Laws.Copying.{none-copied, few-copied}
 use Rattle.xdr.proofs.copy.copy_few.Statement.{statement}
 use Rattle.xdr.proofs.copy.copy_few.Tie as tie
 
-pub copy-few-spec : {M : Type 1} → statement M
-copy-few-spec =
+pub copy_few_spec : {M : Type 1} → statement M
+copy_few_spec =
     tie.close
     (tie.spec
     (λ c. search none-copied) (search rules) (search rules) (search rules) (λ c. simp length-set (omega arith)) (search rules)

@@ -3,8 +3,8 @@ use Rattle.xdr.specs.Laws.Copying.{front-runs}
 use Rattle.xdr.proofs.copy.copy_front.Statement.{statement}
 use Rattle.xdr.proofs.copy.copy_front.Tie as tie
 
-pub copy-front-spec : {M : Type 1} → statement M
-copy-front-spec =
+pub copy_front_spec : {M : Type 1} → statement M
+copy_front_spec =
     tie.close
     (tie.spec
     (search rules) (search rules) (search rules) (search rules) (search rules) (search rules) (search rules) (search rules)

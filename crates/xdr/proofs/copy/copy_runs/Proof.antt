@@ -3,8 +3,8 @@ use Rattle.xdr.specs.Laws.Copying.{back-runs}
 use Rattle.xdr.proofs.copy.copy_runs.Statement.{statement}
 use Rattle.xdr.proofs.copy.copy_runs.Tie as tie
 
-pub copy-runs-spec : {M : Type 1} → statement M
-copy-runs-spec =
+pub copy_runs_spec : {M : Type 1} → statement M
+copy_runs_spec =
     tie.close
     (tie.spec
     (search rules) (search rules) (search rules) (search rules) (search rules) (search rules) (search rules) (search rules)

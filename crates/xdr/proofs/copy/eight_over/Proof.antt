@@ -15,8 +15,8 @@ store k h c = store_in k (begun c).args.src.now (begun c).args.at (begun c).args
 same_length : tie.Need-same-length
 same_length c = stores-long 8 (begun c).args.src.now (begun c).args.at (begun c).args.out.now
 
-pub eight-over-spec : {M : Type 1} → statement M
-eight-over-spec =
+pub eight_over_spec : {M : Type 1} → statement M
+eight_over_spec =
     tie.close
     (tie.spec
     (search rules) (search rules) (search rules) (search rules) (search rules) (search rules) (search rules) (search rules)

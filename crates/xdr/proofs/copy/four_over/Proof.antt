@@ -5,8 +5,8 @@ use Rattle.xdr.specs.Laws.Copying.{run-laid}
 use Rattle.xdr.proofs.copy.four_over.Statement.{statement}
 use Rattle.xdr.proofs.copy.four_over.Tie as tie
 
-pub four-over-spec : {M : Type 1} → statement M
-four-over-spec =
+pub four_over_spec : {M : Type 1} → statement M
+four_over_spec =
     tie.close
     (tie.spec
     (search rules) (search rules) (search rules) (search rules) (search rules) (search rules) (search rules) (search rules)

@@ -15,8 +15,8 @@ store k h c = store_in k (begun c).args.src.now (begun c).args.at (begun c).args
 same_length : tie.Need-same-length
 same_length c = stores-long 16 (begun c).args.src.now (begun c).args.at (begun c).args.out.now
 
-pub sixteen-over-spec : {M : Type 1} → statement M
-sixteen-over-spec =
+pub sixteen_over_spec : {M : Type 1} → statement M
+sixteen_over_spec =
     tie.close
     (tie.spec
     (λ c. omega arith) (λ c. omega arith) (λ c. omega arith) (λ c. omega arith) (λ c. omega arith) (λ c. omega arith) (λ c. omega arith)

@@ -3,8 +3,8 @@ use Rattle.xdr.specs.Laws.ByNumber.{body-off, body-on}
 use Rattle.xdr.proofs.inner.body_at.Statement.{statement}
 use Rattle.xdr.proofs.inner.body_at.Tie as tie
 
-pub body-at-spec : {M : Type 1} → statement M
-body-at-spec =
+pub body_at_spec : {M : Type 1} → statement M
+body_at_spec =
     tie.close
     (tie.spec
     (search rules) (search rules) (search rules) (search rules) (search rules) (search rules) (λ c. search body-off) (search rules) (search rules) (search rules)

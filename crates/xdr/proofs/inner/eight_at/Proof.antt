@@ -3,5 +3,5 @@ use Rattle.xdr.specs.Laws.Answers.{eight_is}
 use Rattle.xdr.proofs.inner.eight_at.Statement.{statement}
 use Rattle.xdr.proofs.inner.eight_at.Tie as tie
 
-pub eight-at-spec : {M : Type 1} → statement M
-eight-at-spec = tie.close (tie.spec (search rules) (λ c. search eight_is))
+pub eight_at_spec : {M : Type 1} → statement M
+eight_at_spec = tie.close (tie.spec (search rules) (λ c. search eight_is))

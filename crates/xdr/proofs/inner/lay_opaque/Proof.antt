@@ -3,8 +3,8 @@ use Rattle.xdr.specs.Laws.Lay.{opaque-laid}
 use Rattle.xdr.proofs.inner.lay_opaque.Statement.{statement}
 use Rattle.xdr.proofs.inner.lay_opaque.Tie as tie
 
-pub lay-opaque-spec : {M : Type 1} → statement M
-lay-opaque-spec =
+pub lay_opaque_spec : {M : Type 1} → statement M
+lay_opaque_spec =
     tie.close
     (tie.spec
     (search rules) (search rules) (search rules) (search rules) (search rules) (search rules) (search rules) (search rules)

@@ -3,8 +3,8 @@ use Rattle.xdr.specs.Laws.Lay.{words-laid}
 use Rattle.xdr.proofs.inner.lay_words.Statement.{statement}
 use Rattle.xdr.proofs.inner.lay_words.Tie as tie
 
-pub lay-words-spec : {M : Type 1} → statement M
-lay-words-spec =
+pub lay_words_spec : {M : Type 1} → statement M
+lay_words_spec =
     tie.close
     (tie.spec
     (search rules) (search rules) (search rules) (search rules) (search rules) (search rules) (search rules) (search rules)

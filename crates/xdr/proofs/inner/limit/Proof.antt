@@ -3,8 +3,8 @@ use Rattle.xdr.specs.Laws.Padding.{limit_of, limit-rest}
 use Rattle.xdr.proofs.inner.limit.Statement.{statement}
 use Rattle.xdr.proofs.inner.limit.Tie as tie
 
-pub limit-spec : {M : Type 1} → statement M
-limit-spec =
+pub limit_spec : {M : Type 1} → statement M
+limit_spec =
     tie.close
     (tie.spec
     (λ c. ap limit_of (sym c.match.keys1)) (λ c. ap limit_of (sym c.match.keys2)) (λ c. ap limit_of (sym c.match.keys3))

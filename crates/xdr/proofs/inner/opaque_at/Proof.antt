@@ -5,8 +5,8 @@ use Rattle.xdr.specs.Laws.ByNumber.{passed, by-room, by-piece}
 use Rattle.xdr.proofs.inner.opaque_at.Statement.{statement}
 use Rattle.xdr.proofs.inner.opaque_at.Tie as tie
 
-pub opaque-at-spec : {M : Type 1} → statement M
-opaque-at-spec =
+pub opaque_at_spec : {M : Type 1} → statement M
+opaque_at_spec =
     tie.close
     (tie.spec
     (search rules) (search rules) (search rules) (search rules) (λ c. search (passed view_u32 lost_u32 piece-refused)) (λ c κs. search by-room)

@@ -3,5 +3,5 @@ use Rattle.xdr.specs.Laws.Padding.{other-in, zeros-told}
 use Rattle.xdr.proofs.inner.pad_zeros.Statement.{statement}
 use Rattle.xdr.proofs.inner.pad_zeros.Tie as tie
 
-pub pad-zeros-spec : {M : Type 1} → statement M
-pad-zeros-spec = tie.close (tie.spec (search rules) (λ c κs. search other-in) (search rules) (search rules) (λ c. search zeros-told))
+pub pad_zeros_spec : {M : Type 1} → statement M
+pad_zeros_spec = tie.close (tie.spec (search rules) (λ c κs. search other-in) (search rules) (search rules) (λ c. search zeros-told))

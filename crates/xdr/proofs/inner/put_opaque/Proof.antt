@@ -5,8 +5,8 @@ use Rattle.xdr.specs.Laws.LayPieces.{bytes-tested, piece-told, lies-long, lies-o
 use Rattle.xdr.proofs.inner.put_opaque.Statement.{statement}
 use Rattle.xdr.proofs.inner.put_opaque.Tie as tie
 
-pub put-opaque-spec : {M : Type 1} → statement M
-put-opaque-spec =
+pub put_opaque_spec : {M : Type 1} → statement M
+put_opaque_spec =
     tie.close
     (tie.spec
     (λ c. search (lies-long bytes-tested)) (search rules) (λ c. search (lies-outside bytes-tested))

@@ -7,8 +7,8 @@ use Rattle.xdr.specs.Laws.Lays.{lay-short, size_is}
 use Rattle.xdr.proofs.inner.put_u32.Statement.{statement}
 use Rattle.xdr.proofs.inner.put_u32.Tie as tie
 
-pub put-u32-spec : {M : Type 1} → statement M
-put-u32-spec =
+pub put_u32_spec : {M : Type 1} → statement M
+put_u32_spec =
     tie.close
     (tie.spec
     (λ c. search (lay-short, size_is word-fixed)) (search rules) (search rules) (search rules) (search rules)

@@ -5,8 +5,8 @@ use Rattle.xdr.specs.Laws.Lays.{lay-short, lay-two, size_is}
 use Rattle.xdr.proofs.inner.put_u32_pair.Statement.{statement}
 use Rattle.xdr.proofs.inner.put_u32_pair.Tie as tie
 
-pub put-u32-pair-spec : {M : Type 1} → statement M
-put-u32-pair-spec =
+pub put_u32_pair_spec : {M : Type 1} → statement M
+put_u32_pair_spec =
     tie.close
     (tie.spec
     (λ c. search (lay-short, size_is word-pair-fixed)) (search rules) (search rules) (search rules) (search rules) (search rules)

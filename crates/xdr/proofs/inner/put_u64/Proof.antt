@@ -7,8 +7,8 @@ use Rattle.xdr.specs.Laws.Lays.{lay-short, size_is}
 use Rattle.xdr.proofs.inner.put_u64.Statement.{statement}
 use Rattle.xdr.proofs.inner.put_u64.Tie as tie
 
-pub put-u64-spec : {M : Type 1} → statement M
-put-u64-spec =
+pub put_u64_spec : {M : Type 1} → statement M
+put_u64_spec =
     tie.close
     (tie.spec
     (λ c. search (lay-short, size_is hyper-fixed)) (search rules) (search rules) (search rules) (search rules)

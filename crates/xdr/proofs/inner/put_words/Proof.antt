@@ -5,8 +5,8 @@ use Rattle.xdr.specs.Laws.LayPieces.{words-tested, words-told, lies-long, lies-o
 use Rattle.xdr.proofs.inner.put_words.Statement.{statement}
 use Rattle.xdr.proofs.inner.put_words.Tie as tie
 
-pub put-words-spec : {M : Type 1} → statement M
-put-words-spec =
+pub put_words_spec : {M : Type 1} → statement M
+put_words_spec =
     tie.close
     (tie.spec
     (λ c. search (lies-long words-tested)) (search rules) (λ c. search (lies-outside words-tested))

@@ -6,8 +6,8 @@ use Rattle.xdr.specs.Laws.Answers.{word-short, word-took}
 use Rattle.xdr.proofs.inner.u32_at.Statement.{statement}
 use Rattle.xdr.proofs.inner.u32_at.Tie as tie
 
-pub u32-at-spec : {M : Type 1} → statement M
-u32-at-spec =
+pub u32_at_spec : {M : Type 1} → statement M
+u32_at_spec =
     tie.close
     (tie.spec
     (search rules) (λ c. ap refused c.cut_short.ensures ∙ word-short _ _ (omega arith)) (search rules) (search rules)

@@ -6,8 +6,8 @@ use Rattle.xdr.specs.Laws.Answers.{word-pair-short, word-pair-took}
 use Rattle.xdr.proofs.inner.u32_pair_at.Statement.{statement}
 use Rattle.xdr.proofs.inner.u32_pair_at.Tie as tie
 
-pub u32-pair-at-spec : {M : Type 1} → statement M
-u32-pair-at-spec =
+pub u32_pair_at_spec : {M : Type 1} → statement M
+u32_pair_at_spec =
     tie.close
     (tie.spec
     (search rules) (λ c. ap refused c.pair_end.ensures ∙ word-pair-short _ _ (omega arith)) (search rules) (search rules)

@@ -5,8 +5,8 @@ use Rattle.xdr.specs.Laws.ByNumber.{passed, by_next, by-words-room, by-words-sho
 use Rattle.xdr.proofs.inner.words_at.Statement.{statement}
 use Rattle.xdr.proofs.inner.words_at.Tie as tie
 
-pub words-at-spec : {M : Type 1} → statement M
-words-at-spec =
+pub words_at_spec : {M : Type 1} → statement M
+words_at_spec =
     tie.close
     (tie.spec
     (search rules) (search rules) (search rules) (search rules) (λ c. search (passed view_u32 lost_u32 words-refused)) (search rules) (search rules)

@@ -3,8 +3,8 @@ use Rattle.xdr.specs.Laws.Signed.{halves32, low-is, high_fits, high_is}
 use Rattle.xdr.proofs.number.signed32.Statement.{statement}
 use Rattle.xdr.proofs.number.signed32.Tie as tie
 
-pub signed32-spec : {M : Type 1} → statement M
-signed32-spec =
+pub signed32_spec : {M : Type 1} → statement M
+signed32_spec =
     tie.close
     (tie.spec
     (search rules) (search rules) (search rules) (λ c. high_fits halves32 _ c.if1.false) (λ c. low-is halves32 _ c.if1.true)

@@ -2,8 +2,8 @@ use Rattle.xdr.specs.Laws.Signed.{halves32, flip-fits, flip-casts, flip-within, 
 use Rattle.xdr.proofs.number.unsigned32.Statement.{statement}
 use Rattle.xdr.proofs.number.unsigned32.Tie as tie
 
-pub unsigned32-spec : {M : Type 1} → statement M
-unsigned32-spec =
+pub unsigned32_spec : {M : Type 1} → statement M
+unsigned32_spec =
     tie.close
     (tie.spec
     (λ c. search flip-fits) (λ c. flip-casts halves32 _ c.before.ranges.v c.if1.true) (λ c. flip-within halves32 _ c.before.ranges.v c.if1.true)

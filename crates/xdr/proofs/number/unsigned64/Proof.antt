@@ -2,8 +2,8 @@ use Rattle.xdr.specs.Laws.Signed.{halves64, flip-fits, flip-casts, flip-within, 
 use Rattle.xdr.proofs.number.unsigned64.Statement.{statement}
 use Rattle.xdr.proofs.number.unsigned64.Tie as tie
 
-pub unsigned64-spec : {M : Type 1} → statement M
-unsigned64-spec =
+pub unsigned64_spec : {M : Type 1} → statement M
+unsigned64_spec =
     tie.close
     (tie.spec
     (λ c. search flip-fits) (λ c. flip-casts halves64 _ c.before.ranges.v c.if1.true) (λ c. flip-within halves64 _ c.before.ranges.v c.if1.true)

@@ -4,5 +4,5 @@ use Rattle.xdr.specs.Laws.Sources.{longer-first, longer-second}
 use Rattle.xdr.proofs.order.longer.Statement.{statement}
 use Rattle.xdr.proofs.order.longer.Tie as tie
 
-pub longer-spec : {M : Type 1} → statement M
-longer-spec = tie.close (tie.spec (λ c. search (rules, longer-second)) (λ c. search (rules, longer-first)))
+pub longer_spec : {M : Type 1} → statement M
+longer_spec = tie.close (tie.spec (λ c. search (rules, longer-second)) (λ c. search (rules, longer-first)))

@@ -5,8 +5,8 @@ use Rattle.xdr.specs.Laws.Ranges.{flag-good}
 use Rattle.xdr.proofs.write.write_bool.Statement.{statement}
 use Rattle.xdr.proofs.write.write_bool.Tie as tie
 
-pub write-bool-spec : {M : Type 1} → statement M
-write-bool-spec =
+pub write_bool_spec : {M : Type 1} → statement M
+write_bool_spec =
     tie.close
     (tie.spec
     (search rules) (search rules) (search rules) (λ c. search (rules, fixed_off flag-fixed)) (λ c. search rooms) (λ c. search rooms)

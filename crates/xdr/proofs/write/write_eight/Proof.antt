@@ -3,8 +3,8 @@ use Rattle.xdr.specs.Laws.Lays.{eight-off, eight-on, rooms}
 use Rattle.xdr.proofs.write.write_eight.Statement.{statement}
 use Rattle.xdr.proofs.write.write_eight.Tie as tie
 
-pub write-eight-spec : {M : Type 1} → statement M
-write-eight-spec =
+pub write_eight_spec : {M : Type 1} → statement M
+write_eight_spec =
     tie.close
     (tie.spec
     (search rules) (search rules) (search rules) (λ c. search (rules, eight-off)) (λ c. search rooms) (λ c. search rooms)

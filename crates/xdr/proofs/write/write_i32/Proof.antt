@@ -5,8 +5,8 @@ use Rattle.xdr.specs.Laws.Ranges.{int-good}
 use Rattle.xdr.proofs.write.write_i32.Statement.{statement}
 use Rattle.xdr.proofs.write.write_i32.Tie as tie
 
-pub write-i32-spec : {M : Type 1} → statement M
-write-i32-spec =
+pub write_i32_spec : {M : Type 1} → statement M
+write_i32_spec =
     tie.close
     (tie.spec
     (search rules) (search rules) (search rules) (λ c. search (rules, fixed_off int-fixed)) (λ c. search rooms) (λ c. search rooms)

@@ -5,8 +5,8 @@ use Rattle.xdr.specs.Laws.Ranges.{long-good}
 use Rattle.xdr.proofs.write.write_i64.Statement.{statement}
 use Rattle.xdr.proofs.write.write_i64.Tie as tie
 
-pub write-i64-spec : {M : Type 1} → statement M
-write-i64-spec =
+pub write_i64_spec : {M : Type 1} → statement M
+write_i64_spec =
     tie.close
     (tie.spec
     (search rules) (search rules) (search rules) (λ c. search (rules, fixed_off long-fixed)) (λ c. search rooms) (λ c. search rooms)

@@ -5,9 +5,9 @@ use Rattle.xdr.specs.Laws.Writers.{bytes-writer, write-off, write-place, write-o
 use Rattle.xdr.proofs.write.write_opaque.Statement.{statement}
 use Rattle.xdr.proofs.write.write_opaque.Tie as tie
 
-pub write-opaque-spec : {M : Type 1} → statement M
+pub write_opaque_spec : {M : Type 1} → statement M
 unfolding piece_held
-write-opaque-spec =
+write_opaque_spec =
     tie.close
     (tie.spec
     (search rules) (search rules) (search rules) (search rules) (search rules) (λ c. search (write-off bytes-writer))

@@ -5,8 +5,8 @@ use Rattle.xdr.specs.Laws.Ranges.{word_good}
 use Rattle.xdr.proofs.write.write_u32.Statement.{statement}
 use Rattle.xdr.proofs.write.write_u32.Tie as tie
 
-pub write-u32-spec : {M : Type 1} → statement M
-write-u32-spec =
+pub write_u32_spec : {M : Type 1} → statement M
+write_u32_spec =
     tie.close
     (tie.spec
     (search rules) (search rules) (search rules) (λ c. search (rules, fixed_off word-fixed)) (λ c. search rooms) (λ c. search rooms)

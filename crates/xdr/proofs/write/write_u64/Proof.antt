@@ -5,8 +5,8 @@ use Rattle.xdr.specs.Laws.Ranges.{hyper-good}
 use Rattle.xdr.proofs.write.write_u64.Statement.{statement}
 use Rattle.xdr.proofs.write.write_u64.Tie as tie
 
-pub write-u64-spec : {M : Type 1} → statement M
-write-u64-spec =
+pub write_u64_spec : {M : Type 1} → statement M
+write_u64_spec =
     tie.close
     (tie.spec
     (search rules) (search rules) (search rules) (λ c. search (rules, fixed_off hyper-fixed)) (λ c. search rooms) (λ c. search rooms)

@@ -5,9 +5,9 @@ use Rattle.xdr.specs.Laws.Writers.{words-writer, write-off, write-place, write-i
 use Rattle.xdr.proofs.write.write_words.Statement.{statement}
 use Rattle.xdr.proofs.write.write_words.Tie as tie
 
-pub write-words-spec : {M : Type 1} → statement M
+pub write_words_spec : {M : Type 1} → statement M
 unfolding words_held
-write-words-spec =
+write_words_spec =
     tie.close
     (tie.spec
     (search rules) (search rules) (search rules) (search rules) (search rules) (λ c. search (write-off words-writer))

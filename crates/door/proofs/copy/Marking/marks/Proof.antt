@@ -4,5 +4,5 @@ use Rattle.door.specs.Laws.Figures.{at-case}
 use Rattle.door.proofs.copy.Marking.marks.Statement.{statement}
 use Rattle.door.proofs.copy.Marking.marks.Tie as tie
 
-pub marks-spec : {M : Type 1} → statement M
-marks-spec = tie.close (tie.spec (search rules) (search rules) (search rules) (search rules) (search rules) (search rules) (search rules) (λ c. search (at-case view_marking)) (λ c. search (at-case view_marking)) (λ c. search (at-case view_marking)) (λ c. search (at-case view_marking)) (λ c. search (at-case view_marking)) (λ c. search (at-case view_marking)) (λ c. search (at-case view_marking)))
+pub marks_spec : {M : Type 1} → statement M
+marks_spec = tie.close (tie.spec (search rules) (search rules) (search rules) (search rules) (search rules) (search rules) (search rules) (λ c. search (at-case view_marking)) (λ c. search (at-case view_marking)) (λ c. search (at-case view_marking)) (λ c. search (at-case view_marking)) (λ c. search (at-case view_marking)) (λ c. search (at-case view_marking)) (λ c. search (at-case view_marking)))

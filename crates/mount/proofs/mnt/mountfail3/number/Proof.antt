@@ -5,5 +5,5 @@ use Rattle.mount.specs.Meaning.Mnt.{mountfail_number}
 use Rattle.mount.proofs.mnt.mountfail3.number.Statement.{statement}
 use Rattle.mount.proofs.mnt.mountfail3.number.Tie as tie
 
-pub number-spec : {M : Type 1} → statement M
-number-spec = tie.close (tie.spec (search rules) (search rules) (search rules) (search rules) (search rules) (search rules) (search rules) (search rules) (search rules) (λ c. search (numbered mountfail_number)) (λ c. search (numbered mountfail_number)) (λ c. search (numbered mountfail_number)) (λ c. search (numbered mountfail_number)) (λ c. search (numbered mountfail_number)) (λ c. search (numbered mountfail_number)) (λ c. search (numbered mountfail_number)) (λ c. search (numbered mountfail_number)) (λ c. search (numbered mountfail_number)))
+pub number_spec : {M : Type 1} → statement M
+number_spec = tie.close (tie.spec (search rules) (search rules) (search rules) (search rules) (search rules) (search rules) (search rules) (search rules) (search rules) (λ c. search (numbered mountfail_number)) (λ c. search (numbered mountfail_number)) (λ c. search (numbered mountfail_number)) (λ c. search (numbered mountfail_number)) (λ c. search (numbered mountfail_number)) (λ c. search (numbered mountfail_number)) (λ c. search (numbered mountfail_number)) (λ c. search (numbered mountfail_number)) (λ c. search (numbered mountfail_number)))

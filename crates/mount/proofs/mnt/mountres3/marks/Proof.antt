@@ -5,5 +5,5 @@ use Rattle.mount.specs.Laws.Mnt.{mountres-status}
 use Rattle.mount.proofs.mnt.mountres3.marks.Statement.{statement}
 use Rattle.mount.proofs.mnt.mountres3.marks.Tie as tie
 
-pub marks-spec : {M : Type 1} → statement M
-marks-spec = tie.close (tie.spec (search rules) (search rules) (search rules) (λ c. search (ok-marks mountres-status)) (λ c. search (alone-marks mountres-status)))
+pub marks_spec : {M : Type 1} → statement M
+marks_spec = tie.close (tie.spec (search rules) (search rules) (search rules) (λ c. search (ok-marks mountres-status)) (λ c. search (alone-marks mountres-status)))

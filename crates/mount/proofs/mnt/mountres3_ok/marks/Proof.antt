@@ -3,5 +3,5 @@ use Rattle.mount.specs.Laws.Mnt.{mountres-ok-marks}
 use Rattle.mount.proofs.mnt.mountres3_ok.marks.Statement.{statement}
 use Rattle.mount.proofs.mnt.mountres3_ok.marks.Tie as tie
 
-pub marks-spec : {M : Type 1} → statement M
-marks-spec = tie.close (tie.spec (λ c. search mountres-ok-marks))
+pub marks_spec : {M : Type 1} → statement M
+marks_spec = tie.close (tie.spec (λ c. search mountres-ok-marks))

@@ -5,5 +5,5 @@ use Rattle.mount.specs.Meaning.Mnt.{mountstat_number}
 use Rattle.mount.proofs.mnt.mountstat3.number.Statement.{statement}
 use Rattle.mount.proofs.mnt.mountstat3.number.Tie as tie
 
-pub number-spec : {M : Type 1} → statement M
-number-spec = tie.close (tie.spec (search rules) (search rules) (search rules) (λ c. search (numbered mountstat_number)) (λ c. search (numbered mountstat_number)))
+pub number_spec : {M : Type 1} → statement M
+number_spec = tie.close (tie.spec (search rules) (search rules) (search rules) (λ c. search (numbered mountstat_number)) (λ c. search (numbered mountstat_number)))

@@ -4,5 +4,5 @@ use Rattle.mount.specs.Laws.Mnt.{mountstat-fixed}
 use Rattle.mount.proofs.mnt.mountstat3.size.Statement.{statement}
 use Rattle.mount.proofs.mnt.mountstat3.size.Tie as tie
 
-pub size-spec : {M : Type 1} → statement M
-size-spec = tie.close (tie.spec (λ c. of_size mountstat-fixed))
+pub size_spec : {M : Type 1} → statement M
+size_spec = tie.close (tie.spec (λ c. of_size mountstat-fixed))

@@ -4,5 +4,5 @@ use Rattle.mount.specs.Laws.Portmap.{port-mapping-fixed}
 use Rattle.mount.proofs.portmap.mapping.size.Statement.{statement}
 use Rattle.mount.proofs.portmap.mapping.size.Tie as tie
 
-pub size-spec : {M : Type 1} → statement M
-size-spec = tie.close (tie.spec (λ c. of_size port-mapping-fixed))
+pub size_spec : {M : Type 1} → statement M
+size_spec = tie.close (tie.spec (λ c. of_size port-mapping-fixed))

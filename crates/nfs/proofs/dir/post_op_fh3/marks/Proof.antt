@@ -5,5 +5,5 @@ use Rattle.nfs.specs.Laws.Dir.{post-op-fh-optional}
 use Rattle.nfs.proofs.dir.post_op_fh3.marks.Statement.{statement}
 use Rattle.nfs.proofs.dir.post_op_fh3.marks.Tie as tie
 
-pub marks-spec : {M : Type 1} → statement M
-marks-spec = tie.close (tie.spec (search rules) (search rules) (search rules) (λ c. search (void-marks post-op-fh-optional)) (λ c. search (value-marks post-op-fh-optional)))
+pub marks_spec : {M : Type 1} → statement M
+marks_spec = tie.close (tie.spec (search rules) (search rules) (search rules) (λ c. search (void-marks post-op-fh-optional)) (λ c. search (value-marks post-op-fh-optional)))

@@ -3,5 +3,5 @@ use Rattle.nfs.specs.Laws.Dir.{symlinkdata-marks}
 use Rattle.nfs.proofs.dir.symlinkdata3.marks.Statement.{statement}
 use Rattle.nfs.proofs.dir.symlinkdata3.marks.Tie as tie
 
-pub marks-spec : {M : Type 1} → statement M
-marks-spec = tie.close (tie.spec (λ c. search symlinkdata-marks))
+pub marks_spec : {M : Type 1} → statement M
+marks_spec = tie.close (tie.spec (λ c. search symlinkdata-marks))

@@ -5,9 +5,9 @@ use Rattle.nfs.specs.Laws.Plans.{sattr-plan, file-asks}
 use Rattle.nfs.proofs.inner.set.sattr3_at.Statement.{statement}
 use Rattle.nfs.proofs.inner.set.sattr3_at.Tie as tie
 
-pub sattr3-at-spec : {M : Type 1} → statement M
+pub sattr3_at_spec : {M : Type 1} → statement M
 unfolding sattr
-sattr3-at-spec =
+sattr3_at_spec =
     tie.close
     (tie.spec
     (search rules) (search rules) (search rules) (search rules) (λ c. search (by-plan sattr-plan, file-asks) depth 20) (search rules)

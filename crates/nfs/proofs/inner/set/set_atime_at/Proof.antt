@@ -4,9 +4,9 @@ use Rattle.nfs.specs.Laws.Tags.{tag-lost, tag-off, tag-dont, tag-server, tag-cli
 use Rattle.nfs.proofs.inner.set.set_atime_at.Statement.{statement}
 use Rattle.nfs.proofs.inner.set.set_atime_at.Tie as tie
 
-pub set-atime-at-spec : {M : Type 1} → statement M
+pub set_atime_at_spec : {M : Type 1} → statement M
 unfolding set-atime
-set-atime-at-spec =
+set_atime_at_spec =
     tie.close
     (tie.spec
     (search rules) (search rules) (search rules) (search rules) (λ c. search (tag-lost atime_cases)) (search rules) (search rules) (search rules)

@@ -5,9 +5,9 @@ use Rattle.nfs.specs.Meaning.Views.{found_how}
 use Rattle.nfs.proofs.inner.set.time_how_at.Statement.{statement}
 use Rattle.nfs.proofs.inner.set.time_how_at.Tie as tie
 
-pub time-how-at-spec : {M : Type 1} → statement M
+pub time_how_at_spec : {M : Type 1} → statement M
 unfolding time_how
-time-how-at-spec =
+time_how_at_spec =
     tie.close
     (tie.spec
     (search rules) (search rules) (search rules) (search rules) (λ c. search (tag-lost how_number hows each_how found_how)) (search rules)

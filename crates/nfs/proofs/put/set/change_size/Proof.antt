@@ -5,8 +5,8 @@ use Rattle.nfs.specs.Laws.Change.{set-size-small}
 use Rattle.nfs.proofs.put.set.change_size.Statement.{statement}
 use Rattle.nfs.proofs.put.set.change_size.Tie as tie
 
-pub change-size-spec : {M : Type 1} → statement M
-change-size-spec =
+pub change_size_spec : {M : Type 1} → statement M
+change_size_spec =
     tie.close
     (tie.spec
     (search rules) (search rules) (λ c. search (sums, set-size-small, set-atime-small)) (search rules)

@@ -17,8 +17,8 @@ returns-2 c =
     let n₁ : tie.After-set-size3-size = search in
     search (lay-three, change-bytes, change-size, behind, n₁.set-size3-size.ensures, n₂.set-atime-size.ensures, n₃.set-mtime-size.ensures, room.if1.left, y.put-set-size3.ensures, z.put-set-atime.ensures, w.put-set-mtime.ensures)
 
-pub put-change-spec : {M : Type 1} → statement M
-put-change-spec =
+pub put_change_spec : {M : Type 1} → statement M
+put_change_spec =
     tie.close
     (tie.spec
     (search rules) (search rules) (λ c. search (sums, set-size-small, set-atime-small)) (search rules)

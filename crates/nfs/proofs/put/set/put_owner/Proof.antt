@@ -17,8 +17,8 @@ returns-2 c =
     let n₁ : tie.After-set-mode3-size = search in
     search (lay-three, owner-bytes, owner-size, behind, n₁.set-mode3-size.ensures, n₂.set-uid3-size.ensures, n₃.set-gid3-size.ensures, room.if1.left, y.put-set-mode3.ensures, z.put-set-uid3.ensures, w.put-set-gid3.ensures)
 
-pub put-owner-spec : {M : Type 1} → statement M
-put-owner-spec =
+pub put_owner_spec : {M : Type 1} → statement M
+put_owner_spec =
     tie.close
     (tie.spec
     (search rules) (search rules) (λ c. search (sums, set-mode-small, set-uid-small)) (search rules)

@@ -14,8 +14,8 @@ returns-2 c =
     let n₁ : tie.After-owner-size = search in
     search (lay-two, sattr-bytes, sattr-size, n₁.owner-size.ensures, n₂.change-size.ensures, room.if1.left, y.put-owner.ensures, z.put-change.ensures)
 
-pub put-sattr3-spec : {M : Type 1} → statement M
-put-sattr3-spec =
+pub put_sattr3_spec : {M : Type 1} → statement M
+put_sattr3_spec =
     tie.close
     (tie.spec
     (search rules) (search rules) (λ c. search (sums, owner-small, change-small)) (λ c. search (lays, sattr-size)) (search rules) (search rules)

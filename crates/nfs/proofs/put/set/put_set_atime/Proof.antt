@@ -5,8 +5,8 @@ use Rattle.nfs.specs.Laws.Bytes.{set-atime-timed}
 use Rattle.nfs.proofs.put.set.put_set_atime.Statement.{statement}
 use Rattle.nfs.proofs.put.set.put_set_atime.Tie as tie
 
-pub put-set-atime-spec : {M : Type 1} → statement M
-put-set-atime-spec =
+pub put_set_atime_spec : {M : Type 1} → statement M
+put_set_atime_spec =
     tie.close
     (tie.spec
     (search rules) (search rules) (search rules) (search rules) (search rules) (search rules) (search rules)

@@ -5,8 +5,8 @@ use Rattle.nfs.specs.Laws.Bytes.{set-mtime-timed}
 use Rattle.nfs.proofs.put.set.put_set_mtime.Statement.{statement}
 use Rattle.nfs.proofs.put.set.put_set_mtime.Tie as tie
 
-pub put-set-mtime-spec : {M : Type 1} → statement M
-put-set-mtime-spec =
+pub put_set_mtime_spec : {M : Type 1} → statement M
+put_set_mtime_spec =
     tie.close
     (tie.spec
     (search rules) (search rules) (search rules) (search rules) (search rules) (search rules) (search rules)

@@ -4,8 +4,8 @@ use Rattle.nfs.specs.Laws.Bytes.{set-mtime-timed}
 use Rattle.nfs.proofs.put.set.set_mtime_size.Statement.{statement}
 use Rattle.nfs.proofs.put.set.set_mtime_size.Tie as tie
 
-pub set-mtime-size-spec : {M : Type 1} → statement M
-set-mtime-size-spec =
+pub set_mtime_size_spec : {M : Type 1} → statement M
+set_mtime_size_spec =
     tie.close
     (tie.spec
     (search rules) (search rules) (search rules) (search rules) (λ c. search (dont-size set-mtime-timed))

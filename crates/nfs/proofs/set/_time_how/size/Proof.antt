@@ -6,5 +6,5 @@ use Rattle.nfs.proofs.set.◌time◌how.size.Tie as tie
 returns : tie.Need-returns
 returns c = of_size time-how-fixed
 
-pub size-spec : {M : Type 1} → statement M
-size-spec = tie.close (tie.spec returns)
+pub size_spec : {M : Type 1} → statement M
+size_spec = tie.close (tie.spec returns)

@@ -5,9 +5,9 @@ use Rattle.nfsattr.specs.Laws.Plans.{fattr-plan, attr-asks}
 use Rattle.nfsattr.proofs.inner.attr.fattr3_whole.Statement.{statement}
 use Rattle.nfsattr.proofs.inner.attr.fattr3_whole.Tie as tie
 
-pub fattr3-whole-spec : {M : Type 1} → statement M
+pub fattr3_whole_spec : {M : Type 1} → statement M
 unfolding fattr
-fattr3-whole-spec =
+fattr3_whole_spec =
     tie.close
     (tie.spec
     (search rules) (search rules) (search rules) (search rules) (λ c. search (by-plan fattr-plan, attr-asks) depth 20) (search rules)

@@ -5,9 +5,9 @@ use Rattle.nfsattr.specs.Laws.Plans.{fsinfo-plan, attr-asks}
 use Rattle.nfsattr.proofs.inner.attr.fsinfo3_at.Statement.{statement}
 use Rattle.nfsattr.proofs.inner.attr.fsinfo3_at.Tie as tie
 
-pub fsinfo3-at-spec : {M : Type 1} → statement M
+pub fsinfo3_at_spec : {M : Type 1} → statement M
 unfolding fsinfo
-fsinfo3-at-spec =
+fsinfo3_at_spec =
     tie.close
     (tie.spec
     (search rules) (search rules) (search rules) (search rules) (λ c. search (by-plan fsinfo-plan, attr-asks) depth 20) (search rules)

@@ -5,9 +5,9 @@ use Rattle.nfsattr.specs.Meaning.Views.{found_ftype}
 use Rattle.nfsattr.proofs.inner.attr.ftype3_at.Statement.{statement}
 use Rattle.nfsattr.proofs.inner.attr.ftype3_at.Tie as tie
 
-pub ftype3-at-spec : {M : Type 1} → statement M
+pub ftype3_at_spec : {M : Type 1} → statement M
 unfolding ftype
-ftype3-at-spec =
+ftype3_at_spec =
     tie.close
     (tie.spec
     (search rules) (search rules) (search rules) (search rules) (λ c. search (tag-lost ftype_number ftypes each_ftype found_ftype)) (search rules)

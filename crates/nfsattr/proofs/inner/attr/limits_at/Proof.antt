@@ -5,9 +5,9 @@ use Rattle.nfsattr.specs.Laws.Plans.{limits-plan, attr-asks}
 use Rattle.nfsattr.proofs.inner.attr.limits_at.Statement.{statement}
 use Rattle.nfsattr.proofs.inner.attr.limits_at.Tie as tie
 
-pub limits-at-spec : {M : Type 1} → statement M
+pub limits_at_spec : {M : Type 1} → statement M
 unfolding limits
-limits-at-spec =
+limits_at_spec =
     tie.close
     (tie.spec
     (search rules) (search rules) (search rules) (search rules) (λ c. search (by-plan limits-plan, attr-asks) depth 20) (search rules)

@@ -5,9 +5,9 @@ use Rattle.nfsattr.specs.Laws.Plans.{post-op-attr-plan, attr-asks}
 use Rattle.nfsattr.proofs.inner.attr.post_op_attr_at.Statement.{statement}
 use Rattle.nfsattr.proofs.inner.attr.post_op_attr_at.Tie as tie
 
-pub post-op-attr-at-spec : {M : Type 1} → statement M
+pub post_op_attr_at_spec : {M : Type 1} → statement M
 unfolding post-op-attr
-post-op-attr-at-spec =
+post_op_attr_at_spec =
     tie.close
     (tie.spec
     (search rules) (search rules) (search rules) (search rules) (λ c. search (by-plan post-op-attr-plan, attr-asks) depth 20)

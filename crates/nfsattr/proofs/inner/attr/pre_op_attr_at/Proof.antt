@@ -5,9 +5,9 @@ use Rattle.nfsattr.specs.Laws.Plans.{pre-op-attr-plan, attr-asks}
 use Rattle.nfsattr.proofs.inner.attr.pre_op_attr_at.Statement.{statement}
 use Rattle.nfsattr.proofs.inner.attr.pre_op_attr_at.Tie as tie
 
-pub pre-op-attr-at-spec : {M : Type 1} → statement M
+pub pre_op_attr_at_spec : {M : Type 1} → statement M
 unfolding pre-op-attr
-pre-op-attr-at-spec =
+pre_op_attr_at_spec =
     tie.close
     (tie.spec
     (search rules) (search rules) (search rules) (search rules) (λ c. search (by-plan pre-op-attr-plan, attr-asks) depth 20)

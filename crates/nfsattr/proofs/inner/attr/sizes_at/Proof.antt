@@ -5,9 +5,9 @@ use Rattle.nfsattr.specs.Laws.Plans.{sizes-plan, attr-asks}
 use Rattle.nfsattr.proofs.inner.attr.sizes_at.Statement.{statement}
 use Rattle.nfsattr.proofs.inner.attr.sizes_at.Tie as tie
 
-pub sizes-at-spec : {M : Type 1} → statement M
+pub sizes_at_spec : {M : Type 1} → statement M
 unfolding sizes
-sizes-at-spec =
+sizes_at_spec =
     tie.close
     (tie.spec
     (search rules) (search rules) (search rules) (search rules) (λ c. search (by-plan sizes-plan, attr-asks) depth 20) (search rules)

@@ -5,9 +5,9 @@ use Rattle.nfsattr.specs.Laws.Plans.{specdata-plan, attr-asks}
 use Rattle.nfsattr.proofs.inner.attr.specdata3_at.Statement.{statement}
 use Rattle.nfsattr.proofs.inner.attr.specdata3_at.Tie as tie
 
-pub specdata3-at-spec : {M : Type 1} → statement M
+pub specdata3_at_spec : {M : Type 1} → statement M
 unfolding specdata
-specdata3-at-spec =
+specdata3_at_spec =
     tie.close
     (tie.spec
     (search rules) (search rules) (search rules) (search rules) (λ c. search (by-plan specdata-plan, attr-asks) depth 20)

@@ -5,9 +5,9 @@ use Rattle.nfsattr.specs.Laws.Plans.{times-plan, attr-asks}
 use Rattle.nfsattr.proofs.inner.attr.times_at.Statement.{statement}
 use Rattle.nfsattr.proofs.inner.attr.times_at.Tie as tie
 
-pub times-at-spec : {M : Type 1} → statement M
+pub times_at_spec : {M : Type 1} → statement M
 unfolding times
-times-at-spec =
+times_at_spec =
     tie.close
     (tie.spec
     (search rules) (search rules) (search rules) (search rules) (λ c. search (by-plan times-plan, attr-asks) depth 20) (search rules)

@@ -5,9 +5,9 @@ use Rattle.nfsattr.specs.Laws.Plans.{transfer-plan, attr-asks}
 use Rattle.nfsattr.proofs.inner.attr.transfer_at.Statement.{statement}
 use Rattle.nfsattr.proofs.inner.attr.transfer_at.Tie as tie
 
-pub transfer-at-spec : {M : Type 1} → statement M
+pub transfer_at_spec : {M : Type 1} → statement M
 unfolding transfer
-transfer-at-spec =
+transfer_at_spec =
     tie.close
     (tie.spec
     (search rules) (search rules) (search rules) (search rules) (λ c. search (by-plan transfer-plan, attr-asks) depth 20) (search rules)

@@ -5,9 +5,9 @@ use Rattle.nfsattr.specs.Laws.Plans.{wcc-attr-plan, attr-asks}
 use Rattle.nfsattr.proofs.inner.attr.wcc_attr_at.Statement.{statement}
 use Rattle.nfsattr.proofs.inner.attr.wcc_attr_at.Tie as tie
 
-pub wcc-attr-at-spec : {M : Type 1} → statement M
+pub wcc_attr_at_spec : {M : Type 1} → statement M
 unfolding wcc-attr
-wcc-attr-at-spec =
+wcc_attr_at_spec =
     tie.close
     (tie.spec
     (search rules) (search rules) (search rules) (search rules) (λ c. search (by-plan wcc-attr-plan, attr-asks) depth 20) (search rules)

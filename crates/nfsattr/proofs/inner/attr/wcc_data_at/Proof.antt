@@ -5,9 +5,9 @@ use Rattle.nfsattr.specs.Laws.Plans.{wcc-data-plan, attr-asks}
 use Rattle.nfsattr.proofs.inner.attr.wcc_data_at.Statement.{statement}
 use Rattle.nfsattr.proofs.inner.attr.wcc_data_at.Tie as tie
 
-pub wcc-data-at-spec : {M : Type 1} → statement M
+pub wcc_data_at_spec : {M : Type 1} → statement M
 unfolding wcc-data
-wcc-data-at-spec =
+wcc_data_at_spec =
     tie.close
     (tie.spec
     (search rules) (search rules) (search rules) (search rules) (λ c. search (by-plan wcc-data-plan, attr-asks) depth 20) (search rules)

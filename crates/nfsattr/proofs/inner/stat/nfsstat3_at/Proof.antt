@@ -5,9 +5,9 @@ use Rattle.nfsattr.specs.Meaning.Views.{found_stat}
 use Rattle.nfsattr.proofs.inner.stat.nfsstat3_at.Statement.{statement}
 use Rattle.nfsattr.proofs.inner.stat.nfsstat3_at.Tie as tie
 
-pub nfsstat3-at-spec : {M : Type 1} → statement M
+pub nfsstat3_at_spec : {M : Type 1} → statement M
 unfolding nfsstat
-nfsstat3-at-spec =
+nfsstat3_at_spec =
     tie.close
     (tie.spec
     (search rules) (search rules) (search rules) (search rules) (λ c. search (tag-lost stat_number statuses each_stat found_stat)) (search rules)

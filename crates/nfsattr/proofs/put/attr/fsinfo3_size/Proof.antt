@@ -4,5 +4,5 @@ use Rattle.nfsattr.specs.Laws.Bytes.{fsinfo-size, post-op-attr-small}
 use Rattle.nfsattr.proofs.put.attr.fsinfo3_size.Statement.{statement}
 use Rattle.nfsattr.proofs.put.attr.fsinfo3_size.Tie as tie
 
-pub fsinfo3-size-spec : {M : Type 1} → statement M
-fsinfo3-size-spec = tie.close (tie.spec (search rules) (λ c. search (sums, post-op-attr-small)) (λ c. search (lays, fsinfo-size)))
+pub fsinfo3_size_spec : {M : Type 1} → statement M
+fsinfo3_size_spec = tie.close (tie.spec (search rules) (λ c. search (sums, post-op-attr-small)) (λ c. search (lays, fsinfo-size)))

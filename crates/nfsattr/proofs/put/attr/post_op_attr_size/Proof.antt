@@ -6,8 +6,8 @@ use Rattle.nfsattr.specs.Laws.Bytes.{post-optional}
 use Rattle.nfsattr.proofs.put.attr.post_op_attr_size.Statement.{statement}
 use Rattle.nfsattr.proofs.put.attr.post_op_attr_size.Tie as tie
 
-pub post-op-attr-size-spec : {M : Type 1} → statement M
-post-op-attr-size-spec =
+pub post_op_attr_size_spec : {M : Type 1} → statement M
+post_op_attr_size_spec =
     tie.close
     (tie.spec
     (search rules) (search rules) (search rules) (λ c. search (lays, none-size post-optional))

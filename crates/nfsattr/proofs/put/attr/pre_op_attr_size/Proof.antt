@@ -6,8 +6,8 @@ use Rattle.nfsattr.specs.Laws.Bytes.{pre-optional}
 use Rattle.nfsattr.proofs.put.attr.pre_op_attr_size.Statement.{statement}
 use Rattle.nfsattr.proofs.put.attr.pre_op_attr_size.Tie as tie
 
-pub pre-op-attr-size-spec : {M : Type 1} → statement M
-pre-op-attr-size-spec =
+pub pre_op_attr_size_spec : {M : Type 1} → statement M
+pre_op_attr_size_spec =
     tie.close
     (tie.spec
     (search rules) (search rules) (search rules) (λ c. search (lays, none-size pre-optional))

@@ -5,8 +5,8 @@ use Rattle.nfsattr.specs.Laws.Bytes.{fattr-bytes}
 use Rattle.nfsattr.proofs.put.attr.put_fattr3.Statement.{statement}
 use Rattle.nfsattr.proofs.put.attr.put_fattr3.Tie as tie
 
-pub put-fattr3-spec : {M : Type 1} → statement M
-put-fattr3-spec =
+pub put_fattr3_spec : {M : Type 1} → statement M
+put_fattr3_spec =
     tie.close
     (tie.spec
     (λ c. search (lays, size_is fattr-fixed)) (search rules) (search rules) (search rules) (search rules) (search rules) (search rules)

@@ -4,8 +4,8 @@ use Rattle.nfsattr.specs.Laws.Bytes.{fsinfo-size, fsinfo-bytes, post-op-attr-sma
 use Rattle.nfsattr.proofs.put.attr.put_fsinfo3.Statement.{statement}
 use Rattle.nfsattr.proofs.put.attr.put_fsinfo3.Tie as tie
 
-pub put-fsinfo3-spec : {M : Type 1} → statement M
-put-fsinfo3-spec =
+pub put_fsinfo3_spec : {M : Type 1} → statement M
+put_fsinfo3_spec =
     tie.close
     (tie.spec
     (search rules) (λ c. search (sums, post-op-attr-small)) (λ c. search (lays, fsinfo-size)) (search rules) (search rules) (search rules)

@@ -4,5 +4,5 @@ use Rattle.nfsattr.specs.Laws.Bytes.{ftype-bytes}
 use Rattle.nfsattr.proofs.put.attr.put_ftype3.Statement.{statement}
 use Rattle.nfsattr.proofs.put.attr.put_ftype3.Tie as tie
 
-pub put-ftype3-spec : {M : Type 1} → statement M
-put-ftype3-spec = tie.close (tie.spec (search rules) (search rules) (search rules) (λ c. search (lays, ftype-bytes)))
+pub put_ftype3_spec : {M : Type 1} → statement M
+put_ftype3_spec = tie.close (tie.spec (search rules) (search rules) (search rules) (λ c. search (lays, ftype-bytes)))

@@ -6,8 +6,8 @@ use Rattle.nfsattr.specs.Laws.Bytes.{ids-bytes}
 use Rattle.nfsattr.proofs.put.attr.put_ids.Statement.{statement}
 use Rattle.nfsattr.proofs.put.attr.put_ids.Tie as tie
 
-pub put-ids-spec : {M : Type 1} → statement M
-put-ids-spec =
+pub put_ids_spec : {M : Type 1} → statement M
+put_ids_spec =
     tie.close
     (tie.spec
     (λ c. search (lays, size_is ids-fixed)) (search rules) (search rules) (search rules) (search rules) (search rules) (search rules)

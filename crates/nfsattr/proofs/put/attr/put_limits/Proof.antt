@@ -5,8 +5,8 @@ use Rattle.nfsattr.specs.Laws.Bytes.{limits-bytes}
 use Rattle.nfsattr.proofs.put.attr.put_limits.Statement.{statement}
 use Rattle.nfsattr.proofs.put.attr.put_limits.Tie as tie
 
-pub put-limits-spec : {M : Type 1} → statement M
-put-limits-spec =
+pub put_limits_spec : {M : Type 1} → statement M
+put_limits_spec =
     tie.close
     (tie.spec
     (λ c. search (lays, size_is limits_fixed)) (search rules) (search rules) (search rules) (search rules) (search rules) (search rules)

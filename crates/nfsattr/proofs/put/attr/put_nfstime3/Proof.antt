@@ -4,5 +4,5 @@ use Rattle.nfsattr.specs.Laws.Bytes.{nfstime-bytes}
 use Rattle.nfsattr.proofs.put.attr.put_nfstime3.Statement.{statement}
 use Rattle.nfsattr.proofs.put.attr.put_nfstime3.Tie as tie
 
-pub put-nfstime3-spec : {M : Type 1} → statement M
-put-nfstime3-spec = tie.close (tie.spec (search rules) (search rules) (λ c. search (lays, nfstime-bytes)))
+pub put_nfstime3_spec : {M : Type 1} → statement M
+put_nfstime3_spec = tie.close (tie.spec (search rules) (search rules) (λ c. search (lays, nfstime-bytes)))

@@ -6,8 +6,8 @@ use Rattle.nfsattr.specs.Laws.Bytes.{post-optional}
 use Rattle.nfsattr.proofs.put.attr.put_post_op_attr.Statement.{statement}
 use Rattle.nfsattr.proofs.put.attr.put_post_op_attr.Tie as tie
 
-pub put-post-op-attr-spec : {M : Type 1} → statement M
-put-post-op-attr-spec =
+pub put_post_op_attr_spec : {M : Type 1} → statement M
+put_post_op_attr_spec =
     tie.close
     (tie.spec
     (search rules) (search rules) (search rules) (search rules) (λ c. search (lays, some_size post-optional fattr-fixed)) (search rules)

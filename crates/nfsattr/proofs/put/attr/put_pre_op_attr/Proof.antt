@@ -6,8 +6,8 @@ use Rattle.nfsattr.specs.Laws.Bytes.{pre-optional}
 use Rattle.nfsattr.proofs.put.attr.put_pre_op_attr.Statement.{statement}
 use Rattle.nfsattr.proofs.put.attr.put_pre_op_attr.Tie as tie
 
-pub put-pre-op-attr-spec : {M : Type 1} → statement M
-put-pre-op-attr-spec =
+pub put_pre_op_attr_spec : {M : Type 1} → statement M
+put_pre_op_attr_spec =
     tie.close
     (tie.spec
     (search rules) (search rules) (search rules) (search rules) (λ c. search (lays, some_size pre-optional wcc-attr-fixed)) (search rules)

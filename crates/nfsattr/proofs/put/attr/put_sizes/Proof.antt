@@ -6,8 +6,8 @@ use Rattle.nfsattr.specs.Laws.Bytes.{sizes-bytes}
 use Rattle.nfsattr.proofs.put.attr.put_sizes.Statement.{statement}
 use Rattle.nfsattr.proofs.put.attr.put_sizes.Tie as tie
 
-pub put-sizes-spec : {M : Type 1} → statement M
-put-sizes-spec =
+pub put_sizes_spec : {M : Type 1} → statement M
+put_sizes_spec =
     tie.close
     (tie.spec
     (λ c. search (lays, size_is sizes-fixed)) (search rules) (search rules) (search rules) (search rules) (search rules) (search rules)

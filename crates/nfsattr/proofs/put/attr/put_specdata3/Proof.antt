@@ -4,5 +4,5 @@ use Rattle.nfsattr.specs.Laws.Bytes.{specdata-bytes}
 use Rattle.nfsattr.proofs.put.attr.put_specdata3.Statement.{statement}
 use Rattle.nfsattr.proofs.put.attr.put_specdata3.Tie as tie
 
-pub put-specdata3-spec : {M : Type 1} → statement M
-put-specdata3-spec = tie.close (tie.spec (search rules) (search rules) (λ c. search (lays, specdata-bytes)))
+pub put_specdata3_spec : {M : Type 1} → statement M
+put_specdata3_spec = tie.close (tie.spec (search rules) (search rules) (λ c. search (lays, specdata-bytes)))

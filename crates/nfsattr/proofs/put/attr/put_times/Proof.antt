@@ -5,8 +5,8 @@ use Rattle.nfsattr.specs.Laws.Bytes.{times-bytes}
 use Rattle.nfsattr.proofs.put.attr.put_times.Statement.{statement}
 use Rattle.nfsattr.proofs.put.attr.put_times.Tie as tie
 
-pub put-times-spec : {M : Type 1} → statement M
-put-times-spec =
+pub put_times_spec : {M : Type 1} → statement M
+put_times_spec =
     tie.close
     (tie.spec
     (λ c. search (lays, size_is times-fixed)) (search rules) (search rules) (search rules) (search rules) (search rules) (search rules)

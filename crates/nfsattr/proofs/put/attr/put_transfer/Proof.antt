@@ -4,5 +4,5 @@ use Rattle.nfsattr.specs.Laws.Bytes.{transfer-bytes}
 use Rattle.nfsattr.proofs.put.attr.put_transfer.Statement.{statement}
 use Rattle.nfsattr.proofs.put.attr.put_transfer.Tie as tie
 
-pub put-transfer-spec : {M : Type 1} → statement M
-put-transfer-spec = tie.close (tie.spec (search rules) (search rules) (λ c. search (lays, transfer-bytes)))
+pub put_transfer_spec : {M : Type 1} → statement M
+put_transfer_spec = tie.close (tie.spec (search rules) (search rules) (λ c. search (lays, transfer-bytes)))

@@ -5,8 +5,8 @@ use Rattle.nfsattr.specs.Laws.Words.{transfers-size}
 use Rattle.nfsattr.proofs.put.attr.put_transfers.Statement.{statement}
 use Rattle.nfsattr.proofs.put.attr.put_transfers.Tie as tie
 
-pub put-transfers-spec : {M : Type 1} → statement M
-put-transfers-spec =
+pub put_transfers_spec : {M : Type 1} → statement M
+put_transfers_spec =
     tie.close
     (tie.spec
     (λ c. search (lays, transfers-size)) (search rules) (search rules) (search rules) (search rules) (search rules) (search rules) (search rules)

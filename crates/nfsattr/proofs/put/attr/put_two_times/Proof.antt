@@ -5,8 +5,8 @@ use Rattle.nfsattr.specs.Laws.Words.{two-times-size}
 use Rattle.nfsattr.proofs.put.attr.put_two_times.Statement.{statement}
 use Rattle.nfsattr.proofs.put.attr.put_two_times.Tie as tie
 
-pub put-two-times-spec : {M : Type 1} → statement M
-put-two-times-spec =
+pub put_two_times_spec : {M : Type 1} → statement M
+put_two_times_spec =
     tie.close
     (tie.spec
     (λ c. search (lays, two-times-size)) (search rules) (search rules) (search rules) (search rules) (search rules) (search rules) (search rules)

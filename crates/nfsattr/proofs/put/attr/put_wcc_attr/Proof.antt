@@ -6,8 +6,8 @@ use Rattle.nfsattr.specs.Laws.Bytes.{wcc-attr-bytes}
 use Rattle.nfsattr.proofs.put.attr.put_wcc_attr.Statement.{statement}
 use Rattle.nfsattr.proofs.put.attr.put_wcc_attr.Tie as tie
 
-pub put-wcc-attr-spec : {M : Type 1} → statement M
-put-wcc-attr-spec =
+pub put_wcc_attr_spec : {M : Type 1} → statement M
+put_wcc_attr_spec =
     tie.close
     (tie.spec
     (λ c. search (lays, size_is wcc-attr-fixed)) (search rules) (search rules) (search rules) (search rules) (search rules) (search rules)

@@ -4,8 +4,8 @@ use Rattle.nfsattr.specs.Laws.Bytes.{wcc-data-size, wcc-data-bytes, pre-op-attr-
 use Rattle.nfsattr.proofs.put.attr.put_wcc_data.Statement.{statement}
 use Rattle.nfsattr.proofs.put.attr.put_wcc_data.Tie as tie
 
-pub put-wcc-data-spec : {M : Type 1} → statement M
-put-wcc-data-spec =
+pub put_wcc_data_spec : {M : Type 1} → statement M
+put_wcc_data_spec =
     tie.close
     (tie.spec
     (search rules) (search rules) (λ c. search (sums, pre-op-attr-small, post-op-attr-small)) (λ c. search (lays, wcc-data-size)) (search rules)

@@ -8,7 +8,7 @@ use Rattle.nfsattr.proofs.stat.nfsfail3.badhandle_to_jukebox.Tie as tie
 last : tie.Need-returns-8
 last c = let h = past_first 10001 7 _ (omega arith) c.match.rest in omega arith
 
-pub badhandle-to-jukebox-spec : {M : Type 1} → statement M
-badhandle-to-jukebox-spec =
+pub badhandle_to_jukebox_spec : {M : Type 1} → statement M
+badhandle_to_jukebox_spec =
     tie.close
     (tie.spec (search rules) (search rules) (search rules) (search rules) (search rules) (search rules) (search rules) last)

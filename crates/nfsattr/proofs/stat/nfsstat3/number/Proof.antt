@@ -4,8 +4,8 @@ use Rattle.nfsattr.specs.Meaning.Stat.{stat_number}
 use Rattle.nfsattr.proofs.stat.nfsstat3.number.Statement.{statement}
 use Rattle.nfsattr.proofs.stat.nfsstat3.number.Tie as tie
 
-pub number-spec : {M : Type 1} → statement M
-number-spec =
+pub number_spec : {M : Type 1} → statement M
+number_spec =
     tie.close
     (tie.spec
     (search rules) (search rules) (search rules) (λ c. search (numbered stat_number)) (λ c. search (numbered stat_number)))

@@ -6,5 +6,5 @@ use Rattle.nfsdata.specs.Laws.Read.{read-res-status}
 use Rattle.nfsdata.proofs.read.READ3res.marks.Statement.{statement}
 use Rattle.nfsdata.proofs.read.READ3res.marks.Tie as tie
 
-pub marks-spec : {M : Type 1} → statement M
-marks-spec = tie.close (tie.spec (search rules) (search rules) (search rules) (λ c. search (ok-marks read-res-status)) (λ c. search (failed-marks read-res-status, no-marks)))
+pub marks_spec : {M : Type 1} → statement M
+marks_spec = tie.close (tie.spec (search rules) (search rules) (search rules) (λ c. search (ok-marks read-res-status)) (λ c. search (failed-marks read-res-status, no-marks)))

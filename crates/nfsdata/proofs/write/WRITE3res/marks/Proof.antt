@@ -6,5 +6,5 @@ use Rattle.nfsdata.specs.Laws.Write.{write-res-status}
 use Rattle.nfsdata.proofs.write.WRITE3res.marks.Statement.{statement}
 use Rattle.nfsdata.proofs.write.WRITE3res.marks.Tie as tie
 
-pub marks-spec : {M : Type 1} → statement M
-marks-spec = tie.close (tie.spec (search rules) (search rules) (λ c. search (ok-marks write-res-status, no-marks)) (λ c. search (failed-marks write-res-status, no-marks)))
+pub marks_spec : {M : Type 1} → statement M
+marks_spec = tie.close (tie.spec (search rules) (search rules) (λ c. search (ok-marks write-res-status, no-marks)) (λ c. search (failed-marks write-res-status, no-marks)))

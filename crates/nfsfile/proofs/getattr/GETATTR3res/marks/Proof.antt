@@ -6,5 +6,5 @@ use Rattle.nfsfile.specs.Laws.Getattr.{getattr-res-status}
 use Rattle.nfsfile.proofs.getattr.GETATTR3res.marks.Statement.{statement}
 use Rattle.nfsfile.proofs.getattr.GETATTR3res.marks.Tie as tie
 
-pub marks-spec : {M : Type 1} → statement M
-marks-spec = tie.close (tie.spec (search rules) (search rules) (λ c. search (ok-marks getattr-res-status, no-marks)) (λ c. search (alone-marks getattr-res-status)))
+pub marks_spec : {M : Type 1} → statement M
+marks_spec = tie.close (tie.spec (search rules) (search rules) (λ c. search (ok-marks getattr-res-status, no-marks)) (λ c. search (alone-marks getattr-res-status)))

@@ -4,5 +4,5 @@ use Rattle.nfsfile.specs.Laws.Getattr.{getattr-resok-fixed}
 use Rattle.nfsfile.proofs.getattr.GETATTR3resok.size.Statement.{statement}
 use Rattle.nfsfile.proofs.getattr.GETATTR3resok.size.Tie as tie
 
-pub size-spec : {M : Type 1} → statement M
-size-spec = tie.close (tie.spec (λ c. of_size getattr-resok-fixed))
+pub size_spec : {M : Type 1} → statement M
+size_spec = tie.close (tie.spec (λ c. of_size getattr-resok-fixed))

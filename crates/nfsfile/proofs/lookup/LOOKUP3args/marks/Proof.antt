@@ -3,5 +3,5 @@ use Rattle.nfsfile.specs.Laws.Lookup.{lookup-args-marks}
 use Rattle.nfsfile.proofs.lookup.LOOKUP3args.marks.Statement.{statement}
 use Rattle.nfsfile.proofs.lookup.LOOKUP3args.marks.Tie as tie
 
-pub marks-spec : {M : Type 1} → statement M
-marks-spec = tie.close (tie.spec (λ c. search lookup-args-marks))
+pub marks_spec : {M : Type 1} → statement M
+marks_spec = tie.close (tie.spec (λ c. search lookup-args-marks))

@@ -6,5 +6,5 @@ use Rattle.nfsfile.specs.Laws.Lookup.{lookup-res-status}
 use Rattle.nfsfile.proofs.lookup.LOOKUP3res.marks.Statement.{statement}
 use Rattle.nfsfile.proofs.lookup.LOOKUP3res.marks.Tie as tie
 
-pub marks-spec : {M : Type 1} → statement M
-marks-spec = tie.close (tie.spec (search rules) (search rules) (search rules) (λ c. search (ok-marks lookup-res-status)) (λ c. search (failed-marks lookup-res-status, no-marks)))
+pub marks_spec : {M : Type 1} → statement M
+marks_spec = tie.close (tie.spec (search rules) (search rules) (search rules) (λ c. search (ok-marks lookup-res-status)) (λ c. search (failed-marks lookup-res-status, no-marks)))

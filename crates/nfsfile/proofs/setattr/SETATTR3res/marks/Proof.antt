@@ -6,5 +6,5 @@ use Rattle.nfsfile.specs.Laws.Setattr.{setattr-res-status}
 use Rattle.nfsfile.proofs.setattr.SETATTR3res.marks.Statement.{statement}
 use Rattle.nfsfile.proofs.setattr.SETATTR3res.marks.Tie as tie
 
-pub marks-spec : {M : Type 1} → statement M
-marks-spec = tie.close (tie.spec (search rules) (search rules) (λ c. search (ok-marks setattr-res-status, no-marks)) (λ c. search (failed-marks setattr-res-status, no-marks)))
+pub marks_spec : {M : Type 1} → statement M
+marks_spec = tie.close (tie.spec (search rules) (search rules) (λ c. search (ok-marks setattr-res-status, no-marks)) (λ c. search (failed-marks setattr-res-status, no-marks)))

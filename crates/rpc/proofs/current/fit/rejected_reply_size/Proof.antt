@@ -6,5 +6,5 @@ use Rattle.rpc.specs.Meaning.Current.{current}
 use Rattle.rpc.proofs.current.fit.rejected_reply_size.Statement.{statement}
 use Rattle.rpc.proofs.current.fit.rejected_reply_size.Tie as tie
 
-pub rejected-reply-size-spec : {M : Type 1} → statement M
-rejected-reply-size-spec = tie.close (tie.spec (search rules) (search rules) (search rules) (λ c. omega (arith, same_size (reject_size current))) (λ c. omega (arith, same_size (reject_size current))))
+pub rejected_reply_size_spec : {M : Type 1} → statement M
+rejected_reply_size_spec = tie.close (tie.spec (search rules) (search rules) (search rules) (λ c. omega (arith, same_size (reject_size current))) (λ c. omega (arith, same_size (reject_size current))))

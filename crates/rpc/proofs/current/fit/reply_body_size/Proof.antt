@@ -6,8 +6,8 @@ use Rattle.rpc.specs.Meaning.Current.{current}
 use Rattle.rpc.proofs.current.fit.reply_body_size.Statement.{statement}
 use Rattle.rpc.proofs.current.fit.reply_body_size.Tie as tie
 
-pub reply-body-size-spec : {M : Type 1} → statement M
-reply-body-size-spec =
+pub reply_body_size_spec : {M : Type 1} → statement M
+reply_body_size_spec =
     tie.close
     (tie.spec
     (search rules) (search rules) (search rules) (search rules) (search rules) (search rules) (λ c. omega (arith, same_size (reply_size current)))

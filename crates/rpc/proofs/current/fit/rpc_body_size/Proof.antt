@@ -6,8 +6,8 @@ use Rattle.rpc.specs.Meaning.Current.{current}
 use Rattle.rpc.proofs.current.fit.rpc_body_size.Statement.{statement}
 use Rattle.rpc.proofs.current.fit.rpc_body_size.Tie as tie
 
-pub rpc-body-size-spec : {M : Type 1} → statement M
-rpc-body-size-spec =
+pub rpc_body_size_spec : {M : Type 1} → statement M
+rpc_body_size_spec =
     tie.close
     (tie.spec
     (search rules) (search rules) (search rules) (search rules) (search rules) (search rules) (λ c. omega (arith, same_size (body_size current)))

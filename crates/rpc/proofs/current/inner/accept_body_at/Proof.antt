@@ -3,8 +3,8 @@ use Rattle.rpc.specs.Laws.Current.{inner}
 use Rattle.rpc.proofs.current.inner.accept_body_at.Statement.{statement}
 use Rattle.rpc.proofs.current.inner.accept_body_at.Tie as tie
 
-pub accept-body-at-spec : {M : Type 1} → statement M
-accept-body-at-spec =
+pub accept_body_at_spec : {M : Type 1} → statement M
+accept_body_at_spec =
     tie.close
     (tie.spec
     (search rules) (search rules) (search rules) (search rules) (λ c. search inner depth 20) (search rules) (search rules) (search rules) (search rules) (λ c. search inner depth 20) (λ c. search inner depth 20) (λ c. search inner depth 20) (λ c. search inner depth 20) (λ c. search inner depth 20) (λ c. search inner depth 20) (λ c. search inner depth 20) (λ c. search inner depth 20))

@@ -3,8 +3,8 @@ use Rattle.rpc.specs.Laws.Current.{inner}
 use Rattle.rpc.proofs.current.inner.auth_stat_at.Statement.{statement}
 use Rattle.rpc.proofs.current.inner.auth_stat_at.Tie as tie
 
-pub auth-stat-at-spec : {M : Type 1} → statement M
-auth-stat-at-spec =
+pub auth_stat_at_spec : {M : Type 1} → statement M
+auth_stat_at_spec =
     tie.close
     (tie.spec
     (search rules) (search rules) (search rules) (search rules) (λ c. search inner depth 20) (λ c. search inner depth 20) (λ c. search inner depth 20) (λ c. search inner depth 20) (λ c. search inner depth 20) (λ c. search inner depth 20) (λ c. search inner depth 20) (λ c. search inner depth 20) (λ c. search inner depth 20) (λ c. search inner depth 20) (λ c. search inner depth 20) (λ c. search inner depth 20) (λ c. search inner depth 20) (λ c. search inner depth 20) (λ c. search inner depth 20) (λ c. search inner depth 20) (λ c. search inner depth 20))

@@ -8,8 +8,8 @@ use Rattle.rpc.specs.Laws.Current.{puts}
 use Rattle.rpc.proofs.current.put.put_rejected_reply.Statement.{statement}
 use Rattle.rpc.proofs.current.put.put_rejected_reply.Tie as tie
 
-pub put-rejected-reply-spec : {M : Type 1} → statement M
-put-rejected-reply-spec =
+pub put_rejected_reply_spec : {M : Type 1} → statement M
+put_rejected_reply_spec =
     tie.close
     (tie.spec
     (search rules) (search rules) (λ c. omega (arith, same_size (reject_size current))) (λ c. omega (arith, same_size (reject_size current))) (search rules)

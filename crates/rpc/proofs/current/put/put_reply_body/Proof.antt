@@ -9,8 +9,8 @@ use Rattle.rpc.specs.Laws.Current.{puts}
 use Rattle.rpc.proofs.current.put.put_reply_body.Statement.{statement}
 use Rattle.rpc.proofs.current.put.put_reply_body.Tie as tie
 
-pub put-reply-body-spec : {M : Type 1} → statement M
-put-reply-body-spec =
+pub put_reply_body_spec : {M : Type 1} → statement M
+put_reply_body_spec =
     tie.close
     (tie.spec
     (search rules) (search rules) (λ c. omega (arith, same_size (reply_size current))) (λ c. omega (arith, same_size (reply_size current))) (search rules)

@@ -9,8 +9,8 @@ use Rattle.rpc.specs.Laws.Current.{puts}
 use Rattle.rpc.proofs.current.put.put_rpc_body.Statement.{statement}
 use Rattle.rpc.proofs.current.put.put_rpc_body.Tie as tie
 
-pub put-rpc-body-spec : {M : Type 1} → statement M
-put-rpc-body-spec =
+pub put_rpc_body_spec : {M : Type 1} → statement M
+put_rpc_body_spec =
     tie.close
     (tie.spec
     (search rules) (search rules) (λ c. omega (arith, same_size (body_size current))) (λ c. omega (arith, same_size (body_size current))) (search rules)

@@ -6,8 +6,8 @@ use Rattle.rpc.specs.Laws.Current.{puts}
 use Rattle.rpc.proofs.current.put.put_rpc_msg.Statement.{statement}
 use Rattle.rpc.proofs.current.put.put_rpc_msg.Tie as tie
 
-pub put-rpc-msg-spec : {M : Type 1} → statement M
-put-rpc-msg-spec =
+pub put_rpc_msg_spec : {M : Type 1} → statement M
+put_rpc_msg_spec =
     tie.close
     (tie.spec
     (search rules) (search rules) (search rules) (search rules) (λ c κs. (search readies, simp (length-take, length-drop) (omega arith)))

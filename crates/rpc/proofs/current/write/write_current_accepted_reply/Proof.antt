@@ -3,8 +3,8 @@ use Rattle.rpc.proofs.CurrentRanges.{writes}
 use Rattle.rpc.proofs.current.write.write_current_accepted_reply.Statement.{statement}
 use Rattle.rpc.proofs.current.write.write_current_accepted_reply.Tie as tie
 
-pub write-current-accepted-reply-spec : {M : Type 1} → statement M
-write-current-accepted-reply-spec =
+pub write_current_accepted_reply_spec : {M : Type 1} → statement M
+write_current_accepted_reply_spec =
     tie.close
     (tie.spec
     (search rules) (search rules) (search rules) (search rules) (search rules) (λ c. search writes) (λ c. search writes)

@@ -3,5 +3,5 @@ use Rattle.rpc.specs.Laws.Current.{numbered}
 use Rattle.rpc.proofs.current.write.write_current_auth_stat.Statement.{statement}
 use Rattle.rpc.proofs.current.write.write_current_auth_stat.Tie as tie
 
-pub write-current-auth-stat-spec : {M : Type 1} → statement M
-write-current-auth-stat-spec = tie.close (tie.spec (search rules) (search rules) (search rules) (λ c. search numbered))
+pub write_current_auth_stat_spec : {M : Type 1} → statement M
+write_current_auth_stat_spec = tie.close (tie.spec (search rules) (search rules) (search rules) (λ c. search numbered))

@@ -3,8 +3,8 @@ use Rattle.rpc.proofs.CurrentRanges.{writes}
 use Rattle.rpc.proofs.current.write.write_current_reply_body.Statement.{statement}
 use Rattle.rpc.proofs.current.write.write_current_reply_body.Tie as tie
 
-pub write-current-reply-body-spec : {M : Type 1} → statement M
-write-current-reply-body-spec =
+pub write_current_reply_body_spec : {M : Type 1} → statement M
+write_current_reply_body_spec =
     tie.close
     (tie.spec
     (search rules) (search rules) (search rules) (search rules) (search rules) (λ c. search writes) (λ c. search writes)

@@ -3,8 +3,8 @@ use Rattle.rpc.proofs.CurrentRanges.{writes}
 use Rattle.rpc.proofs.current.write.write_current_rpc_msg.Statement.{statement}
 use Rattle.rpc.proofs.current.write.write_current_rpc_msg.Tie as tie
 
-pub write-current-rpc-msg-spec : {M : Type 1} → statement M
-write-current-rpc-msg-spec =
+pub write_current_rpc_msg_spec : {M : Type 1} → statement M
+write_current_rpc_msg_spec =
     tie.close
     (tie.spec
     (search rules) (search rules) (search rules) (search rules) (search rules) (search rules) (λ c. search writes) (λ c. search writes)

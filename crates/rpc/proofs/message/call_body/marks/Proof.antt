@@ -2,5 +2,5 @@ use Rattle.rpc.specs.Laws.Marked.{message-marks}
 use Rattle.rpc.proofs.message.call_body.marks.Statement.{statement}
 use Rattle.rpc.proofs.message.call_body.marks.Tie as tie
 
-pub marks-spec : {M : Type 1} → statement M
-marks-spec = tie.close (tie.spec (λ c. search message-marks))
+pub marks_spec : {M : Type 1} → statement M
+marks_spec = tie.close (tie.spec (λ c. search message-marks))

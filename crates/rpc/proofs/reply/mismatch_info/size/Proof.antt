@@ -10,5 +10,5 @@ mismatch-info-fixed = seen-fixed (pair-fixed word-fixed word-fixed) _ _ _ _
 returns : tie.Need-returns
 returns c = of_size mismatch-info-fixed
 
-pub size-spec : {M : Type 1} → statement M
-size-spec = tie.close (tie.spec returns)
+pub size_spec : {M : Type 1} → statement M
+size_spec = tie.close (tie.spec returns)

@@ -3,5 +3,5 @@ use Rattle.rpc.specs.Laws.Marked.{message-marks}
 use Rattle.rpc.proofs.current.message.rpc_msg.marks.Statement.{statement}
 use Rattle.rpc.proofs.current.message.rpc_msg.marks.Tie as tie
 
-pub marks-spec : {M : Type 1} → statement M
-marks-spec = tie.close (tie.spec (search rules) (λ c. search message-marks))
+pub marks_spec : {M : Type 1} → statement M
+marks_spec = tie.close (tie.spec (search rules) (λ c. search message-marks))
