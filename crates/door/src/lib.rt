@@ -1,4 +1,6 @@
 // The door: every kind of message by its number, read and written anew in published form.
+#![tactic(auto)]
+
 pub mod copy;
 pub mod current;
 pub mod exports;

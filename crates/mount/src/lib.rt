@@ -5,6 +5,8 @@
 // (`next_export`, `next_group`), written (`write_exports`) and compared (`same_exports`). `ask(message, seen, out)` answers a call to either
 // program, or reads it and hands it on.
 // Every input gets an answer. What the answers mean stands in specs/Meaning.
+#![tactic(auto)]
+
 pub mod asking;
 pub mod export;
 pub mod group;

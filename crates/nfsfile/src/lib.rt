@@ -5,6 +5,8 @@
 // `nfsproc` reads them by the number of a procedure.
 // Every input gets an answer. What the answers mean stands in specs/Meaning.
 // made by tools/generate: modules
+#![tactic(auto)]
+
 pub mod getattr;
 pub mod lookup;
 pub mod setattr;

@@ -4,6 +4,8 @@
 //
 // Every input gets an answer. What the answers mean stands in specs/Meaning.
 // made by tools/generate: modules
+#![tactic(auto)]
+
 pub mod procedures;
 // end of modules
 

@@ -2,6 +2,8 @@
 // `nfs`: each step takes the reader apart and calls the plain function on the message and the place.
 //
 // Every input gets the plain function's answer. What a step means stands in specs/Meaning.
+#![tactic(auto)]
+
 ghost use Rattle.std.specs.Prelude.{◌≡◌, ◌-◌, length};
 ghost use Rattle.nfsattr.specs.Meaning.Attr.{fattr};
 ghost use Rattle.nfs.specs.Meaning.Dir.{nfs_fh, diropargs};

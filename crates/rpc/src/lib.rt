@@ -3,6 +3,8 @@
 // `read_X(src, at)` reads an X of a message from a place on; `write_X(.., out, at)` writes one into a buffer from a place on, with the
 // source that its pieces are of. The six makers make the replies that a server gives by itself. `current` has replies by RFC 5531's own
 // lists, which are longer than the crate's. Every input gets an answer. What the answers mean stands in specs/Meaning.
+#![tactic(auto)]
+
 pub mod answer;
 pub mod auth;
 pub mod current;

@@ -2,6 +2,8 @@
 // written (RFC 5531, section 11); and the choice of the program that a message is for.
 //
 // Every input gets an answer. What the answers mean stands in specs/Meaning.
+#![tactic(auto)]
+
 pub mod assembler;
 pub mod choice;
 mod fragment;

@@ -145,10 +145,10 @@ none_seen undeclared = refl
 
 -- what numbers give, by a test and by what is found of them
 module _ {l : List ℕ} {b : Bool} where
-  pub fattr3-wide : Is (are_words fattr3_words) l b → not b ≡ true → Is fattr3_given l none
+  pub fattr3-wide : Is (are_words fattr3_words) l b → b ≡ false → Is fattr3_given l none
   fattr3-wide d e = record { is = rw (no d.is e) }
 
-  module _ (d : Is (are_words fattr3_words) l b) (e : not b ≡ false) {r t : FtypeFound} (f : found_ftype r ≡ among ftype_number ftypes (low (get_or l 0 0))) (g : r ≡ t) where
+  module _ (d : Is (are_words fattr3_words) l b) (e : b ≡ true) {r t : FtypeFound} (f : found_ftype r ≡ among ftype_number ftypes (low (get_or l 0 0))) (g : r ≡ t) where
     found : among ftype_number ftypes (get_or l 0 0) ≡ found_ftype t
     found = ap (among ftype_number ftypes) (sym (low-at fattr3_words l (yes d.is e) 0 (omega arith))) ∙ sym f ∙ ap found_ftype g
 
@@ -158,10 +158,10 @@ module _ {l : List ℕ} {b : Bool} where
     pub fattr3-some : {a : ftype3} → found_ftype t ≡ means a [] → {x : fattr3} → x ≡ fattr3_by low l a → Is fattr3_given l (some x)
     fattr3-some {a} h k = record { is = rw (k, fattr3-low l a (yes d.is e), yes d.is e, found, h) }
 
-  pub call-wide : Is (are_words call_words) l b → not b ≡ true → Is call_given l none
+  pub call-wide : Is (are_words call_words) l b → b ≡ false → Is call_given l none
   call-wide d e = record { is = rw (no d.is e) }
 
-  module _ (d : Is (are_words call_words) l b) (e : not b ≡ false) {r t : FlavorFound} (f : found_flavor r ≡ among flavor_number flavors (get_or l 5 0)) (g : r ≡ t) where
+  module _ (d : Is (are_words call_words) l b) (e : b ≡ true) {r t : FlavorFound} (f : found_flavor r ≡ among flavor_number flavors (get_or l 5 0)) (g : r ≡ t) where
     pub call-no-cred : found_flavor t ≡ undeclared → Is call_given l none
     call-no-cred h = record { is = rw (yes d.is e, ← f, g, h) }
 
@@ -170,16 +170,16 @@ module _ {l : List ℕ} {b : Bool} where
     call-some {a} {a'} m h f' g' k =
         record { is = rw (m, call-low l a a' (yes d.is e), low-at call_words l (yes d.is e) 0 (omega arith), yes d.is e, ← f, g, h, ← f', g', k) }
 
-  pub call-no-verf : Is (are_words call_words) l b → not b ≡ false → {r t : FlavorFound} → found_flavor r ≡ among flavor_number flavors (get_or l 8 0) → r ≡ t
+  pub call-no-verf : Is (are_words call_words) l b → b ≡ true → {r t : FlavorFound} → found_flavor r ≡ among flavor_number flavors (get_or l 8 0) → r ≡ t
       → found_flavor t ≡ undeclared → Is call_given l none
   call-no-verf d e f g h = record { is = rw (yes d.is e, ← f, g, h) (sym (none_seen (among flavor_number flavors (get_or l 5 0)))) }
 
 -- an auth_unix
 module _ {l : List ℕ} {b : Bool} where
-  pub unix-wide : Is (are_words unix_words) l b → not b ≡ true → Is unix_given l none
+  pub unix-wide : Is (are_words unix_words) l b → b ≡ false → Is unix_given l none
   unix-wide d e = record { is = rw (no d.is e) }
 
-  pub unix-some : Is (are_words unix_words) l b → not b ≡ false → {x : auth_unix} → x ≡ unix_by low l → Is unix_given l (some x)
+  pub unix-some : Is (are_words unix_words) l b → b ≡ true → {x : auth_unix} → x ≡ unix_by low l → Is unix_given l (some x)
   unix-some d e k = record { is = rw (k, unix-low l (yes d.is e), yes d.is e) }
 
 -- a sattr3
@@ -229,8 +229,8 @@ pub sattr3-of : {a a' : set_mode3} {b b' : set_uid3} {c c' : set_gid3} {d d' : s
 sattr3-of p q r s t u = rw (p, q, r, s, t, u)
 
 module _ {l : List ℕ} {b : Bool} where
-  pub sattr3-wide : Is sattr3_fits l b → not b ≡ true → Is sattr3_given l none
+  pub sattr3-wide : Is sattr3_fits l b → b ≡ false → Is sattr3_given l none
   sattr3-wide d e = record { is = rw (no d.is e) }
 
-  pub sattr3-some : Is sattr3_fits l b → not b ≡ false → {x : sattr3} → x ≡ sattr3_by low l → Is sattr3_given l (some x)
+  pub sattr3-some : Is sattr3_fits l b → b ≡ true → {x : sattr3} → x ≡ sattr3_by low l → Is sattr3_given l (some x)
   sattr3-some d e k = record { is = rw (k, sattr3-low l (yes d.is e), yes d.is e) }

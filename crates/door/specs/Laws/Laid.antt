@@ -244,12 +244,12 @@ sattr-of l = ap₂ (λ x y. x ++ y) (owner-is l) (change-is l) ∙ sattr-bytes (
 pub quick-no : (l : List ℕ) (len at : ℕ) → SattrQuick l len at false
 quick-no l len at = record { narrow = λ e. absurd (false≢true e); room = λ e. absurd (false≢true e) }
 
-pub quick-by : {l : List ℕ} {len at : ℕ} {b : Bool} → Is sattr3_narrow l b → not b ≡ false → at ≤ len → SattrQuick l len at (leb 60 (len - at))
+pub quick-by : {l : List ℕ} {len at : ℕ} {b : Bool} → Is sattr3_narrow l b → b ≡ true → at ≤ len → SattrQuick l len at (leb 60 (len - at))
 quick-by {len = len} {at = at} d e h =
     record { narrow = λ _. yes d.is e; room = λ f. omega (arith, leb-true 60 (len - at) f) }
 
 -- where it holds they are laid, and the sattr3 is written
-module _ {l : List ℕ} {len at : ℕ} {b : Bool} (q : SattrQuick l len at b) (e : not b ≡ false) where
+module _ {l : List ℕ} {len at : ℕ} {b : Bool} (q : SattrQuick l len at b) (e : b ≡ true) where
   longest : at + 60 ≤ len
   longest = q.room (yes refl e)
 

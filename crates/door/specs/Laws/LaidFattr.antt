@@ -136,7 +136,7 @@ number_of {n} {a} e =
 pub quick-no : (l : List ℕ) (len at : ℕ) → FattrQuick l len at false
 quick-no l len at = record { figures = λ e. absurd (false≢true e); room = λ e. absurd (false≢true e) }
 
-pub quick-by : {l : List ℕ} {len at : ℕ} {b : Bool} {r : FtypeFound} {a : ftype3} → Is (are_words fattr3_words) l b → not b ≡ false
+pub quick-by : {l : List ℕ} {len at : ℕ} {b : Bool} {r : FtypeFound} {a : ftype3} → Is (are_words fattr3_words) l b → b ≡ true
     → found_ftype r ≡ among ftype_number ftypes (low (get_or l 0 0)) → r ≡ found.Is a → at ≤ len → FattrQuick l len at (leb 84 (len - at))
 quick-by {len = len} {at = at} {a = a} d e f g h =
     record {
@@ -145,7 +145,7 @@ quick-by {len = len} {at = at} {a = a} d e f g h =
     }
 
 -- where it holds they are laid, and the fattr3 is written
-module _ {l : List ℕ} {len at : ℕ} {b : Bool} (q : FattrQuick l len at b) (e : not b ≡ false) where
+module _ {l : List ℕ} {len at : ℕ} {b : Bool} (q : FattrQuick l len at b) (e : b ≡ true) where
   free : at + 84 ≤ len
   free = q.room (yes refl e)
 

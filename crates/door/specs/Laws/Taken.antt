@@ -180,18 +180,18 @@ module _ {M : Type 0} (C : Codec M) (s : List ℕ) (p : ℕ) {n : ℕ} {b : Bool
   option-some e f = rw (e, f, and-true)
 
 module _ {R : Type 0} (view : R → Answer ℕ) (C : Codec ℕ) (s : List ℕ) (p k : ℕ) (i : List ℕ) (i' : List ℕ) (r : BoolRead) (v : Bool) (n : ℕ) (b : Bool) (e : view_bool r ≡ flag.kind.read s p) (f : r ≡ Bool·.Took v n b) where
-  pub set-none : not v ≡ true → i' ≡ sets i k (0 ∷ 0 ∷ []) → Takes (option C) option_figures s p k i (step.Took n b) i'
+  pub set-none : v ≡ false → i' ≡ sets i k (0 ∷ 0 ∷ []) → Takes (option C) option_figures s p k i (step.Took n b) i'
   set-none g h = by v (on view_bool e f) g
     where
-      by : (v : Bool) → flag.kind.read s p ≡ took v n b → not v ≡ true → Takes (option C) option_figures s p k i (step.Took n b) i'
+      by : (v : Bool) → flag.kind.read s p ≡ took v n b → v ≡ false → Takes (option C) option_figures s p k i (step.Took n b) i'
       by false e g = record { by = record { value = none; reads = option-none C s p e; list = h } }
       by true e g = let y : ◌≡◌ {A = ℕ} 0 1 = cc in absurd (omega arith)
 
-  pub set-some : not v ≡ false → (r' t : R) (x m : ℕ) → view r' ≡ C.kind.read s n → r' ≡ t → view t ≡ took x m true → i' ≡ sets i k (1 ∷ x ∷ [])
+  pub set-some : v ≡ true → (r' t : R) (x m : ℕ) → view r' ≡ C.kind.read s n → r' ≡ t → view t ≡ took x m true → i' ≡ sets i k (1 ∷ x ∷ [])
       → Takes (option C) option_figures s p k i (step.Took m b) i'
   set-some g r' t x m e' f' u h = by v (on view_bool e f) g
     where
-      by : (v : Bool) → flag.kind.read s p ≡ took v n b → not v ≡ false → Takes (option C) option_figures s p k i (step.Took m b) i'
+      by : (v : Bool) → flag.kind.read s p ≡ took v n b → v ≡ true → Takes (option C) option_figures s p k i (step.Took m b) i'
       by true e g = record { by = record { value = some x; reads = option-some C s p e (on view e' f' ∙ u); list = h } }
       by false e g = let y : ◌≡◌ {A = ℕ} 0 1 = cc in absurd (omega arith)
 

@@ -58,18 +58,18 @@ module _ {X : Type 0} (C : Codec X) (s : List ℕ) (p : ℕ) (q : Bool) where
 -- a flag, and what it sets
 module _ {R : Type 0} (view : R → Answer ℕ) (C : Codec ℕ) (s : List ℕ) (p : ℕ) (q : Bool) (r : BoolRead) (v : Bool) (n : ℕ) (b : Bool) (e : view_bool r ≡ flag.kind.read s p)
     (f : r ≡ Bool·.Took v n b) where
-  pub walk_none : not v ≡ true → Walks (option C) s p q (step.Took n (q && b))
+  pub walk_none : v ≡ false → Walks (option C) s p q (step.Took n (q && b))
   walk_none g = by v (on view_bool e f) g
     where
-      by : (v : Bool) → flag.kind.read s p ≡ took v n b → not v ≡ true → Walks (option C) s p q (step.Took n (q && b))
+      by : (v : Bool) → flag.kind.read s p ≡ took v n b → v ≡ false → Walks (option C) s p q (step.Took n (q && b))
       by false e g = record { by = record { value = none; plain = b; reads = rw (e, and-true); mark = refl } }
       by true e g = let y : ◌≡◌ {A = ℕ} 0 1 = cc in absurd (omega arith)
 
-  pub walk-some : not v ≡ false → (r' t : R) (m : ℕ) → view r' ≡ C.kind.read s n → r' ≡ t → end_of (view t) ≡ some m → plain_of (view t) ≡ true
+  pub walk-some : v ≡ true → (r' t : R) (m : ℕ) → view r' ≡ C.kind.read s n → r' ≡ t → end_of (view t) ≡ some m → plain_of (view t) ≡ true
       → Walks (option C) s p q (step.Took m (q && b))
   walk-some g r' t m e' f' u w = by v (view t) (on view_bool e f) (on view e' f') g u w
     where
-      by : (v : Bool) (y : Answer ℕ) → flag.kind.read s p ≡ took v n b → C.kind.read s n ≡ y → not v ≡ false → end_of y ≡ some m → plain_of y ≡ true
+      by : (v : Bool) (y : Answer ℕ) → flag.kind.read s p ≡ took v n b → C.kind.read s n ≡ y → v ≡ true → end_of y ≡ some m → plain_of y ≡ true
           → Walks (option C) s p q (step.Took m (q && b))
       by true (took x k d) e h g u w =
           let i : C.kind.read s n ≡ took x m true = h ∙ cc (u, w) in

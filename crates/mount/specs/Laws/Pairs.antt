@@ -209,19 +209,19 @@ module _ {M S T R : Type 0} {F : Format M S} (W : Steps F T R) where
     right-mean : W.next.held.mean t v ≡ (optional F).held.mean t (W.names.from v)
     right-mean = mean-is t v (W.names.from v) (sym (W.names.to_from v))
 
-    same-mean : (o : Option S) → u ≡ W.names.to o → not r ≡ false → (optional F).held.mean s o ≡ (optional F).held.mean t (W.names.from v)
-    same-mean o p z = sym (mean-is s u o p) ∙ (subst (Alike W.next s u t v) (not-false r z) q).tells ∙ right-mean
+    same-mean : (o : Option S) → u ≡ W.names.to o → r ≡ true → (optional F).held.mean s o ≡ (optional F).held.mean t (W.names.from v)
+    same-mean o p z = sym (mean-is s u o p) ∙ (subst (Alike W.next s u t v) (z) q).tells ∙ right-mean
 
-    pub walk-differs : not r ≡ true → Alike W.list s x t y false
+    pub walk-differs : r ≡ false → Alike W.list s x t y false
     walk-differs z =
         let p : u ≡ W.names.to (W.names.from u) = sym (W.names.to_from u) in
         let no =
         steps-differ
         F w (known_bytes s h) (known_bytes t g) (W.names.from u) (W.names.from v) (left-on (W.names.from u) p) right-on
-        (λ z'. (subst (Alike W.next s u t v) (not-true r z) q).tells (mean-is s u (W.names.from u) p ∙ z' ∙ sym right-mean)) in
+        (λ z'. (subst (Alike W.next s u t v) z q).tells (mean-is s u (W.names.from u) p ∙ z' ∙ sym right-mean)) in
         record { tells = λ z'. no (subst (λ L. L.held.mean s x ≡ L.held.mean t y) W.list-is z') }
 
-    pub walk_ends : not r ≡ false → u ≡ W.names.to none → Alike W.list s x t y true
+    pub walk_ends : r ≡ true → u ≡ W.names.to none → Alike W.list s x t y true
     walk_ends z p =
         record {
           tells =
@@ -229,5 +229,5 @@ module _ {M S T R : Type 0} {F : Format M S} (W : Steps F T R) where
               (steps-end F w (known_bytes s h) (known_bytes t g) (W.names.from v) (left-on none p) right-on (same-mean none p z));
         }
 
-    pub walk-on : not r ≡ false → (z : S) → u ≡ W.names.to (some z) → Along F s x.at t y.at m n
+    pub walk-on : r ≡ true → (z : S) → u ≡ W.names.to (some z) → Along F s x.at t y.at m n
     walk-on z o p = steps-go F w (known_bytes s h) (known_bytes t g) o (W.names.from v) (left-on (some o) p) right-on (same-mean (some o) p z)

@@ -160,17 +160,17 @@ module _ (s : List ℕ) (x : exportnode) (h : node.held.inside s x ≡ true) whe
   groups-inside = (and_both (bytes.held.inside s x.ex_dir) (groups.held.inside s x.ex_groups) h).1
 
 module _ (s : List ℕ) (x : exportnode) (t : List ℕ) (y : exportnode) (q : Bool) (d : Alike bytes s x.ex_dir t y.ex_dir q) where
-  pub dirs-differ : not q ≡ true → Alike node s x t y false
+  pub dirs-differ : q ≡ false → Alike node s x t y false
   unfolding node
-  dirs-differ h = record { tells = λ e. (subst (Alike bytes s x.ex_dir t y.ex_dir) (not-true q h) d).tells (ap (λ z. z.ex_dir) e) }
+  dirs-differ h = record { tells = λ e. (subst (Alike bytes s x.ex_dir t y.ex_dir) h d).tells (ap (λ z. z.ex_dir) e) }
 
   by-groups : (r : Bool) → Alike bytes s x.ex_dir t y.ex_dir true → Alike groups s x.ex_groups t y.ex_groups r → Alike node s x t y r
   unfolding node
   by-groups true e f = record { tells = ap₂ (λ u v. record { ex_dir = u; ex_groups = v }) e.tells f.tells }
   by-groups false e f = record { tells = λ k. f.tells (ap (λ z. z.ex_groups) k) }
 
-  pub groups-tell : (r : Bool) → not q ≡ false → Alike groups s x.ex_groups t y.ex_groups r → Alike node s x t y r
-  groups-tell r h f = by-groups r (subst (Alike bytes s x.ex_dir t y.ex_dir) (not-false q h) d) f
+  pub groups-tell : (r : Bool) → q ≡ true → Alike groups s x.ex_groups t y.ex_groups r → Alike node s x t y r
+  groups-tell r h f = by-groups r (subst (Alike bytes s x.ex_dir t y.ex_dir) h d) f
 
 -- how a walked list stands
 module _ (c n : ℕ) (u : Standing) where

@@ -110,8 +110,8 @@ both-short a b n h g = go (leb a b) refl
 both_true : {a b : Bool} → a ≡ true → b ≡ true → (a && b) ≡ true
 both_true e f = rw (e, f)
 
-module _ (s t : List ℕ) (x : diropargs3) (j h : Bool) (a : length s ≤ most) (b : length t ≤ most) (u : j ≡ nfs_fh.held.inside s x.dir) (p : not j ≡ false)
-    (v : h ≡ is_inside t x.name) (q : not h ≡ false) where
+module _ (s t : List ℕ) (x : diropargs3) (j h : Bool) (a : length s ≤ most) (b : length t ≤ most) (u : j ≡ nfs_fh.held.inside s x.dir) (p : j ≡ true)
+    (v : h ≡ is_inside t x.name) (q : h ≡ true) where
   fit-short : longer (length s) (length t) ≤ most
   fit-short = both-short (length s) (length t) most a b
 

@@ -24,17 +24,17 @@ use Rattle.xdr.specs.declared.refusal.Refusal.TheVariants.{Ended, TooLong}
 module _ (s : List ℕ) (x : Piece) where
   -- by the test of the body
   module _ (i : Bool) (e : i ≡ is_inside s x) where
-    pub unix-outside : not i ≡ true → refused (Ended 0 4) ≡ unix_in s x
+    pub unix-outside : i ≡ false → refused (Ended 0 4) ≡ unix_in s x
     unfolding unix_in
     unix-outside t = simp (no e t)
 
-    pub end_fits : not i ≡ false → length s < 2 ^ 64 → Fits w64 (x.at + x.count)
+    pub end_fits : i ≡ true → length s < 2 ^ 64 → Fits w64 (x.at + x.count)
     end_fits t h = record { fits = omega (arith, inside-le s x (yes e t)) }
 
-    pub end-count : not i ≡ false → x.at + x.count ≡ length (take (x.at + x.count) s)
+    pub end-count : i ≡ true → x.at + x.count ≡ length (take (x.at + x.count) s)
     end-count t = sym (length-take-le (x.at + x.count) s (inside-le s x (yes e t)))
 
-    pub unix-inside : (a : Answer auth_unix) → not i ≡ false → a ≡ auth-unix.held.read (take (x.at + x.count) s) x.at → a ≡ unix_in s x
+    pub unix-inside : (a : Answer auth_unix) → i ≡ true → a ≡ auth-unix.held.read (take (x.at + x.count) s) x.at → a ≡ unix_in s x
     unfolding unix_in
     unix-inside a t f = f ∙ sym (simp (yes e t))
 

@@ -103,7 +103,7 @@ module _ {M N S T : Type 0} (F : Format M S) (R : Renaming M N S T) (s : List �
 
 -- what is tested before, so that all is laid
 module _ {M S : Type 0} {F : Format M S} (W : Writer F) (s : List ℕ) (x : S) (o z : List ℕ) (i : Bool) (m : ℕ) where
-  pub lays_all : length s ≤ most → i ≡ F.held.inside s x → not i ≡ false → m ≡ W.size x → m ≤ length o → Lays F s x o z → z ≡ laid_of F s x o
+  pub lays_all : length s ≤ most → i ≡ F.held.inside s x → i ≡ true → m ≡ W.size x → m ≤ length o → Lays F s x o z → z ≡ laid_of F s x o
   lays_all h e t g l a =
       let r : Ready F s x = record { short = h; inside = yes e t } in
       let k : length (output F s x) ≤ length o = omega (arith, W.sized s x r) in

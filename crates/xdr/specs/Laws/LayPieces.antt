@@ -19,11 +19,11 @@ use Rattle.xdr.specs.Laws.Write.{Put, put_same, Ready, of-long, of-outside, of-s
 use Rattle.xdr.specs.declared.piece.Piece.{Piece}
 
 -- what a test of a piece showed
-pub yes : {r b : Bool} → r ≡ b → not r ≡ false → b ≡ true
-yes {r} e h = sym e ∙ not-false r h
+pub yes : {r b : Bool} → r ≡ b → r ≡ true → b ≡ true
+yes e h = sym e ∙ h
 
-pub no : {r b : Bool} → r ≡ b → not r ≡ true → b ≡ false
-no {r} e h = sym e ∙ not-true r h
+pub no : {r b : Bool} → r ≡ b → r ≡ false → b ≡ false
+no e h = sym e ∙ h
 
 module _ (s : List ℕ) (x : Piece) where
   pub bytes_ready : length s ≤ most → is_inside s x ≡ true → Ready bytes s x
@@ -64,10 +64,10 @@ module _ (s : List ℕ) (x : Piece) where
       ap length (words-part s x) ∙ length-take-le (x.count * 4) (drop x.at s) (omega (arith, length-drop x.at s))
 
   -- where the code's test said so
-  pub piece-told : {i : Bool} → i ≡ is_inside s x → not i ≡ false → x.at + x.count ≤ length s
+  pub piece-told : {i : Bool} → i ≡ is_inside s x → i ≡ true → x.at + x.count ≤ length s
   piece-told e t = inside-le s x (yes e t)
 
-  pub words-told : {i : Bool} → i ≡ are_inside s x → not i ≡ false → x.at + x.count * 4 ≤ length s
+  pub words-told : {i : Bool} → i ≡ are_inside s x → i ≡ true → x.at + x.count * 4 ≤ length s
   words-told e t = words-le s x (yes e t)
 
 -- what a function that lays a piece leaves, by its tests: of the source, of the piece, and of the room
@@ -88,23 +88,23 @@ module _ {F : Format (List ℕ) Piece} {inside : List ℕ → Piece → Bool} {s
   lies-long h = of-long F s x o h
 
   module _ (i : Bool) (h : length s ≤ most) (e : i ≡ inside s x) where
-    pub lies-outside : not i ≡ true → o ≡ laid_of F s x o
+    pub lies-outside : i ≡ false → o ≡ laid_of F s x o
     lies-outside t = of-outside F s x o h (T.sees s x ∙ no e t)
 
-    pub lies-short : not i ≡ false → length o < size x.count → o ≡ laid_of F s x o
+    pub lies-short : i ≡ true → length o < size x.count → o ≡ laid_of F s x o
     lies-short t l =
         of-short F s x o (record { short = h; inside = T.sees s x ∙ yes e t }) (omega (arith, T.long s x (yes e t)))
 
 -- the part of the source that a piece is has room, where it lies inside; its length is m, and the buffer's is len
 module _ (s : List ℕ) (x : Piece) (i : Bool) (m len : ℕ) where
-  pub bytes_fit : i ≡ is_inside s x → not i ≡ false → length s ≤ most → 4 + (x.count + 3) / 4 * 4 ≤ len
+  pub bytes_fit : i ≡ is_inside s x → i ≡ true → length s ≤ most → 4 + (x.count + 3) / 4 * 4 ≤ len
       → m ≡ length (take (x.at + x.count - x.at) (drop x.at s)) → (m ≤ most) × (opaque_size m ≤ len)
   bytes_fit e t h r f =
       let l = part-long s x (yes e t) in
       let k = piece-told s x e t in
       (omega arith, omega arith)
 
-  pub words-fit : i ≡ are_inside s x → not i ≡ false → length s ≤ most → 4 + x.count * 4 ≤ len
+  pub words-fit : i ≡ are_inside s x → i ≡ true → length s ≤ most → 4 + x.count * 4 ≤ len
       → m ≡ length (take (x.at + x.count * 4 - x.at) (drop x.at s)) → (x.count ≤ most) × (4 + m ≤ len)
   words-fit e t h r f =
       let l = words-part-long s x (yes e t) in
@@ -112,7 +112,7 @@ module _ (s : List ℕ) (x : Piece) (i : Bool) (m len : ℕ) where
       (omega arith, omega arith)
 
 -- and once it is laid
-module _ (s : List ℕ) (x : Piece) (o o' : List ℕ) (i : Bool) (h : length s ≤ most) (t : not i ≡ false) where
+module _ (s : List ℕ) (x : Piece) (o o' : List ℕ) (i : Bool) (h : length s ≤ most) (t : i ≡ true) where
   pub bytes-lie : i ≡ is_inside s x → 4 + (x.count + 3) / 4 * 4 ≤ length o
       → Put o o' (opaque_size (length (take (x.at + x.count - x.at) (drop x.at s)))) (opaque.kind.write (take (x.at + x.count - x.at) (drop x.at s)))
       → o' ≡ laid_of bytes s x o

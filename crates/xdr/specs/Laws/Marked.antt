@@ -4,14 +4,16 @@ use Rattle.std.specs.Prelude.{◌≡◌, refl, ◌↔◌, Bool, true, false, con
 use Rattle.std.proofs.Common.{sym, ap, ap₂, subst, ◌∙◌, arith, take-append-drop}
 use Rattle.std.proofs.Math.Bool.{and-true}
 use Rattle.std.proofs.Math.Option.{Option, none, some}
-use Rattle.xdr.specs.Meaning.Bytes.{Bytes, Stands, number_at, padding, zeros}
+use Rattle.xdr.specs.Meaning.Bytes.{Bytes, Stands, digits, value, number_at, padding, zeros}
 use Rattle.xdr.specs.Meaning.Refusal.{cut_short}
 use Rattle.xdr.specs.Meaning.Answer.{Answer, took, refused, map_answer, Taken, Way, dirty_pad, Loose, here, shifted, clean}
 use Rattle.xdr.specs.Meaning.Kind.{Codec}
-use Rattle.xdr.specs.Meaning.Combinators.{Seen, means, undeclared, View}
-use Rattle.xdr.specs.Meaning.Items.{eight}
+use Rattle.xdr.specs.Meaning.Combinators.{Seen, means, undeclared, View, Raw}
+use Rattle.xdr.specs.Meaning.Codecs.{exact_view}
+use Rattle.xdr.specs.Meaning.Items.{hyper, eight}
+use Rattle.xdr.specs.Laws.Items.{eight-faithful, eight-to-good, eight-see-to}
 use Rattle.xdr.specs.Meaning.Held.{Held, then_first, then_second, then_marks, Holds, map_seen, seen_as, look_at}
-use Rattle.xdr.specs.Meaning.Format.{Format, plain, exactly, held_chain, ◌⨟◌, held_view, Renaming, named, if_format, flagged, optional, Branch, tagged, Choice, Lawfully, choice}
+use Rattle.xdr.specs.Meaning.Format.{Format, plain, exactly, held_chain, ◌⨟◌, held_view, Renaming, named_see_to, named_square, named_within, named, if_format, flagged, optional, Branch, tagged, Choice, Lawfully, choice}
 use Rattle.xdr.specs.Meaning.Cases.{Cases, case_names, maybe_held}
 use Rattle.xdr.specs.Meaning.Status.{Status, Arms, arm_of, status_of, on_status}
 use Rattle.xdr.specs.Meaning.Pieces.{pad_zero, piece_at, word_piece_at}
@@ -121,7 +123,17 @@ module _ {M S N T : Type 0} {C : Codec M} (W : View M C.kind.Good N) (H : Held C
       }
 
 pub named-marked : {M N S T : Type 0} (F : Format M S) (R : Renaming M N S T) → Marked F.held → Marked (named F R).held
-named-marked F R K = view-marked _ _ _ (λ s x. ap (λ y. all_clean (F.held.marks s y)) (R.pieces_hold x)) K
+named-marked F R K =
+    view-marked (exact_view F.codec (λ x. means (R.to x) []) R.from R.from_to (named_see_to F R)) F.held
+    (record {
+      holds = λ y. means (R.hold y) [];
+      mean = λ s y. R.to (F.held.mean s (R.pieces y));
+      inside = λ s y. F.held.inside s (R.pieces y);
+      marks = λ s y. F.held.marks s (R.pieces y);
+      square = named_square F R;
+      within = named_within F R;
+    })
+    (λ s x. ap (λ y. all_clean (F.held.marks s y)) (R.pieces_hold x)) K
 
 -- the items: an opaque's mark is the one thing that can be loose in it
 abbrev MarkedAs : Answer Piece → Type 0
@@ -176,7 +188,12 @@ words-marked =
 
 pub eight-marked : Marked eight_bytes.held
 unfolding eight_held eight
-eight-marked = view-marked _ _ _ (λ s x. refl) (plain-marked hyper-unpadded)
+eight-marked =
+    view-marked
+    (record { Good = Raw 8; see = λ n. means (digits 8 n) []; to = value; faithful = eight-faithful; to_good = eight-to-good; see_to = eight-see-to })
+    (plain hyper)
+    (record { holds = λ n. means n []; mean = λ s n. digits 8 n; inside = λ s n. true; marks = λ s n. []; square = λ s n. refl; within = λ s n h. refl })
+    (λ s x. refl) (plain-marked hyper-unpadded)
 
 -- the mark of a piece
 pub piece-marks : (x : Piece) (l : List Bool) → l ≡ x.clean ∷ [] → MarksAre bytes x l
@@ -208,7 +225,17 @@ module _ {A : Type 0} (tags : Codec A) (branches : A → Branch) (u : Unpadded t
       → ((s : List ℕ) (tag : A) (y : (branches tag).Has)
       → CarriesTo (λ z. all_clean (U.marks s z)) (all_clean ((branches tag).format.held.marks s y)) (U.hold tag y))
       → Marked (choice tags branches U L).held
-  choice-marked U L c = view-marked _ _ _ (λ s y. c s y.0 y.1) tagged-marked
+  choice-marked U L c =
+      view-marked (exact_view (tagged tags branches).codec (λ y. U.see y.0 y.1) U.to (λ y. L.kept y.0 y.1) L.back) (tagged tags branches).held
+      (record {
+        holds = λ y. U.hold y.0 y.1;
+        mean = U.mean;
+        inside = U.inside;
+        marks = U.marks;
+        square = λ s y. L.square s y.0 y.1;
+        within = λ s y h. L.within s y.0 y.1 h;
+      })
+      (λ s y. c s y.0 y.1) tagged-marked
 
 -- a union on a status
 module _ {A Fail M N S T R : Type 0} (C : Codec A) (U : Status A Fail) (F : Format M S) (G : Format N T) (W : Arms Fail S T R) where

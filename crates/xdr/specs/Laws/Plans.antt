@@ -159,17 +159,17 @@ pub given : {U : Type 0} (u : U) (s : List ℕ) (p : ℕ) (b : Bool) → took u 
 given u s p b = refl
 
 module _ {U : Type 0} (v : Bool) (P Q : Prog U) (s : List ℕ) (p : ℕ) (b : Bool) (z : Answer U) where
-  pub tested-none : not v ≡ true → z ≡ run Q s p b → z ≡ run (test v P Q) s p b
+  pub tested-none : v ≡ false → z ≡ run Q s p b → z ≡ run (test v P Q) s p b
   tested-none e h = by v e
     where
-      by : (v : Bool) → not v ≡ true → z ≡ run (test v P Q) s p b
+      by : (v : Bool) → v ≡ false → z ≡ run (test v P Q) s p b
       by false e = h
       by true e = let y : ◌≡◌ {A = ℕ} 0 1 = cc in absurd (omega arith)
 
-  pub tested-some : not v ≡ false → z ≡ run P s p b → z ≡ run (test v P Q) s p b
+  pub tested-some : v ≡ true → z ≡ run P s p b → z ≡ run (test v P Q) s p b
   tested-some e h = by v e
     where
-      by : (v : Bool) → not v ≡ false → z ≡ run (test v P Q) s p b
+      by : (v : Bool) → v ≡ true → z ≡ run (test v P Q) s p b
       by true e = h
       by false e = let y : ◌≡◌ {A = ℕ} 0 1 = cc in absurd (omega arith)
 

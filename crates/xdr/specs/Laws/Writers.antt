@@ -73,10 +73,10 @@ module _ {M : Type 0} (C : Codec M) (small : (x : M) → length (C.kind.write x)
 
 -- what `put_X` leaves of the buffer
 module _ {M S : Type 0} {F : Format M S} (W : Writer F) (s : List ℕ) (x : S) (o : List ℕ) (i : Bool) (m : ℕ) where
-  pub put-outside : length s ≤ most → i ≡ F.held.inside s x → not i ≡ true → o ≡ laid_of F s x o
+  pub put-outside : length s ≤ most → i ≡ F.held.inside s x → i ≡ false → o ≡ laid_of F s x o
   put-outside h e t = of-outside F s x o h (no e t)
 
-  pub put-short : length s ≤ most → i ≡ F.held.inside s x → not i ≡ false → m ≡ W.size x → length o < m → o ≡ laid_of F s x o
+  pub put-short : length s ≤ most → i ≡ F.held.inside s x → i ≡ true → m ≡ W.size x → length o < m → o ≡ laid_of F s x o
   put-short h e t g l =
       let r : Ready F s x = record { short = h; inside = yes e t } in of-short F s x o r (omega (arith, W.sized s x r))
 

@@ -6,13 +6,13 @@ use Rattle.xdr.specs.Laws.Copying.{stored, store_in, stores-long, run-laid}
 use Rattle.xdr.proofs.copy.eight_over.Statement.{statement}
 use Rattle.xdr.proofs.copy.eight_over.Tie as tie
 
-abbrev begun : tie.After-shared-slice-known8 → tie.Start
-begun c = search
+abbrev begun : tie.After-shared_slice_known-8-1 → tie.Start
+begun c = c.before.before.before.before.before.before.before.before
 
-store : (k : ℕ) → k < 8 → (c : tie.After-shared-slice-known8) → k < length (stored k (begun c).args.src.now (begun c).args.at (begun c).args.out.now)
+store : (k : ℕ) → k < 8 → (c : tie.After-shared_slice_known-8-1) → k < length (stored k (begun c).args.src.now (begun c).args.at (begun c).args.out.now)
 store k h c = store_in k (begun c).args.src.now (begun c).args.at (begun c).args.out.now 8 (begun c).requires.1 h
 
-same_length : tie.Need-same-length
+same_length : tie.Need-shape_of-out
 same_length c = stores-long 8 (begun c).args.src.now (begun c).args.at (begun c).args.out.now
 
 pub eight_over_spec : {M : Type 1} → statement M

@@ -6,13 +6,13 @@ use Rattle.xdr.specs.Laws.Copying.{stored, store_in, stores-long, run-laid}
 use Rattle.xdr.proofs.copy.sixteen_over.Statement.{statement}
 use Rattle.xdr.proofs.copy.sixteen_over.Tie as tie
 
-abbrev begun : tie.After-shared-slice-known16 → tie.Start
-begun c = search
+abbrev begun : tie.After-shared_slice_known-16-1 → tie.Start
+begun c = c.before.before.before.before.before.before.before.before.before.before.before.before.before.before.before.before
 
-store : (k : ℕ) → k < 16 → (c : tie.After-shared-slice-known16) → k < length (stored k (begun c).args.src.now (begun c).args.at (begun c).args.out.now)
+store : (k : ℕ) → k < 16 → (c : tie.After-shared_slice_known-16-1) → k < length (stored k (begun c).args.src.now (begun c).args.at (begun c).args.out.now)
 store k h c = store_in k (begun c).args.src.now (begun c).args.at (begun c).args.out.now 16 (begun c).requires.1 h
 
-same_length : tie.Need-same-length
+same_length : tie.Need-shape_of-out
 same_length c = stores-long 16 (begun c).args.src.now (begun c).args.at (begun c).args.out.now
 
 pub sixteen_over_spec : {M : Type 1} → statement M

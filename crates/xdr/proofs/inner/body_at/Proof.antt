@@ -9,4 +9,4 @@ body_at_spec =
     (tie.spec
     (search rules) (search rules) (search rules) (search rules) (search rules) (search rules) (λ c. search body-off) (search rules) (search rules) (search rules)
     (search rules) (search rules) (λ c. let a = c.before.before.before.args in
-    body-on a.src.now a.at a.n (search rules) c.pad-zeros.result (search rules) (search rules) c.pad-zeros.ensures))
+    body-on a.src.now a.at a.n (search rules) c.pad_zeros-clean.result (search rules) (search rules) c.pad_zeros-clean.ensures))

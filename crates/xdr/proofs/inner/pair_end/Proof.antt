@@ -9,5 +9,5 @@ pair_end_spec =
     tie.close
     (tie.spec
     (search rules) (λ c. first_ends _ _ _ (omega arith) c.cut_short.ensures) (search rules) (search rules)
-    (λ c. first_ends _ _ _ (omega arith) c.cut-short2.ensures) (search rules) (search rules)
-    (λ c. second-ends _ _ _ (omega arith) c.cut-short3.ensures))
+    (λ c. first_ends _ _ _ (omega arith) c.cut_short-then-src-width-2.ensures) (search rules) (search rules)
+    (λ c. second-ends _ _ _ (omega arith) c.cut_short-2.ensures))

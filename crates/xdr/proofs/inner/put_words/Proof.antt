@@ -10,10 +10,10 @@ put_words_spec =
     tie.close
     (tie.spec
     (λ c. search (lies-long words-tested)) (search rules) (λ c. search (lies-outside words-tested))
-    (λ c. omega (arith, words-told _ _ c.before.words_inside.ensures c.if2.false))
-    (λ c. omega (arith, words-told _ _ c.before.words_inside.ensures c.if2.false)) (λ c. search (lies-short words-tested))
-    (search rules) (λ c. omega (arith, words-told _ _ c.before.before.words_inside.ensures c.before.if2.false))
+    (λ c. omega (arith, words-told _ _ c.before.words_inside.ensures c.if-not-words_inside.false))
+    (λ c. omega (arith, words-told _ _ c.before.words_inside.ensures c.if-not-words_inside.false)) (λ c. search (lies-short words-tested))
+    (search rules) (λ c. omega (arith, words-told _ _ c.before.before.words_inside.ensures c.before.if-not-words_inside.false))
     (search rules) (search rules)
-    (λ c. omega (arith, words-told _ _ c.before.before.words_inside.ensures c.before.if2.false))
+    (λ c. omega (arith, words-told _ _ c.before.before.words_inside.ensures c.before.if-not-words_inside.false))
     (λ c κs. let d = c.before.before in words-fit _ _ _ _ _ d.before.before.words_inside.ensures (search) (search) (search) refl)
     (search rules) (λ c. search words-lie))

@@ -11,4 +11,4 @@ u32_at_spec =
     tie.close
     (tie.spec
     (search rules) (λ c. ap refused c.cut_short.ensures ∙ word-short _ _ (omega arith)) (search rules) (search rules)
-    (λ c. ap refused c.cut-short2.ensures ∙ word-short _ _ (omega arith)) (search rules) (search rules) (λ c. word-took _ _ (omega arith) (search rules)))
+    (λ c. ap refused c.cut_short-then-src-at.ensures ∙ word-short _ _ (omega arith)) (search rules) (search rules) (λ c. word-took _ _ (omega arith) (search rules)))

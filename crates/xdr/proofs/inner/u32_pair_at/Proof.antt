@@ -11,5 +11,5 @@ u32_pair_at_spec =
     tie.close
     (tie.spec
     (search rules) (λ c. ap refused c.pair_end.ensures ∙ word-pair-short _ _ (omega arith)) (search rules) (search rules)
-    (λ c. ap refused c.pair-end2.ensures ∙ word-pair-short _ _ (omega arith)) (search rules) (search rules) (search rules) (search rules)
+    (λ c. ap refused c.pair_end-then-src-at.ensures ∙ word-pair-short _ _ (omega arith)) (search rules) (search rules) (search rules) (search rules)
     (λ c. word-pair-took _ _ (omega arith) (search rules) (search rules)))

@@ -11,4 +11,4 @@ u64_at_spec =
     tie.close
     (tie.spec
     (search rules) (λ c. ap refused c.cut_short.ensures ∙ hyper-short _ _ (omega arith)) (search rules) (search rules)
-    (λ c. ap refused c.cut-short2.ensures ∙ hyper-short _ _ (omega arith)) (search rules) (search rules) (λ c. hyper-took _ _ (omega arith) (search rules)))
+    (λ c. ap refused c.cut_short-then-src-at.ensures ∙ hyper-short _ _ (omega arith)) (search rules) (search rules) (λ c. hyper-took _ _ (omega arith) (search rules)))

@@ -11,5 +11,5 @@ u64_pair_at_spec =
     tie.close
     (tie.spec
     (search rules) (λ c. ap refused c.pair_end.ensures ∙ hyper-pair-short _ _ (omega arith)) (search rules) (search rules)
-    (λ c. ap refused c.pair-end2.ensures ∙ hyper-pair-short _ _ (omega arith)) (search rules) (search rules) (search rules) (search rules)
+    (λ c. ap refused c.pair_end-then-src-at.ensures ∙ hyper-pair-short _ _ (omega arith)) (search rules) (search rules) (search rules) (search rules)
     (λ c. hyper-pair-took _ _ (omega arith) (search rules) (search rules)))

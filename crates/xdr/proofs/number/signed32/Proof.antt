@@ -7,5 +7,5 @@ pub signed32_spec : {M : Type 1} → statement M
 signed32_spec =
     tie.close
     (tie.spec
-    (search rules) (search rules) (search rules) (λ c. high_fits halves32 _ c.if1.false) (λ c. low-is halves32 _ c.if1.true)
-    (λ c. high_is halves32 _ c.if1.false))
+    (search rules) (search rules) (search rules) (λ c. high_fits halves32 _ c.if-v-lt2147483648.false) (λ c. low-is halves32 _ c.if-v-lt2147483648.true)
+    (λ c. high_is halves32 _ c.if-v-lt2147483648.false))

@@ -7,5 +7,5 @@ pub signed64_spec : {M : Type 1} → statement M
 signed64_spec =
     tie.close
     (tie.spec
-    (search rules) (search rules) (search rules) (λ c. high_fits halves64 _ c.if1.false) (λ c. low-is halves64 _ c.if1.true)
-    (λ c. high_is halves64 _ c.if1.false))
+    (search rules) (search rules) (search rules) (λ c. high_fits halves64 _ c.if-v-lt9223372036854775808.false) (λ c. low-is halves64 _ c.if-v-lt9223372036854775808.true)
+    (λ c. high_is halves64 _ c.if-v-lt9223372036854775808.false))

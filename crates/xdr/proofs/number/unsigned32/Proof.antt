@@ -6,6 +6,6 @@ pub unsigned32_spec : {M : Type 1} → statement M
 unsigned32_spec =
     tie.close
     (tie.spec
-    (λ c. search flip-fits) (λ c. flip-casts halves32 _ c.before.ranges.v c.if1.true) (λ c. flip-within halves32 _ c.before.ranges.v c.if1.true)
-    (λ c. kept-casts halves32 _ c.before.ranges.v c.if1.false) (λ c. flip-back halves32 _ c.before.ranges.v c.if1.true)
-    (λ c. kept_back halves32 _ c.before.ranges.v c.if1.false))
+    (λ c. search flip-fits) (λ c. flip-casts halves32 _ c.before.ranges.v c.if-v-lt0.true) (λ c. flip-within halves32 _ c.before.ranges.v c.if-v-lt0.true)
+    (λ c. kept-casts halves32 _ c.before.ranges.v c.if-v-lt0.false) (λ c. flip-back halves32 _ c.before.ranges.v c.if-v-lt0.true)
+    (λ c. kept_back halves32 _ c.before.ranges.v c.if-v-lt0.false))

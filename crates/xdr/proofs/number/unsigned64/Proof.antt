@@ -6,6 +6,6 @@ pub unsigned64_spec : {M : Type 1} → statement M
 unsigned64_spec =
     tie.close
     (tie.spec
-    (λ c. search flip-fits) (λ c. flip-casts halves64 _ c.before.ranges.v c.if1.true) (λ c. flip-within halves64 _ c.before.ranges.v c.if1.true)
-    (λ c. kept-casts halves64 _ c.before.ranges.v c.if1.false) (λ c. flip-back halves64 _ c.before.ranges.v c.if1.true)
-    (λ c. kept_back halves64 _ c.before.ranges.v c.if1.false))
+    (λ c. search flip-fits) (λ c. flip-casts halves64 _ c.before.ranges.v c.if-v-lt0.true) (λ c. flip-within halves64 _ c.before.ranges.v c.if-v-lt0.true)
+    (λ c. kept-casts halves64 _ c.before.ranges.v c.if-v-lt0.false) (λ c. flip-back halves64 _ c.before.ranges.v c.if-v-lt0.true)
+    (λ c. kept_back halves64 _ c.before.ranges.v c.if-v-lt0.false))
