@@ -27,7 +27,7 @@ pub type createverf3 = u64;
 
 pub type writeverf3 = u64;
 
-#[derive(Drop)]
+#[derive(Clone, Copy)]
 pub enum ftype3 {
     NF3REG,
     NF3DIR,
@@ -78,7 +78,7 @@ impl ftype3 {
 }
 
 // Major and minor device number.
-#[derive(Drop)]
+#[derive(Clone, Copy)]
 pub struct specdata3 {
     pub specdata1: u32,
     pub specdata2: u32,
@@ -88,7 +88,7 @@ impl specdata3 {
     pub const SIZE: usize = 8;
 }
 
-#[derive(Drop)]
+#[derive(Clone, Copy)]
 pub struct nfstime3 {
     pub seconds: u32,
     pub nseconds: u32,
@@ -98,7 +98,7 @@ impl nfstime3 {
     pub const SIZE: usize = 8;
 }
 
-#[derive(Drop)]
+#[derive(Clone, Copy)]
 pub struct fattr3 {
     pub ftype: ftype3,
     pub mode: mode3,
@@ -119,7 +119,7 @@ impl fattr3 {
     pub const SIZE: usize = 84;
 }
 
-#[derive(Drop)]
+#[derive(Clone, Copy)]
 pub struct wcc_attr {
     pub size: size3,
     pub mtime: nfstime3,
@@ -130,25 +130,25 @@ impl wcc_attr {
     pub const SIZE: usize = 24;
 }
 
-#[derive(Drop)]
+#[derive(Clone, Copy)]
 pub enum pre_op_attr {
     Void,
     attributes(wcc_attr),
 }
 
-#[derive(Drop)]
+#[derive(Clone, Copy)]
 pub enum post_op_attr {
     Void,
     attributes(fattr3),
 }
 
-#[derive(Drop)]
+#[derive(Clone, Copy)]
 pub struct wcc_data {
     pub before: pre_op_attr,
     pub after: post_op_attr,
 }
 
-#[derive(Drop)]
+#[derive(Clone, Copy)]
 pub struct fsinfo3 {
     pub obj_attributes: post_op_attr,
     pub rtmax: u32,

@@ -5,7 +5,7 @@ ghost use Rattle.rpc.specs.Meaning.Crate.{auth_stat_number};
 
 use xdr::Piece;
 
-#[derive(Drop)]
+#[derive(Clone, Copy)]
 pub enum auth_flavor {
     AUTH_NULL,
     AUTH_UNIX,
@@ -14,7 +14,7 @@ pub enum auth_flavor {
 }
 
 // Why authentication failed.
-#[derive(Drop)]
+#[derive(Clone, Copy)]
 pub enum auth_stat {
     AUTH_BADCRED,
     AUTH_REJECTEDCRED,
@@ -24,14 +24,14 @@ pub enum auth_stat {
 }
 
 // A flavor, and bytes that only that flavor can read.
-#[derive(Drop)]
+#[derive(Clone, Copy)]
 pub struct opaque_auth {
     pub flavor: auth_flavor,
     pub body: Piece,
 }
 
 // What the body of an AUTH_UNIX credential says. `gids` is a piece that counts words.
-#[derive(Drop)]
+#[derive(Clone, Copy)]
 pub struct auth_unix {
     pub stamp: u32,
     pub machinename: Piece,

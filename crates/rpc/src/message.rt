@@ -13,7 +13,7 @@ pub enum msg_type {
 }
 
 // What is called: the remote program, its version, and the procedure. The arguments come behind it.
-#[derive(Drop)]
+#[derive(Clone, Copy)]
 pub struct call_body {
     pub rpcvers: u32,
     pub prog: u32,
@@ -23,7 +23,7 @@ pub struct call_body {
     pub verf: opaque_auth,
 }
 
-#[derive(Drop)]
+#[derive(Clone, Copy)]
 pub enum rpc_body {
     CALL(call_body),
     REPLY(reply_body),

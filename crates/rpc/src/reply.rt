@@ -30,7 +30,7 @@ pub enum reject_stat {
 }
 
 // The lowest and the highest version that is served.
-#[derive(Drop)]
+#[derive(Clone, Copy)]
 pub struct mismatch_info {
     pub low: u32,
     pub high: u32,
@@ -49,7 +49,7 @@ impl mismatch_info {
 }
 
 // The results of a call that succeeded come behind SUCCESS.
-#[derive(Drop)]
+#[derive(Clone, Copy)]
 pub enum accept_body {
     SUCCESS,
     PROG_UNAVAIL,
@@ -58,19 +58,19 @@ pub enum accept_body {
     GARBAGE_ARGS,
 }
 
-#[derive(Drop)]
+#[derive(Clone, Copy)]
 pub struct accepted_reply {
     pub verf: opaque_auth,
     pub reply_data: accept_body,
 }
 
-#[derive(Drop)]
+#[derive(Clone, Copy)]
 pub enum rejected_reply {
     RPC_MISMATCH(mismatch_info),
     AUTH_ERROR(auth_stat),
 }
 
-#[derive(Drop)]
+#[derive(Clone, Copy)]
 pub enum reply_body {
     MSG_ACCEPTED(accepted_reply),
     MSG_DENIED(rejected_reply),

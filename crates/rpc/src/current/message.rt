@@ -2,7 +2,7 @@
 use crate::current::reply::reply_body;
 use crate::message::call_body;
 
-#[derive(Drop)]
+#[derive(Clone, Copy)]
 pub enum rpc_body {
     CALL(call_body),
     REPLY(reply_body),

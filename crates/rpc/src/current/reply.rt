@@ -16,7 +16,7 @@ pub enum accept_stat {
     SYSTEM_ERR,
 }
 
-#[derive(Drop)]
+#[derive(Clone, Copy)]
 pub enum auth_stat {
     AUTH_OK,
     AUTH_BADCRED,
@@ -36,7 +36,7 @@ pub enum auth_stat {
 }
 
 // The results of a call that succeeded come behind SUCCESS.
-#[derive(Drop)]
+#[derive(Clone, Copy)]
 pub enum accept_body {
     SUCCESS,
     PROG_UNAVAIL,
@@ -46,19 +46,19 @@ pub enum accept_body {
     SYSTEM_ERR,
 }
 
-#[derive(Drop)]
+#[derive(Clone, Copy)]
 pub struct accepted_reply {
     pub verf: opaque_auth,
     pub reply_data: accept_body,
 }
 
-#[derive(Drop)]
+#[derive(Clone, Copy)]
 pub enum rejected_reply {
     RPC_MISMATCH(mismatch_info),
     AUTH_ERROR(auth_stat),
 }
 
-#[derive(Drop)]
+#[derive(Clone, Copy)]
 pub enum reply_body {
     MSG_ACCEPTED(accepted_reply),
     MSG_DENIED(rejected_reply),
