@@ -11,7 +11,7 @@ use xdr::inner::{bool_at, put_bool, put_u32_pair, put_u32_u64, u32_at, u64_at};
 use xdr::order::{Opening, open_at, room};
 use xdr::{BoolRead, Refusal, U32Read, U64Read, Wrote};
 
-#[derive(Drop)]
+#[derive(Clone, Copy)]
 pub enum set_mode3 {
     Void,
     mode(mode3),
@@ -110,7 +110,7 @@ pub fn write_set_mode3(v: set_mode3, out: &mut [u8], at: usize) -> Wrote
     w
 }
 
-#[derive(Drop)]
+#[derive(Clone, Copy)]
 pub enum set_uid3 {
     Void,
     uid(uid3),
@@ -209,7 +209,7 @@ pub fn write_set_uid3(v: set_uid3, out: &mut [u8], at: usize) -> Wrote
     w
 }
 
-#[derive(Drop)]
+#[derive(Clone, Copy)]
 pub enum set_gid3 {
     Void,
     gid(gid3),
@@ -308,7 +308,7 @@ pub fn write_set_gid3(v: set_gid3, out: &mut [u8], at: usize) -> Wrote
     w
 }
 
-#[derive(Drop)]
+#[derive(Clone, Copy)]
 pub enum set_size3 {
     Void,
     size(size3),

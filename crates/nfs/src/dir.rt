@@ -28,7 +28,7 @@ pub type filename3 = nfsstring;
 pub type nfspath3 = nfsstring;
 
 // A file handle, of any length.
-#[derive(Drop)]
+#[derive(Clone, Copy)]
 pub struct nfs_fh3 {
     pub data: Piece,
 }
@@ -133,7 +133,7 @@ pub fn write_nfs_fh3(src: &[u8], x: nfs_fh3, out: &mut [u8], at: usize) -> Wrote
     w
 }
 
-#[derive(Drop)]
+#[derive(Clone, Copy)]
 pub enum post_op_fh3 {
     Void,
     handle(nfs_fh3),
@@ -282,7 +282,7 @@ pub fn write_post_op_fh3(src: &[u8], x: post_op_fh3, out: &mut [u8], at: usize) 
     w
 }
 
-#[derive(Drop)]
+#[derive(Clone, Copy)]
 pub struct diropargs3 {
     pub dir: nfs_fh3,
     pub name: filename3,
@@ -422,7 +422,7 @@ pub fn write_diropargs3(src: &[u8], x: diropargs3, out: &mut [u8], at: usize) ->
     w
 }
 
-#[derive(Drop)]
+#[derive(Clone, Copy)]
 pub struct symlinkdata3 {
     pub symlink_attributes: sattr3,
     pub symlink_data: nfspath3,

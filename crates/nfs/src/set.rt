@@ -54,21 +54,21 @@ impl _time_how {
     }
 }
 
-#[derive(Drop)]
+#[derive(Clone, Copy)]
 pub enum set_atime {
     DONT_CHANGE,
     SET_TO_SERVER_TIME,
     SET_TO_CLIENT_TIME(nfstime3),
 }
 
-#[derive(Drop)]
+#[derive(Clone, Copy)]
 pub enum set_mtime {
     DONT_CHANGE,
     SET_TO_SERVER_TIME,
     SET_TO_CLIENT_TIME(nfstime3),
 }
 
-#[derive(Drop)]
+#[derive(Clone, Copy)]
 pub struct sattr3 {
     pub mode: set_mode3,
     pub uid: set_uid3,
