@@ -123,6 +123,7 @@ pub(crate) fn write_span(src: &[u8], at: usize, next: usize, out: &mut [u8], sta
     let Wrote::Done(_) = w else {
         return w;
     };
-    bytes::copy(&src[at..next], &mut out[start..]);
+    let end = start + (next - at);
+    out[start..end].copy_from_slice(&src[at..next]);
     w
 }

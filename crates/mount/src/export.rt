@@ -368,7 +368,7 @@ fn lay_exports(src: &[u8], at: usize, next: usize, plain: bool, out: &mut [u8])
     ensures { LaysFrom node src.now at out.old out.new }
 {
     if plain {
-        bytes::copy(&src[at..next], out);
+        out[..next - at].copy_from_slice(&src[at..next]);
         return;
     }
     put_exports(src, at, out);

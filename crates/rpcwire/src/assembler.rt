@@ -7,7 +7,7 @@ ghost use Rattle.rpcwire.specs.Meaning.Views.{view_made, view_fed};
 use xdr::{MOST, Refusal};
 
 // Where the assembler stands between two runs.
-#[derive(Drop)]
+#[derive(Clone, Copy)]
 pub struct Assembler {
     // The record buffer's length.
     pub capacity: usize,
@@ -264,7 +264,7 @@ pub fn feed(state: Assembler, run: &[u8], buf: &mut [u8]) -> Fed
         } else {
             let n = least(left, run.len() - i);
             let end = i + n;
-            bytes::copy(&run[i..end], &mut buf[placed..]);
+            buf[placed..placed + n].copy_from_slice(&run[i..end]);
             let step = settle(capacity, placed + n, left - n, s.last, end);
             let Fed::More { state: next, used } = step else {
                 return step;

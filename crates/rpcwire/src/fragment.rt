@@ -22,6 +22,6 @@ pub fn write_fragment(message: &[u8], out: &mut [u8], at: usize) -> Wrote
     }
     put_u32(n as u32 + 2147483648, &mut out[at..]);
     let body = at + 4;
-    bytes::copy(message, &mut out[body..]);
+    out[body..body + n].copy_from_slice(message);
     Wrote::Done(body + n)
 }

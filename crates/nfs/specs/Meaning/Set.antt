@@ -11,8 +11,8 @@ use Rattle.xdr.specs.Meaning.Format.{exactly, Branch, branch, Kept, Back, union}
 use Rattle.nfsattr.specs.Meaning.Attr.{nfstime}
 use Rattle.nfsattr.specs.declared.attr.nfstime3.{nfstime3}
 use Rattle.nfs.specs.Meaning.Change.{set_mode, set_uid, set_gid, set_size}
-use Rattle.nfs.specs.declared.set.◌time◌how.{_time_how}
-use Rattle.nfs.specs.declared.set.◌time◌how.TheVariants as how
+use Rattle.nfs.specs.declared.set._time_how.{_time_how}
+use Rattle.nfs.specs.declared.set._time_how.TheVariants as how
 use Rattle.nfs.specs.declared.set.set_atime.{set_atime}
 use Rattle.nfs.specs.declared.set.set_atime.TheVariants as atime·
 use Rattle.nfs.specs.declared.set.set_mtime.{set_mtime}

@@ -5,7 +5,7 @@ use Rattle.xdr.specs.Meaning.Answer.{Answer, took, refused}
 use Rattle.xdr.specs.Meaning.Combinators.{Seen, means, undeclared}
 use Rattle.xdr.specs.declared.refusal.Refusal.{Refusal}
 use Rattle.xdr.specs.declared.refusal.Refusal.TheVariants.{PastEnd}
-use Rattle.nfs.specs.declared.set.◌time◌how.{_time_how}
+use Rattle.nfs.specs.declared.set._time_how.{_time_how}
 use Rattle.nfs.specs.declared.answer.TimeHowRead.{TimeHowRead}
 use Rattle.nfs.specs.declared.answer.TimeHowRead.TheVariants as TimeHow
 use Rattle.nfs.specs.declared.set.set_atime.{set_atime}

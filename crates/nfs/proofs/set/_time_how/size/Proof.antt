@@ -1,7 +1,7 @@
 use Rattle.xdr.specs.Laws.Fixed.{of_size}
 use Rattle.nfs.specs.Laws.Sizes.{time-how-fixed}
-use Rattle.nfs.proofs.set.◌time◌how.size.Statement.{statement}
-use Rattle.nfs.proofs.set.◌time◌how.size.Tie as tie
+use Rattle.nfs.proofs.set._time_how.size.Statement.{statement}
+use Rattle.nfs.proofs.set._time_how.size.Tie as tie
 
 returns : tie.Need-returns
 returns c = of_size time-how-fixed
