@@ -7,7 +7,7 @@ use Rattle.rpcwire.proofs.choice.by_version.Statement.{statement}
 use Rattle.rpcwire.proofs.choice.by_version.Tie as tie
 
 reply-requires : tie.Need-reply-requires
-reply-requires c κs = subst Short (sym c.before.rpc-vers-mismatch-of.ensures) (mismatch-short c.before.before.before.before.before.before.args.serves c.before.before.before.before.before.before.args.xid)
+reply-requires c κs = subst Short (sym c.before.rpc_vers_mismatch_of.ensures) (mismatch-short c.before.before.before.before.before.before.args.serves c.before.before.before.before.before.before.args.xid)
 
 returns : tie.Need-returns
 returns c = let a = c.before.before.before.before.before.before.before.before.before.args in version-other a.seen a.out.now a.serves a.xid a.call (view_caller a.caller) a.arguments c.before.before.before.before.before.if1.true (c.before.before.reply.ensures ∙ ap (λ m. replying m a.out.now) c.before.before.before.before.rpc-vers-mismatch-of.ensures)
