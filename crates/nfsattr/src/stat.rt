@@ -5,7 +5,7 @@ ghost use Rattle.nfsattr.specs.Meaning.Views.{found_fail, found_stat};
 ghost use Rattle.xdr.specs.Meaning.Combinators.{among};
 
 // The 28 failures: a type of their own, so that the failing arm of a result can hold no success.
-#[derive(Drop)]
+#[derive(Clone, Copy)]
 pub enum nfsfail3 {
     NFS3ERR_PERM,
     NFS3ERR_NOENT,

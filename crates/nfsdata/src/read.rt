@@ -28,7 +28,7 @@ use xdr::inner::{
 use xdr::order::{Opening, open_at, place};
 use xdr::{BoolRead, MOST, Marks, Piece, PieceRead, Refusal, U32Read, U64Read, Wrote, inside};
 
-#[derive(Drop)]
+#[derive(Clone, Copy)]
 pub struct READ3args {
     pub file: nfs_fh3,
     pub offset: offset3,
@@ -188,7 +188,7 @@ pub fn write_read3args(src: &[u8], x: READ3args, out: &mut [u8], at: usize) -> W
     w
 }
 
-#[derive(Drop)]
+#[derive(Clone, Copy)]
 pub struct READ3resok {
     pub file_attributes: post_op_attr,
     pub count: count3,
@@ -345,7 +345,7 @@ pub fn put_read3resok(src: &[u8], x: READ3resok, out: &mut [u8])
     put_read3resok_1(src, f1, f2, f3, f4, out);
 }
 
-#[derive(Drop)]
+#[derive(Clone, Copy)]
 pub struct READ3resfail {
     pub file_attributes: post_op_attr,
 }
@@ -408,7 +408,7 @@ pub fn put_read3resfail(v: READ3resfail, out: &mut [u8])
     put_post_op_attr(f1, out);
 }
 
-#[derive(Drop)]
+#[derive(Clone, Copy)]
 pub enum READ3res {
     NFS3_OK(READ3resok),
     Failed(nfsfail3, READ3resfail),

@@ -28,7 +28,7 @@ use xdr::inner::{opaque_at, opaque_size, put_opaque, put_u32, put_u64, u32_at, u
 use xdr::order::{Opening, open_at, place};
 use xdr::{MOST, Marks, Piece, PieceRead, Refusal, U32Read, U64Read, Wrote, inside, write_u32};
 
-#[derive(Drop)]
+#[derive(Clone, Copy)]
 pub enum stable_how {
     UNSTABLE,
     DATA_SYNC,
@@ -124,7 +124,7 @@ pub fn write_stable_how(v: stable_how, out: &mut [u8], at: usize) -> Wrote
     write_u32(v.number(), out, at)
 }
 
-#[derive(Drop)]
+#[derive(Clone, Copy)]
 pub struct WRITE3args {
     pub file: nfs_fh3,
     pub offset: offset3,
@@ -403,7 +403,7 @@ pub fn write_write3args(src: &[u8], x: WRITE3args, out: &mut [u8], at: usize) ->
     w
 }
 
-#[derive(Drop)]
+#[derive(Clone, Copy)]
 pub struct WRITE3resok {
     pub file_wcc: wcc_data,
     pub count: count3,
@@ -535,7 +535,7 @@ pub fn put_write3resok(v: WRITE3resok, out: &mut [u8])
     put_write3resok_1(f1, f2, f3, f4, out);
 }
 
-#[derive(Drop)]
+#[derive(Clone, Copy)]
 pub struct WRITE3resfail {
     pub file_wcc: wcc_data,
 }
@@ -598,7 +598,7 @@ pub fn put_write3resfail(v: WRITE3resfail, out: &mut [u8])
     put_wcc_data(f1, out);
 }
 
-#[derive(Drop)]
+#[derive(Clone, Copy)]
 pub enum WRITE3res {
     NFS3_OK(WRITE3resok),
     Failed(nfsfail3, WRITE3resfail),

@@ -22,7 +22,7 @@ use nfsattr::stat::{nfsfail3, nfsstat3};
 use xdr::order::{Opening, open_at, place};
 use xdr::{MOST, Marks, Refusal, Wrote};
 
-#[derive(Drop)]
+#[derive(Clone, Copy)]
 pub struct GETATTR3args {
     pub object: nfs_fh3,
 }
@@ -128,7 +128,7 @@ pub fn write_getattr3args(src: &[u8], x: GETATTR3args, out: &mut [u8], at: usize
     w
 }
 
-#[derive(Drop)]
+#[derive(Clone, Copy)]
 pub struct GETATTR3resok {
     pub obj_attributes: fattr3,
 }
@@ -184,7 +184,7 @@ pub fn put_getattr3resok(v: GETATTR3resok, out: &mut [u8])
     put_fattr3(f1, out);
 }
 
-#[derive(Drop)]
+#[derive(Clone, Copy)]
 pub enum GETATTR3res {
     NFS3_OK(GETATTR3resok),
     Failed(nfsfail3),

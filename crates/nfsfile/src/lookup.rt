@@ -26,7 +26,7 @@ use nfsattr::stat::{nfsfail3, nfsstat3};
 use xdr::order::{Opening, open_at, place};
 use xdr::{MOST, Marks, Refusal, Wrote};
 
-#[derive(Drop)]
+#[derive(Clone, Copy)]
 pub struct LOOKUP3args {
     pub what: diropargs3,
 }
@@ -134,7 +134,7 @@ pub fn write_lookup3args(src: &[u8], x: LOOKUP3args, out: &mut [u8], at: usize) 
     w
 }
 
-#[derive(Drop)]
+#[derive(Clone, Copy)]
 pub struct LOOKUP3resok {
     pub object: nfs_fh3,
     pub obj_attributes: post_op_attr,
@@ -273,7 +273,7 @@ pub fn put_lookup3resok(src: &[u8], x: LOOKUP3resok, out: &mut [u8])
     put_lookup3resok_1(src, f1, f2, f3, out);
 }
 
-#[derive(Drop)]
+#[derive(Clone, Copy)]
 pub struct LOOKUP3resfail {
     pub dir_attributes: post_op_attr,
 }
@@ -336,7 +336,7 @@ pub fn put_lookup3resfail(v: LOOKUP3resfail, out: &mut [u8])
     put_post_op_attr(f1, out);
 }
 
-#[derive(Drop)]
+#[derive(Clone, Copy)]
 pub enum LOOKUP3res {
     NFS3_OK(LOOKUP3resok),
     Failed(nfsfail3, LOOKUP3resfail),

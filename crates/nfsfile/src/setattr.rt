@@ -30,7 +30,7 @@ use xdr::inner::{bool_at, put_bool};
 use xdr::order::{Opening, open_at, place, room};
 use xdr::{BoolRead, MOST, Marks, Refusal, Wrote};
 
-#[derive(Drop)]
+#[derive(Clone, Copy)]
 pub enum sattrguard3 {
     Void,
     obj_ctime(nfstime3),
@@ -142,7 +142,7 @@ pub fn write_sattrguard3(v: sattrguard3, out: &mut [u8], at: usize) -> Wrote
     w
 }
 
-#[derive(Drop)]
+#[derive(Clone, Copy)]
 pub struct SETATTR3args {
     pub object: nfs_fh3,
     pub new_attributes: sattr3,
@@ -307,7 +307,7 @@ pub fn write_setattr3args(src: &[u8], x: SETATTR3args, out: &mut [u8], at: usize
     w
 }
 
-#[derive(Drop)]
+#[derive(Clone, Copy)]
 pub struct SETATTR3resok {
     pub obj_wcc: wcc_data,
 }
@@ -370,7 +370,7 @@ pub fn put_setattr3resok(v: SETATTR3resok, out: &mut [u8])
     put_wcc_data(f1, out);
 }
 
-#[derive(Drop)]
+#[derive(Clone, Copy)]
 pub struct SETATTR3resfail {
     pub obj_wcc: wcc_data,
 }
@@ -433,7 +433,7 @@ pub fn put_setattr3resfail(v: SETATTR3resfail, out: &mut [u8])
     put_wcc_data(f1, out);
 }
 
-#[derive(Drop)]
+#[derive(Clone, Copy)]
 pub enum SETATTR3res {
     NFS3_OK(SETATTR3resok),
     Failed(nfsfail3, SETATTR3resfail),
