@@ -23,7 +23,7 @@ pub enum SetMtimeRead {
     Took { value: set_mtime, next: usize },
 }
 
-#[derive(Drop)]
+#[derive(Clone, Copy)]
 pub enum Sattr3Read {
     Refused(Refusal),
     Took {

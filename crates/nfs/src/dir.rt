@@ -33,7 +33,7 @@ pub struct nfs_fh3 {
     pub data: Piece,
 }
 
-#[derive(Drop)]
+#[derive(Clone, Copy)]
 pub enum NfsFh3Read {
     Refused(Refusal),
     Took {
@@ -288,7 +288,7 @@ pub struct diropargs3 {
     pub name: filename3,
 }
 
-#[derive(Drop)]
+#[derive(Clone, Copy)]
 pub enum Diropargs3Read {
     Refused(Refusal),
     Took {

@@ -32,7 +32,7 @@ pub enum Nfstime3Read {
     Took { value: nfstime3, next: usize },
 }
 
-#[derive(Drop)]
+#[derive(Clone, Copy)]
 pub enum Fattr3Read {
     Refused(Refusal),
     Took { value: fattr3, next: usize },

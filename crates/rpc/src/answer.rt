@@ -134,7 +134,7 @@ pub enum RpcBodyRead {
     },
 }
 
-#[derive(Drop)]
+#[derive(Clone, Copy)]
 pub enum RpcMsgRead {
     Refused(Refusal),
     Took {

@@ -5,13 +5,13 @@ ghost use Rattle.xdr.specs.Meaning.Views.{lost_u32, lost_u64, lost_i32, lost_i64
 use crate::piece::Piece;
 use crate::refusal::Refusal;
 
-#[derive(Drop)]
+#[derive(Clone, Copy)]
 pub enum U32Read {
     Refused(Refusal),
     Took { value: u32, next: usize },
 }
 
-#[derive(Drop)]
+#[derive(Clone, Copy)]
 pub enum U64Read {
     Refused(Refusal),
     Took { value: u64, next: usize },
@@ -29,7 +29,7 @@ pub enum I64Read {
     Took { value: i64, next: usize },
 }
 
-#[derive(Drop)]
+#[derive(Clone, Copy)]
 pub enum BoolRead {
     Refused(Refusal),
     Took {
@@ -39,7 +39,7 @@ pub enum BoolRead {
     },
 }
 
-#[derive(Drop)]
+#[derive(Clone, Copy)]
 pub enum PieceRead {
     Refused(Refusal),
     Took {

@@ -2,7 +2,7 @@
 ghost use Rattle.std.specs.Prelude.{◌≡◌};
 ghost use Rattle.xdr.specs.Meaning.Refusal.{number_of, place_of, wanting_of, needed_of};
 
-#[derive(Drop)]
+#[derive(Clone, Copy)]
 pub enum Refusal {
     // 1: the message ends inside an item; the place of the item's first byte, and how many bytes are wanting to finish it: the rest of a
     // word, a hyper or eight fixed bytes, or of a length word, or, once that word is there, of all that it counts, with the pad.
