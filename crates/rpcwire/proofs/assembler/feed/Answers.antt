@@ -1,17 +1,16 @@
-use Rattle.std.proofs.Common.{◌≡◌, ◌≤◌, min, ℕ, ◌+◌, ◌-◌, ◌*◌, ◌<◌, length, Bool, true, false, List, ◌++◌, get_or, take, drop, Fits, w8, refl, sym, ap, subst, ◌∙◌, arith, length-drop, length-take-le, drop-drop}
+use Rattle.std.proofs.Common.{◌≡◌, ◌≤◌, min, ℕ, ◌+◌, ◌-◌, ◌*◌, ◌<◌, length, true, false, List, ◌++◌, get_or, take, drop, Fits, w8, refl, sym, ap, subst, ◌∙◌, arith, length-drop, length-take-le, drop-drop}
 use mathlib.Core.List.{append_assoc}
 use Rattle.std.proofs.lemmas.List.Edits.{sets, sets-eq}
 use borrow.Rule.Slice.PartMut.{put_mid}
 use Rattle.xdr.specs.Meaning.Bytes.{Bytes}
 use Rattle.xdr.specs.Laws.Lists.{known_bytes}
-use Rattle.rpcwire.specs.Meaning.Stream.{Said, more, fits_of, settled, header_byte, Feeds}
+use Rattle.rpcwire.specs.Meaning.Stream.{Said, fits_of, settled, header_byte, Feeds}
 use Rattle.rpcwire.specs.Meaning.Views.{view_fed}
 use Rattle.rpcwire.specs.Laws.Steps.{Ended}
 use Rattle.rpcwire.specs.Laws.Promise.{feed-misfit, feed-stopped}
 use Rattle.rpcwire.specs.Laws.Turns.{Going, Turned, header-turned, bytes-turned, turned-out, turned-used, turned_on, going, feed-begun, feed-over, value-bound, moved_on}
 use Rattle.rpcwire.specs.declared.assembler.Assembler.{Assembler}
 use Rattle.rpcwire.specs.declared.assembler.Fed.{Fed}
-use Rattle.rpcwire.specs.declared.assembler.Fed.TheVariants as Fed
 use Rattle.rpcwire.proofs.assembler.feed.Goals as goal
 
 -- an answer other than `More` ends the feed
@@ -60,9 +59,6 @@ piece s₀ run d₀ d s i n f g h e z c =
     subst (λ (x : List ℕ). Turned s₀ run d₀ (settled s.capacity (s.placed + n) (s.left - n) s.last (i + n)) x (i + n))
     (sym (stored run d f i n s.placed (omega arith) (omega (arith, fit)) c)) (bytes-turned s₀ run d₀ d s i g n e z h)
 
-moved : (n i u : ℕ) → i < n → u ≡ i + 1 → n - u < n - i
-moved n i u h e = omega arith
-
 pub returns-then-not-fits : goal.returns-then-not-fits
 returns-then-not-fits c =
     record {
@@ -100,8 +96,7 @@ loop-i-smaller-then-left-eq0 c =
     let l = c.loop-i in
     let run = c.args.run.now in
     let t = header c.args.state run c.args.buf.now l.buf l.s l.i c.wide.result l.invariant c.loop-i-test.true c.wide.ensures (c.type_inv.run l.i) c.if-left-eq0.true in
-    moved (length run) l.i c.in-More.used c.loop-i-test.true
-    (turned-used c.args.state run c.args.buf.now _ l.buf (l.i + 1) t c.in-More.next c.in-More.used (sym c.in-More.ensures))
+    omega (arith, turned-used c.args.state run c.args.buf.now _ l.buf (l.i + 1) t c.in-More.next c.in-More.used (sym c.in-More.ensures))
 
 pub loop-i-preserved-then-left-eq0 : goal.loop-i-preserved-then-left-eq0
 loop-i-preserved-then-left-eq0 c =
