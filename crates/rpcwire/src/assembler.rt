@@ -192,6 +192,7 @@ fn settle(capacity: usize, placed: usize, left: usize, last: bool, used: usize) 
 }
 
 // One header byte: `word` is its value with the `count` bytes before it. The fourth says how long the fragment is.
+#[tactic(auto, unfolding(crate::specs::Meaning::Stream::header_byte, crate::specs::Meaning::Stream::headed))]
 fn header_byte(capacity: usize, placed: usize, count: usize, word: usize, used: usize) -> Fed
     requires { placed ≤ capacity }
     ensures { view_fed result ≡ header_byte capacity placed count word used }
