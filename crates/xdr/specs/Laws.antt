@@ -62,3 +62,4 @@ pub mod Programs
 pub mod Laying
 pub mod Unpadded
 pub mod Marked
+pub mod Parts
