@@ -20,7 +20,7 @@ use xdr::order::{Opening, open_at, place};
 use xdr::{BoolRead, Piece, PieceRead, Refusal, Wrote};
 
 // An export: its path, and its groups, which are a list of names.
-#[derive(Drop)]
+#[derive(Clone, Copy)]
 pub struct exportnode {
     pub ex_dir: Piece,
     pub ex_groups: Piece,
@@ -40,7 +40,7 @@ pub enum ExportnodeRead {
 }
 
 // What stands at a place of an export list: its end, or an entry.
-#[derive(Drop)]
+#[derive(Clone, Copy)]
 pub enum NextExport {
     End,
     Export(exportnode),

@@ -16,7 +16,7 @@ use xdr::order::{Opening, open_at};
 use xdr::{BoolRead, Piece, PieceRead, Refusal};
 
 // What stands at a place of a list of names: its end, or a name.
-#[derive(Drop)]
+#[derive(Clone, Copy)]
 pub enum NextGroup {
     End,
     Name(Piece),
