@@ -64,7 +64,7 @@ def read_row(at, line, number):
         raise Trouble(f"kinds.txt:{at}: a row has six columns, and this has {len(row)}")
     if row[0] != str(number):
         raise Trouble(f"kinds.txt:{at}: the number is {row[0]}, and the next one is {number}")
-    meaning = re.fullmatch(r"(exactly )?([a-zA-Z][a-zA-Z0-9-]*)", row[3])
+    meaning = re.fullmatch(r"(exactly )?([a-z][a-z0-9_-]*)", row[3])
     if not meaning:
         raise Trouble(f"kinds.txt:{at}: no meaning: {row[3]}")
     return Kind(number, row[1], row[2], bool(meaning[1]), meaning[2])
@@ -76,9 +76,9 @@ def read_group(at, line):
         len(head) != 4
         or not head[0].isdigit()
         or not re.fullmatch(r"copy_[a-z0-9_]+", head[1])
-        or not re.fullmatch(r"[a-z]+Kinds", head[2])
+        or not re.fullmatch(r"[a-z]+_kinds", head[2])
     ):
-        raise Trouble(f"kinds.txt:{at}: a group is `# group: NUMBER | copy_NAME | nameKinds | COMMENT`")
+        raise Trouble(f"kinds.txt:{at}: a group is `# group: NUMBER | copy_NAME | NAME_kinds | COMMENT`")
     return Group(int(head[0]), head[1], head[2], head[3], ())
 
 
