@@ -50,3 +50,19 @@ def filled(names):
             rows.append("   ")
         rows[-1] += f" {name},"
     return rows
+
+
+def call(indent, head, arguments, end):
+    """A call, broken where it or its arguments are too wide."""
+    joined = ", ".join(arguments)
+    if len(joined) <= WIDE_ARGUMENTS and len(f"{indent}{head}({joined}){end}") <= WIDE:
+        return [f"{indent}{head}({joined}){end}"]
+    return [f"{indent}{head}(", *(f"{indent}    {argument}," for argument in arguments), f"{indent}){end}"]
+
+
+def signature(head, parameters, result):
+    """The first lines of a function."""
+    line = f"{head}({', '.join(parameters)}) -> {result}"
+    if len(line) <= WIDE:
+        return [line]
+    return [f"{head}(", *(f"    {parameter}," for parameter in parameters), f") -> {result}"]
