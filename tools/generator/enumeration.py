@@ -1,6 +1,6 @@
 """The text of a closed enumeration."""
 
-from generator.kind import DERIVE, Kind, Proof, lower, needs, of_definitions
+from generator.kind import DERIVE, Kind, Proof, lower, rules, of_definitions
 from generator.known import Known, escaped
 from generator.status import Status
 from generator.table import Trouble
@@ -138,14 +138,14 @@ unfolding {m}
         proofs = {
             f"{self.code_type}/of": Proof(found + [f"(λ c. found_none {self.number} {self.all} _ _ c.match.rest)"], name="of"),
             f"{self.name}_at": Proof(
-                needs(4) + [f"(λ c. search (tag-lost {tags}))"] + needs(3) + [f"(λ c. search (tag-none {tags}))", f"(λ c. search (tag_is {tags}))"],
+                rules(4) + [f"(λ c. search (tag-lost {tags}))"] + rules(3) + [f"(λ c. search (tag-none {tags}))", f"(λ c. search (tag_is {tags}))"],
                 unfolding=m,
             ),
-            f"put_{self.name}": Proof(needs(3) + [f"(λ c. search (lays, {law}-bytes))"]),
+            f"put_{self.name}": Proof(rules(3) + [f"(λ c. search (lays, {law}-bytes))"]),
             **self.common_proofs(),
         }
         if self.public:
-            proofs[f"write_{self.name}"] = Proof(needs(3) + [f"(λ c. search {law}-writes)"])
+            proofs[f"write_{self.name}"] = Proof(rules(3) + [f"(λ c. search {law}-writes)"])
         return proofs
 
 
@@ -234,6 +234,6 @@ class Statuses(Enumeration):
         count = len(self.failing)
         return {
             **super().proofs(),
-            f"{self.failures}/number": Proof(needs(count) + [f"(λ c. search (numbered {self.failing_number}))"] * count, name="number"),
-            f"{self.code_type}/number": Proof(needs(3) + [f"(λ c. search (numbered {self.number}))"] * 2, name="number"),
+            f"{self.failures}/number": Proof(rules(count) + [f"(λ c. search (numbered {self.failing_number}))"] * count, name="number"),
+            f"{self.code_type}/number": Proof(rules(3) + [f"(λ c. search (numbered {self.number}))"] * 2, name="number"),
         }

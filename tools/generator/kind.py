@@ -2,7 +2,7 @@
 
 from generator.known import bracket, camel, escaped, law_head, stem
 
-NEEDS = "(search rules)"
+RULES = "(search rules)"
 
 # Before each type: its values may be let go.
 DERIVE = "#[derive(Drop)]\n"
@@ -40,8 +40,8 @@ def projections(variable, count):
     return [f"{variable}{'.1' * at}{'.0' if at < count - 1 else ''}" for at in range(count)]
 
 
-def needs(count):
-    return [NEEDS] * count
+def rules(count):
+    return [RULES] * count
 
 
 def least_of(field):
@@ -303,17 +303,17 @@ lost-{self.head} A = lost-at {self.lost}"""
         if not self.known.codec:
             how = "write-in" if self.known.inside else "write-on"
             proofs[f"write_{self.name}"] = Proof(
-                needs(5) + [f"(λ c. search (write-off {law}-writer))"] + [f"(λ c. search (write-place {law}-writer))"] * 2 + needs(3)
+                rules(5) + [f"(λ c. search (write-off {law}-writer))"] + [f"(λ c. search (write-place {law}-writer))"] * 2 + rules(3)
                 + [f"(λ c. search ({how} {law}-writer, {good}))"]
             )  # fmt: skip
         elif self.known.fixed:
             proofs[f"write_{self.name}"] = Proof(
-                needs(3) + [f"(λ c. search (rules, fixed_off {law}-fixed))"] + ["(λ c. search rooms)"] * 2 + needs(3)
+                rules(3) + [f"(λ c. search (rules, fixed_off {law}-fixed))"] + ["(λ c. search rooms)"] * 2 + rules(3)
                 + [f"(λ c. search (rules, fixed_on {law}-fixed, {good}))"]
             )  # fmt: skip
         else:
             proofs[f"write_{self.name}"] = Proof(
-                needs(4) + [f"(λ c. search (plain-off {m} {law}-small))"] + ["(λ c. search rooms)"] * 2 + needs(3)
+                rules(4) + [f"(λ c. search (plain-off {m} {law}-small))"] + ["(λ c. search rooms)"] * 2 + rules(3)
                 + [f"(λ c. search (plain-on {m} {law}-small, {good}))"]
             )  # fmt: skip
         return proofs

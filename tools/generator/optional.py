@@ -1,6 +1,6 @@
 """The text of a value that a flag says is there."""
 
-from generator.kind import DERIVE, NEEDS, Kind, Proof, bracket, lower, most_of, needs
+from generator.kind import DERIVE, RULES, Kind, Proof, bracket, lower, most_of, rules
 from generator.known import OPAQUE, Known, escaped
 
 
@@ -160,39 +160,39 @@ unfolding {m} {self.pieces(OPAQUE, field)}
         m, law, field = self.meaning, self.head, self.field
         by = f"by-plan {law}-plan" if self.known.codec else f"planned {law}-plan"
         one = f"(λ c. search ({', '.join([by, 'asks', 'marked', *field.steps])}) depth 20)"
-        proofs = {f"{self.name}_at": Proof(needs(4) + [one, one] + needs(4) + [one, one], unfolding=m)}
+        proofs = {f"{self.name}_at": Proof(rules(4) + [one, one] + rules(4) + [one, one], unfolding=m)}
         if self.number:
             _, some = WITH_FLAG[field.name]
             proofs[f"{self.name}_size"] = Proof(
-                needs(2) + [f"(λ c. search (none-size {law}-optional))", f"(λ c. search (some_size {law}-optional {field.head}-fixed))"]
+                rules(2) + [f"(λ c. search (none-size {law}-optional))", f"(λ c. search (some_size {law}-optional {field.head}-fixed))"]
             )
             proofs[f"put_{self.name}"] = Proof(
-                needs(5) + [f"(λ c. search (lays, none-bytes {law}-optional))", NEEDS, f"(λ c. search (lays, {some} {law}-optional))"]
+                rules(5) + [f"(λ c. search (lays, none-bytes {law}-optional))", RULES, f"(λ c. search (lays, {some} {law}-optional))"]
             )
             return {**proofs, **self.common_proofs()}
         flag = "(fixed-writer flag-fixed)"
         proofs[f"put_{self.name}_1"] = Proof(
-            [f"(λ c. search (lays-none {flag} {field.writer}))"] + needs(9) + [f"(λ c. search (lays-both {flag} {field.writer}, lays-of, lays-codec))"]
+            [f"(λ c. search (lays-none {flag} {field.writer}))"] + rules(9) + [f"(λ c. search (lays-both {flag} {field.writer}, lays-of, lays-codec))"]
         )
         add = f"(λ c. search (sums, {field.bound}))" if field.bound else "(λ c. search sums)"
         if self.known.codec:
-            proofs[f"{self.name}_size"] = Proof(needs(3) + [f"(λ c. search (none-size {law}-optional))", f"(λ c. search (some_size {law}-optional {field.head}-fixed))"])
+            proofs[f"{self.name}_size"] = Proof(rules(3) + [f"(λ c. search (none-size {law}-optional))", f"(λ c. search (some_size {law}-optional {field.head}-fixed))"])
             proofs[f"put_{self.name}"] = Proof(
-                needs(1) + ["(λ c. search lays)"] + needs(5)
-                + [f"(λ c. search (rules, lays-plain, lays-void {law}-optional))", NEEDS, f"(λ c. search (rules, lays-plain, lays-value {law}-optional))"]
+                rules(1) + ["(λ c. search lays)"] + rules(5)
+                + [f"(λ c. search (rules, lays-plain, lays-void {law}-optional))", RULES, f"(λ c. search (rules, lays-plain, lays-value {law}-optional))"]
             )  # fmt: skip
         else:
             value = "piece-marks" if field.name == "opaque" else "words-marks" if field.name == "words" else ""
             some = ", ".join([f"value-marks {law}-optional"] + [value] * bool(value))
-            proofs.update(self.marks_proof(needs(3) + [f"(λ c. search (void-marks {law}-optional))", f"(λ c. search ({some}))"]))
+            proofs.update(self.marks_proof(rules(3) + [f"(λ c. search (void-marks {law}-optional))", f"(λ c. search ({some}))"]))
             proofs[f"{self.name}_inside"] = Proof(
-                needs(3) + [f"(λ c. search (void-inside {law}-optional))", f"(λ c. search (value-inside {law}-optional))"], unfolding=self.pieces(field)
+                rules(3) + [f"(λ c. search (void-inside {law}-optional))", f"(λ c. search (value-inside {law}-optional))"], unfolding=self.pieces(field)
             )
             proofs[f"{self.name}_size"] = Proof(
-                needs(3) + [add, f"(λ c. search (void-size {law}-optional {field.writer}))", f"(λ c. search (value-size {law}-optional {field.writer}))"]
+                rules(3) + [add, f"(λ c. search (void-size {law}-optional {field.writer}))", f"(λ c. search (value-size {law}-optional {field.writer}))"]
             )
             proofs[f"put_{self.name}"] = Proof(
-                ["(λ c. search of-long)", NEEDS, f"(λ c. search (put-outside {law}-writer))", NEEDS, f"(λ c. search (put-short {law}-writer))"]
-                + needs(5) + [f"(λ c. search (lays_all {law}-writer, held-void {law}-optional))", NEEDS, f"(λ c. search (lays_all {law}-writer, held-value {law}-optional))"]
+                ["(λ c. search of-long)", RULES, f"(λ c. search (put-outside {law}-writer))", RULES, f"(λ c. search (put-short {law}-writer))"]
+                + rules(5) + [f"(λ c. search (lays_all {law}-writer, held-void {law}-optional))", RULES, f"(λ c. search (lays_all {law}-writer, held-value {law}-optional))"]
             )  # fmt: skip
         return {**proofs, **self.common_proofs()}

@@ -2,7 +2,7 @@
 
 from itertools import takewhile
 
-from generator.kind import DERIVE, NEEDS, Kind, Proof, bracket, folded, least_of, most_of, needs, nested, product, projections
+from generator.kind import DERIVE, RULES, Kind, Proof, bracket, folded, least_of, most_of, rules, nested, product, projections
 from generator.known import OPAQUE, Known, camel, escaped
 from generator.table import Trouble
 
@@ -413,51 +413,51 @@ unfolding {m} {self.pieces(OPAQUE, *self.fields)}
         m, law, count = self.meaning, self.head, len(self.fields)
         steps = [step for field in self.fields for step in field.steps]
         by = f"by-plan {law}-plan" if self.known.codec else f"planned {law}-plan"
-        rules = ", ".join(dict.fromkeys([by, "asks", "marked"] + steps))
-        one = f"(λ c. search ({rules}) depth 20)"
+        given = ", ".join(dict.fromkeys([by, "asks", "marked"] + steps))
+        one = f"(λ c. search ({given}) depth 20)"
         # Behind five calls or more the search is handed what was known in their middle: it does not reach back far enough.
         middle = "".join(f"let d{at} : tie.After-r{at} = search in " for at in MIDDLE.get(count, ()))
-        far = f"(λ c. {middle}search ({rules}) depth 20 fits 20000)"
-        reads = [needs(4) + [far if at >= 4 else one] for at in range(count)]
+        far = f"(λ c. {middle}search ({given}) depth 20 fits 20000)"
+        reads = [rules(4) + [far if at >= 4 else one] for at in range(count)]
         took = [far if count > 4 else one]
         proofs = {f"{self.name}_at": Proof(sum(reads, []) + took, unfolding=m)}
         if self.run:
             proofs[f"{self.name}_cut"] = proofs[f"{self.name}_at"]
-            tests = [NEEDS, "(λ c. search rules)"] + needs(2) + ["(λ c. search rules)"]
+            tests = [RULES, "(λ c. search rules)"] + rules(2) + ["(λ c. search rules)"]
             behind = self.run[0]
             # The tests stand between; what was known before them is handed over.
             known = f"let d0 : tie.After-r{behind} = search in "
             far = far.replace("(λ c. ", f"(λ c. {known}")
-            later = [part.replace("(λ c. ", f"(λ c. {known}") for part in sum(reads[behind:-2], [])] + (needs(4) + [far]) * 2 + [far]
+            later = [part.replace("(λ c. ", f"(λ c. {known}") for part in sum(reads[behind:-2], [])] + (rules(4) + [far]) * 2 + [far]
             proofs[f"{self.name}_at"] = Proof(sum(reads[:behind], []) + tests + later, unfolding=m)
         if not self.known.fixed:
             varying, fixed = self.sizes()
             bounds = ", ".join(dict.fromkeys(["sums"] + [field.bound for field in self.fields if field.bound]))
             add = f"(λ c. search ({bounds}))" if "," in bounds else f"(λ c. search {bounds})"
             end = f"(λ c. search {law}-size)" if self.known.codec else "(λ c. omega arith)"
-            parts = needs(1) + [part for _ in varying[1:] for part in (NEEDS, add)] + ([add] if fixed else []) + [end]
+            parts = rules(1) + [part for _ in varying[1:] for part in (RULES, add)] + ([add] if fixed else []) + [end]
             proofs[f"{self.name}_size"] = Proof(parts)
         if not self.known.codec:
             held = [field for field in self.fields if not field.codec]
-            proofs[f"{self.name}_inside"] = Proof(needs(len(held)) + [f"(λ c. search {law}-inside)"])
+            proofs[f"{self.name}_inside"] = Proof(rules(len(held)) + [f"(λ c. search {law}-inside)"])
         for at in range(count - 1):
             field, rest = self.fields[at], self.rest(at + 1)
-            first = [] if field.fixed else needs(1)
+            first = [] if field.fixed else rules(1)
             proofs[f"put_{self.name}_{at + 1}"] = Proof(
-                first + [f"(λ c. search (lays-none {field.writer} {rest}))"] + needs(9)
+                first + [f"(λ c. search (lays-none {field.writer} {rest}))"] + rules(9)
                 + [f"(λ c. search (lays-both {field.writer} {rest}, lays-of, lays-codec))"]
             )  # fmt: skip
         if count == 1:
-            proofs[f"put_{self.name}"] = Proof(needs(2) + [f"(λ c. search {law}-laid)"])
+            proofs[f"put_{self.name}"] = Proof(rules(2) + [f"(λ c. search {law}-laid)"])
         elif not self.known.codec:
             proofs[f"put_{self.name}"] = Proof(
-                ["(λ c. search of-long)", NEEDS, f"(λ c. search (put-outside {law}-writer))", NEEDS, f"(λ c. search (put-short {law}-writer))"]
-                + needs(2) + [f"(λ c. search (lays_all {law}-writer, {law}-lays))"]
+                ["(λ c. search of-long)", RULES, f"(λ c. search (put-outside {law}-writer))", RULES, f"(λ c. search (put-short {law}-writer))"]
+                + rules(2) + [f"(λ c. search (lays_all {law}-writer, {law}-lays))"]
             )  # fmt: skip
         elif self.known.fixed:
-            proofs[f"put_{self.name}"] = Proof([f"(λ c. search (lays, size_is {law}-fixed))"] + needs(2) + [f"(λ c. search (rules, lays-plain, {law}-lays, size_is {law}-fixed))"])
+            proofs[f"put_{self.name}"] = Proof([f"(λ c. search (lays, size_is {law}-fixed))"] + rules(2) + [f"(λ c. search (rules, lays-plain, {law}-lays, size_is {law}-fixed))"])
         else:
-            proofs[f"put_{self.name}"] = Proof(needs(1) + ["(λ c. search lays)"] + needs(2) + [f"(λ c. search (rules, lays-plain, {law}-lays))"])
+            proofs[f"put_{self.name}"] = Proof(rules(1) + ["(λ c. search lays)"] + rules(2) + [f"(λ c. search (rules, lays-plain, {law}-lays))"])
         if not self.known.codec:
             proofs.update(self.marks_proof([f"(λ c. search {law}-marks)"]))
         return {**proofs, **self.common_proofs()}

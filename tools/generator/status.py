@@ -2,7 +2,7 @@
 
 from dataclasses import dataclass
 
-from generator.kind import DERIVE, NEEDS, Kind, Proof, bracket, least_of, lower, most_of, needs
+from generator.kind import DERIVE, RULES, Kind, Proof, bracket, least_of, lower, most_of, rules
 from generator.known import OPAQUE, Known, escaped, law_head, stem
 
 # The bytes of a status.
@@ -228,20 +228,20 @@ unfolding {m} {self.pieces(OPAQUE, *self.arms)}
         proofs = {f"{self.name}_at": Proof(self.at_proof())}
         asked = [bool(arm and not arm.codec) for arm in self.arms]
         proofs[f"{self.name}_inside"] = Proof(
-            needs(count + sum(asked)) + [f"(λ c. search ({law}-inside {self.law}))" for law in self.told], unfolding=self.pieces(*self.arms)
+            rules(count + sum(asked)) + [f"(λ c. search ({law}-inside {self.law}))" for law in self.told], unfolding=self.pieces(*self.arms)
         )
         proofs[f"{self.name}_size"] = Proof(self.size_proof())
         ends = [f"(λ c. search ({', '.join([f'{law}-marks {self.law}'] + ['no-marks'] * bool(arm and arm.codec))}))" for arm, law in zip(self.arms, self.told)]
-        proofs.update(self.marks_proof(needs(count + sum(asked)) + ends))
+        proofs.update(self.marks_proof(rules(count + sum(asked)) + ends))
         for at, arm in enumerate(self.arms):
             if arm:
                 proofs[f"put_{self.name}_{at + 1}"] = Proof(
-                    [f"(λ c. search (lays-none {status} {arm.writer}))"] + needs(9) + [f"(λ c. search (lays-both {status} {arm.writer}, lays-of, lays-codec))"]
+                    [f"(λ c. search (lays-none {status} {arm.writer}))"] + rules(9) + [f"(λ c. search (lays-both {status} {arm.writer}, lays-of, lays-codec))"]
                 )
         ends = [f"(λ c. search (lays_all {head}-writer, {law}-lays {self.law}))" for law in self.told]
         proofs[f"put_{self.name}"] = Proof(
-            ["(λ c. search of-long)", NEEDS, f"(λ c. search (put-outside {head}-writer))", NEEDS, f"(λ c. search (put-short {head}-writer))"]
-            + needs(5) + [ends[0], NEEDS, ends[1]]
+            ["(λ c. search of-long)", RULES, f"(λ c. search (put-outside {head}-writer))", RULES, f"(λ c. search (put-short {head}-writer))"]
+            + rules(5) + [ends[0], RULES, ends[1]]
         )  # fmt: skip
         return {**proofs, **self.common_proofs()}
 
@@ -252,21 +252,21 @@ unfolding {m} {self.pieces(OPAQUE, *self.arms)}
 
     def at_proof(self):
         """The status, each arm with its own refusal, and in the end what each took."""
-        answers = needs(4) + [f"(λ c. search ({self.status.head}-lost {self.law}))"]
+        answers = rules(4) + [f"(λ c. search ({self.status.head}-lost {self.law}))"]
         ends = []
         for arm in self.arms:
-            rules = ", ".join([f"{self.status.head}-took {self.law}", "asks", "marked", *(arm.steps if arm else ())])
-            one = f"(λ c. search ({rules}) depth 20)"
-            answers += needs(1) + (needs(4) + [one] if arm else [])
+            given = ", ".join([f"{self.status.head}-took {self.law}", "asks", "marked", *(arm.steps if arm else ())])
+            one = f"(λ c. search ({given}) depth 20)"
+            answers += rules(1) + (rules(4) + [one] if arm else [])
             ends.append(one)
         return answers + ends
 
     def size_proof(self):
         answers = []
         for arm in self.arms:
-            answers += needs(1)
+            answers += rules(1)
             if arm and not arm.fixed:
-                answers += needs(1) + [f"(λ c. search (sums, {arm.bound}))" if arm.bound else "(λ c. search sums)"]
+                answers += rules(1) + [f"(λ c. search (sums, {arm.bound}))" if arm.bound else "(λ c. search sums)"]
         for arm, law in zip(self.arms, self.told):
             how = f"{law}-size" if law == "alone" or not arm.fixed else f"{law}-fixed"
             answers.append(f"(λ c. search ({how} {self.sizes()}))")

@@ -3,6 +3,7 @@
 import re
 import subprocess
 import tempfile
+from functools import cache
 from pathlib import Path
 
 from generator.enumeration import Enumeration, Statuses
@@ -35,27 +36,36 @@ def outputs(root):
 
 
 def formatted(files):
-    """The texts as `rt fmt` lays them out."""
+    """The texts as `rt fmt` lays them out, crate by crate."""
+    by_crate = {}
+    for path, text in files.items():
+        by_crate.setdefault(path.split("/")[1], []).append((path, text))
+    found = {}
+    for crate, own in by_crate.items():
+        found.update(laid_out(crate, tuple(own)))
+    return {path: found[path] for path in files}
+
+
+@cache
+def laid_out(crate, files):
+    """Those of one crate. The check of the check makes most crates again and again as they were, so what was laid out is kept."""
     with tempfile.TemporaryDirectory() as folder:
         base = Path(folder)
-        for path, text in files.items():
+        for path, text in files:
             place = base / path
             place.parent.mkdir(parents=True, exist_ok=True)
             place.write_text(text, encoding="utf-8")
-        crates = {path.split("/")[1] for path in files}
-        (base / "crates.txt").write_text("".join(f"{crate}:\n" for crate in sorted(crates)), encoding="utf-8")
-        for crate in crates:
-            library = base / "crates" / crate / "src" / "lib.rt"
-            if not library.exists():
-                library.write_text("", encoding="utf-8")
+        (base / "crates.txt").write_text(f"{crate}:\n", encoding="utf-8")
+        library = base / "crates" / crate / "src" / "lib.rt"
+        if not library.exists():
+            library.write_text("", encoding="utf-8")
         try:
-            for crate in crates:
-                done = subprocess.run(["rt", "fmt"], cwd=base / "crates" / crate, capture_output=True, text=True, check=False)
-                if done.returncode:
-                    raise Trouble(f"rt fmt: {(done.stderr or done.stdout).strip().splitlines()[0]}")
+            done = subprocess.run(["rt", "fmt"], cwd=base / "crates" / crate, capture_output=True, text=True, check=False)
         except OSError:
             raise Trouble("the command rt of the Rattle kit is not on the PATH")
-        return {path: (base / path).read_text(encoding="utf-8") for path in files}
+        if done.returncode:
+            raise Trouble(f"rt fmt: {(done.stderr or done.stdout).strip().splitlines()[0]}")
+        return {path: (base / path).read_text(encoding="utf-8") for path, _ in files}
 
 
 def crate_regions(crate, topics):
