@@ -1,6 +1,6 @@
 """The text of a closed enumeration."""
 
-from generator.kind import DERIVE, Kind, Proof, lower, rules, of_definitions
+from generator.kind import COPIED, DROPPED, Kind, Proof, lower, rules, of_definitions
 from generator.known import Known, escaped
 from generator.status import Status
 from generator.table import Trouble
@@ -23,7 +23,7 @@ class Enumeration(Kind):
     def code(self):
         return [
             self.enum_code(),
-            f"{DERIVE}pub enum {self.found} {{\n    None,\n    Is({self.code_type}),\n}}",
+            f"{DROPPED}pub enum {self.found} {{\n    None,\n    Is({self.code_type}),\n}}",
             self.numbers_code(),
             self.answer_code(),
             f"""{self.at_head()}
@@ -52,7 +52,7 @@ class Enumeration(Kind):
     def enum_code(self):
         comment = f"// {self.declared.comment}\n" if self.declared.comment else ""
         cases = "".join(f"    {name},\n" for name, _ in self.declared.parts)
-        return f"{comment}{DERIVE}pub enum {self.code_type} {{\n{cases}}}"
+        return f"{comment}{COPIED}pub enum {self.code_type} {{\n{cases}}}"
 
     def numbers_code(self):
         cases = "".join(f"            {number} => {self.found}::Is({self.case_code(name)}),\n" for name, number in self.declared.parts)
@@ -176,10 +176,10 @@ class Statuses(Enumeration):
         comment = f"// {self.declared.comment}\n" if self.declared.comment else ""
         cases = "".join(f"    {name},\n" for name, _ in self.failing)
         return f"""// The failures of {self.code_type}: a type of their own, so that the failing arm of a result can hold no success.
-{DERIVE}pub enum {self.failures} {{
+{COPIED}pub enum {self.failures} {{
 {cases}}}
 
-{comment}{DERIVE}pub enum {self.code_type} {{
+{comment}{COPIED}pub enum {self.code_type} {{
     {self.ok},
     Failed({self.failures}),
 }}"""

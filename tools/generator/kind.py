@@ -4,8 +4,9 @@ from generator.known import bracket, camel, escaped, law_head, stem
 
 RULES = "(search rules)"
 
-# Before each type: its values may be let go.
-DERIVE = "#[derive(Drop)]\n"
+# Before a type whose values are used again and again, and before that of an answer, which may be let go.
+COPIED = "#[derive(Clone, Copy)]\n"
+DROPPED = "#[derive(Drop)]\n"
 
 
 def lower(meaning):
@@ -102,7 +103,7 @@ class Kind:
         return ", ".join(fields)
 
     def answer_code(self):
-        return f"""{DERIVE}pub enum {self.answer} {{
+        return f"""{DROPPED}pub enum {self.answer} {{
     Refused(Refusal),
     Took {{ {self.took(value=self.code_type, next="usize", plain="bool")} }},
 }}

@@ -1,6 +1,6 @@
 """The text of a value that a flag says is there."""
 
-from generator.kind import DERIVE, RULES, Kind, Proof, bracket, lower, most_of, rules
+from generator.kind import COPIED, RULES, Kind, Proof, bracket, lower, most_of, rules
 from generator.known import OPAQUE, Known, escaped
 
 
@@ -36,7 +36,7 @@ class Optional(Kind):
 
     def enum_code(self):
         comment = f"// {self.declared.comment}\n" if self.declared.comment else ""
-        return f"{comment}{DERIVE}pub enum {self.code_type} {{\n    Void,\n    {self.value}({self.value_type}),\n}}"
+        return f"{comment}{COPIED}pub enum {self.code_type} {{\n    Void,\n    {self.value}({self.value_type}),\n}}"
 
     def at_code(self):
         field = self.field

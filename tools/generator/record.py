@@ -2,7 +2,7 @@
 
 from itertools import takewhile
 
-from generator.kind import DERIVE, RULES, Kind, Proof, bracket, folded, least_of, most_of, rules, nested, product, projections
+from generator.kind import COPIED, RULES, Kind, Proof, bracket, folded, least_of, most_of, rules, nested, product, projections
 from generator.known import OPAQUE, Known, camel, escaped
 from generator.table import Trouble
 
@@ -90,7 +90,7 @@ class Record(Kind):
     def struct_code(self):
         lines = "".join(f"    pub {name}: {type},\n" for name, type in zip(self.names, self.types))
         comment = f"// {self.declared.comment}\n" if self.declared.comment else ""
-        return f"{comment}{DERIVE}pub struct {self.code_type} {{\n{lines}}}"
+        return f"{comment}{COPIED}pub struct {self.code_type} {{\n{lines}}}"
 
     @property
     def run(self):

@@ -2,7 +2,7 @@
 
 from dataclasses import dataclass
 
-from generator.kind import DERIVE, RULES, Kind, Proof, bracket, least_of, lower, most_of, rules
+from generator.kind import COPIED, RULES, Kind, Proof, bracket, least_of, lower, most_of, rules
 from generator.known import OPAQUE, Known, escaped, law_head, stem
 
 # The bytes of a status.
@@ -64,7 +64,7 @@ class Result(Kind):
     def enum_code(self):
         comment = f"// {self.declared.comment}\n" if self.declared.comment else ""
         failed = f", {self.types[1]}" if self.arms[1] else ""
-        return f"{comment}{DERIVE}pub enum {self.code_type} {{\n    {self.status.ok}({self.types[0]}),\n    Failed({self.status.failures}{failed}),\n}}"
+        return f"{comment}{COPIED}pub enum {self.code_type} {{\n    {self.status.ok}({self.types[0]}),\n    Failed({self.status.failures}{failed}),\n}}"
 
     def arm_code(self, at, value):
         """An arm's own value, in the code."""

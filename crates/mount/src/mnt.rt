@@ -24,7 +24,7 @@ use xdr::{
 pub type fhandle3 = Piece;
 
 // The failures of mountstat3: a type of their own, so that the failing arm of a result can hold no success.
-#[derive(Drop)]
+#[derive(Clone, Copy)]
 pub enum mountfail3 {
     MNT3ERR_PERM,
     MNT3ERR_NOENT,
@@ -37,7 +37,7 @@ pub enum mountfail3 {
     MNT3ERR_SERVERFAULT,
 }
 
-#[derive(Drop)]
+#[derive(Clone, Copy)]
 pub enum mountstat3 {
     MNT3_OK,
     Failed(mountfail3),
@@ -157,7 +157,7 @@ pub fn write_mountstat3(v: mountstat3, out: &mut [u8], at: usize) -> Wrote
 }
 
 // The flavors that a client may use with the handle.
-#[derive(Drop)]
+#[derive(Clone, Copy)]
 pub struct mountres3_ok {
     pub fhandle: fhandle3,
     pub auth_flavors: Piece,
@@ -274,7 +274,7 @@ pub fn put_mountres3_ok(src: &[u8], x: mountres3_ok, out: &mut [u8])
 }
 
 // The RFC's union has MNT_OK for MNT3_OK, a name that nothing declares.
-#[derive(Drop)]
+#[derive(Clone, Copy)]
 pub enum mountres3 {
     MNT3_OK(mountres3_ok),
     Failed(mountfail3),
