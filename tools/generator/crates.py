@@ -4,7 +4,7 @@ import re
 from collections import defaultdict
 from dataclasses import dataclass
 
-from generator.table import Kind, Trouble, read_text
+from generator.table import Kind, Trouble, read_text, read_uses
 
 READER = re.compile(r"^pub fn read_(\w+)\(\s*src: &\[u8\],\s*at: usize,?\s*\) -> (\w+)\s+ensures .* \((view_\w+) result\)", re.M)
 WRITER = re.compile(r"^pub fn write_(\w+)\(\s*(src: )?", re.M)
@@ -114,11 +114,7 @@ class Index:
 class Crates:
     def __init__(self, root):
         self.root = root
-        self.uses = {}
-        for line in read_text(root / "crates.txt", root).splitlines():
-            if line.strip() and not line.startswith("#"):
-                name, _, uses = line.partition(":")
-                self.uses[name] = uses.split()
+        self.uses = read_uses(root)
         self.indexes = {}
 
     def index(self, crate):

@@ -41,6 +41,16 @@ def read_text(path, root):
         raise Trouble(f"{path.relative_to(root)}: {error.strerror}")
 
 
+def read_uses(root):
+    """The crates of crates.txt, and the crates that each uses. Behind a crate's name may stand what is built of it."""
+    uses = {}
+    for line in read_text(root / "crates.txt", root).splitlines():
+        crate, colon, used = line.partition(":")
+        if colon and not line.startswith("#"):
+            uses[crate.split()[0]] = used.split()
+    return uses
+
+
 def read_table(root):
     """The kinds and the groups of kinds.txt."""
     kinds, heads = [], []

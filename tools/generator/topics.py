@@ -14,7 +14,7 @@ from generator.optional import Optional
 from generator.program import Program
 from generator.record import MOST_FIELDS, Record
 from generator.status import NFS, Result
-from generator.table import Trouble, read_table, read_text
+from generator.table import Trouble, read_table, read_text, read_uses
 
 HEADER = "made by tools/generate from "
 
@@ -90,11 +90,7 @@ class Library:
     def __init__(self, root, topics):
         self.root = root
         self.kinds = {kind.name: kind for kind in read_table(root)[0]}
-        self.below = {}
-        for line in read_text(root / "crates.txt", root).splitlines():
-            crate, colon, uses = line.partition(":")
-            if colon and not line.startswith("#"):
-                self.below[crate] = uses.split()
+        self.below = read_uses(root)
         self.known = dict(ITEMS)
         self.aliases = {}
         self.found = {}
