@@ -134,9 +134,7 @@ unfolding {m}
     def proofs(self):
         m, law = self.meaning, self.head
         tags = f"{self.number} {self.all} {self.each} {self.seen}"
-        found = [f"(λ c. search (found_at {self.number} {self.all}))"] * len(self.declared.parts)
         proofs = {
-            f"{self.code_type}/of": Proof(found + [f"(λ c. found_none {self.number} {self.all} _ _ c.match.rest)"], name="of"),
             f"{self.name}_at": Proof(
                 rules(4) + [f"(λ c. search (tag-lost {tags}))"] + rules(3) + [f"(λ c. search (tag-none {tags}))", f"(λ c. search (tag_is {tags}))"],
                 unfolding=m,
@@ -232,8 +230,10 @@ class Statuses(Enumeration):
 
     def proofs(self):
         count = len(self.failing)
+        found = [f"(λ c. search (found_at {self.number} {self.all}))"] * len(self.declared.parts)
         return {
             **super().proofs(),
+            f"{self.code_type}/of": Proof(found + [f"(λ c. found_none {self.number} {self.all} _ _ c.match.rest)"], name="of"),
             f"{self.failures}/number": Proof(rules(count) + [f"(λ c. search (numbered {self.failing_number}))"] * count, name="number"),
             f"{self.code_type}/number": Proof(rules(3) + [f"(λ c. search (numbered {self.number}))"] * 2, name="number"),
         }

@@ -323,6 +323,8 @@ lost-{self.head} A = lost-at {self.lost}"""
 class Proof:
     """The proof of one function: what answers each need, in the order of the code."""
 
+    file = "Proof.antt"
+
     def __init__(self, answers, unfolding="", name=""):
         self.answers = answers if isinstance(answers, str) else "tie.spec " + " ".join(answers)
         self.unfolding = unfolding
@@ -335,3 +337,20 @@ class Proof:
         lines = words.spec_lines(unfolding + self.answers, proofs=True)
         lines += [f"use {module}.Statement.{{statement}}", f"use {module}.Tie as tie"]
         return "\n".join(lines) + "\n\n" + body
+
+
+class Answers:
+    """The goals of a function that takes one part after another: that of each early return, and that of the last. One search answers all."""
+
+    file = "Answers.antt"
+
+    def __init__(self, parts, search, unfolding):
+        early = ["returns-in_default"] + [f"returns-in_default-r{at}" for at in range(2, parts + 1)]
+        self.goals = early + ["returns"]
+        self.search = search
+        self.unfolding = unfolding
+
+    def text(self, function, module, words):
+        lines = words.spec_lines(f"{self.unfolding} {self.search}", proofs=True) + [f"use {module}.Goals as goal"]
+        answers = [f"pub {goal} : goal.{goal}\nunfolding {self.unfolding}\n{goal} c = {self.search}\n" for goal in self.goals]
+        return "\n".join(lines) + "\n\n" + "\n".join(answers)

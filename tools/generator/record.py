@@ -2,7 +2,7 @@
 
 from itertools import takewhile
 
-from generator.kind import COPIED, RULES, Kind, Proof, bracket, folded, least_of, most_of, rules, nested, product, projections
+from generator.kind import COPIED, RULES, Answers, Kind, Proof, bracket, folded, least_of, most_of, nested, product, projections, rules
 from generator.known import OPAQUE, Known, camel, escaped
 from generator.table import Trouble
 
@@ -15,8 +15,8 @@ LENGTH_WORD = 4
 # The cases of xdr's type Marks, by how many marks each has.
 MARKS = ("None", "One", "Two")
 
-# Of a reader with so many calls: those in its middle.
-MIDDLE = {5: (3,), 6: (2, 4)}
+# A reader of more calls than these is proved goal by goal.
+MOST_BY_CALLS = 4
 
 
 def projected(value, field):
@@ -413,23 +413,14 @@ unfolding {m} {self.pieces(OPAQUE, *self.fields)}
         m, law, count = self.meaning, self.head, len(self.fields)
         steps = [step for field in self.fields for step in field.steps]
         by = f"by-plan {law}-plan" if self.known.codec else f"planned {law}-plan"
-        given = ", ".join(dict.fromkeys([by, "asks", "marked"] + steps))
-        one = f"(λ c. search ({given}) depth 20)"
-        # Behind five calls or more the search is handed what was known in their middle: it does not reach back far enough.
-        middle = "".join(f"let d{at} : tie.After-r{at} = search in " for at in MIDDLE.get(count, ()))
-        far = f"(λ c. {middle}search ({given}) depth 20 fits 20000)"
-        reads = [rules(4) + [far if at >= 4 else one] for at in range(count)]
-        took = [far if count > 4 else one]
-        proofs = {f"{self.name}_at": Proof(sum(reads, []) + took, unfolding=m)}
+        search = f"search ({', '.join(dict.fromkeys([by, 'asks', 'marked'] + steps))}) depth 20"
+        one = f"(λ c. {search})"
+        if count > MOST_BY_CALLS:
+            proofs = {f"{self.name}_at": Answers(count, f"{search} fits 20000", m)}
+        else:
+            proofs = {f"{self.name}_at": Proof((rules(4) + [one]) * count + [one], unfolding=m)}
         if self.run:
             proofs[f"{self.name}_cut"] = proofs[f"{self.name}_at"]
-            tests = [RULES, "(λ c. search rules)"] + rules(2) + ["(λ c. search rules)"]
-            behind = self.run[0]
-            # The tests stand between; what was known before them is handed over.
-            known = f"let d0 : tie.After-r{behind} = search in "
-            far = far.replace("(λ c. ", f"(λ c. {known}")
-            later = [part.replace("(λ c. ", f"(λ c. {known}") for part in sum(reads[behind:-2], [])] + (rules(4) + [far]) * 2 + [far]
-            proofs[f"{self.name}_at"] = Proof(sum(reads[:behind], []) + tests + later, unfolding=m)
         if not self.known.fixed:
             varying, fixed = self.sizes()
             bounds = ", ".join(dict.fromkeys(["sums"] + [field.bound for field in self.fields if field.bound]))

@@ -302,7 +302,7 @@ class Made:
         for kind in self.kinds:
             for function, proof in kind.proofs().items():
                 module = f"Rattle.{crate}.proofs.{name}.{function.replace('/', '.')}"
-                files[f"{base}/proofs/{name}/{function}/Proof.antt"] = f"-- {HEADER}{self.topic.path}\n" + proof.text(function, module, words)
+                files[f"{base}/proofs/{name}/{function}/{proof.file}"] = f"-- {HEADER}{self.topic.path}\n" + proof.text(function, module, words)
         return files
 
     def code_file(self, words):
