@@ -274,9 +274,9 @@ class Words:
         start, end = ("ghost use ", ";") if ghost else ("use ", "")
         return [f"{start}{module}.{{{', '.join(names)}}}{end}" for module, names in found.items()]
 
-    def code_lines(self, text, own=()):
-        names = [name for name in dict.fromkeys(re.findall(r"[A-Za-z_]\w*", text)) if name in self.code and name not in own]
-        return sorted(f"use {self.code[name]};" for name in names)
+    def code_paths(self, text, own=()):
+        """The paths of the names of a text of code."""
+        return {self.code[name] for name in re.findall(r"[A-Za-z_]\w*", text) if name in self.code and name not in own}
 
 
 # What the contracts call the parameters of a function.

@@ -165,7 +165,7 @@ def copier_file(comment, facts, order):
 def copier(fact):
     name = fact.kind.name
     return lines(
-        *signature(f"pub(crate) fn copy_{name}", PARAMETERS, "Copied"),
+        *signature(f"pub(crate) fn copy_{name}", PARAMETERS, " -> Copied"),
         f"    ensures {{ Copies {fact.kind.format} src.now at start out.old (view_copied result) out.new }}",
         "{",
         f"    match {fact.called}::read_{name}(src, at) {{",
@@ -337,7 +337,7 @@ def export_file(export, kinds, copiers):
 
 
 def export_head(name, parameters):
-    return ["#[unsafe(no_mangle)]", *signature(f'pub extern "C" fn {name}', parameters, "u32")]
+    return ["#[unsafe(no_mangle)]", *signature(f'pub extern "C" fn {name}', parameters, " -> u32")]
 
 
 def by_number(export, kinds):
@@ -359,7 +359,7 @@ def export_by_number(export, kinds):
         made += [
             "",
             *(f"// {line}" for line in export.does if exported),
-            *(export_head(name, parameters) if exported else signature(f"fn {name}", parameters, "u32")),
+            *(export_head(name, parameters) if exported else signature(f"fn {name}", parameters, " -> u32")),
             f"    ensures {{ {export.promise('kind')} }}",
             "{",
             "    match kind {",
@@ -444,7 +444,7 @@ def group_function(group, copiers):
     return [
         "",
         f"// {group.comment[:1].upper()}{group.comment[1:]}.",
-        *signature(f"fn {group.function}", ("kind: u32", *PARAMETERS), "Copied"),
+        *signature(f"fn {group.function}", ("kind: u32", *PARAMETERS), " -> Copied"),
         f"    ensures {{ CopiesIn {group.list} kind src.now at start out.old (view_copied result) out.new }}",
         "{",
         "    match kind {",
@@ -461,7 +461,7 @@ def chooser(groups):
         body += [f"    if kind < {following.first} {{", f"        return {group_call(group)};", "    }"]
     return [
         "// Reads a message of the kind from a place of one buffer and writes it, in published form, from a place of another.",
-        *signature("pub fn copy_kind", ("kind: u32", *PARAMETERS), "Copied"),
+        *signature("pub fn copy_kind", ("kind: u32", *PARAMETERS), " -> Copied"),
         "    ensures { CopiesOf kinds kind src.now at start out.old (view_copied result) out.new }",
         "{",
         *body,

@@ -1,15 +1,11 @@
 """The files of each topic: crates/CRATE/rfc/TOPIC.x has its declarations, and all else is made from them."""
 
 import re
-import subprocess
-import tempfile
-from functools import cache
-from pathlib import Path
 
 from generator.enumeration import Enumeration, Statuses
 from generator.known import ITEMS, VERIFIER, Known, Words, camel, escaped, law_head, stem
 from generator.language import read_topic, types_of
-from generator.layout import use_lines
+from generator.layout import laid_out, use_lines
 from generator.optional import Optional
 from generator.program import Program
 from generator.record import MOST_FIELDS, Record
@@ -32,40 +28,7 @@ def outputs(root):
         for made in own:
             files.update(made.files())
         regions += crate_regions(crate, own)
-    return [(path, text) for path, text in formatted(files).items()] + regions
-
-
-def formatted(files):
-    """The texts as `rt fmt` lays them out, crate by crate."""
-    by_crate = {}
-    for path, text in files.items():
-        by_crate.setdefault(path.split("/")[1], []).append((path, text))
-    found = {}
-    for crate, own in by_crate.items():
-        found.update(laid_out(crate, tuple(own)))
-    return {path: found[path] for path in files}
-
-
-@cache
-def laid_out(crate, files):
-    """Those of one crate. The check of the check makes most crates again and again as they were, so what was laid out is kept."""
-    with tempfile.TemporaryDirectory() as folder:
-        base = Path(folder)
-        for path, text in files:
-            place = base / path
-            place.parent.mkdir(parents=True, exist_ok=True)
-            place.write_text(text, encoding="utf-8")
-        (base / "crates.txt").write_text(f"{crate}:\n", encoding="utf-8")
-        library = base / "crates" / crate / "src" / "lib.rt"
-        if not library.exists():
-            library.write_text("", encoding="utf-8")
-        try:
-            done = subprocess.run(["rt", "fmt"], cwd=base / "crates" / crate, capture_output=True, text=True, check=False)
-        except OSError:
-            raise Trouble("the command rt of the Rattle kit is not on the PATH")
-        if done.returncode:
-            raise Trouble(f"rt fmt: {(done.stderr or done.stdout).strip().splitlines()[0]}")
-        return {path: (base / path).read_text(encoding="utf-8") for path, _ in files}
+    return list(files.items()) + regions
 
 
 def crate_regions(crate, topics):
@@ -317,9 +280,9 @@ class Made:
         own = set(re.findall(r"^\s*(?:pub )?(?:fn|struct|enum|type) (\w+)", text, re.M))
         ghosts = words.spec_lines(contracts, ghost=True)
         code = re.sub(r"ensures \{.*\}|//.*", "", text)
-        uses = words.code_lines(code, own)
+        uses = use_lines(words.code_paths(code, own))
         head = f"// {HEADER}{self.topic.path}\n// {self.topic.head}\n"
-        return head + "\n".join(ghosts + uses) + "\n\n" + text + "\n"
+        return head + "\n".join([*ghosts, "", *uses]) + "\n\n" + laid_out(text) + "\n"
 
     def meaning_parts(self):
         return [part for kind in self.kinds for part in kind.meanings()]
