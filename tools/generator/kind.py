@@ -8,6 +8,9 @@ RULES = "(search rules)"
 COPIED = "#[derive(Clone, Copy)]\n"
 DROPPED = "#[derive(Drop)]\n"
 
+# Kinds whose answers the crate reader looks at and hands on, so that they are copied too.
+HANDED_ON = {"diropargs3", "nfs_fh3"}
+
 
 def lower(meaning):
     """A meaning as the first part of a name in camel case: `nfs_fh` is nfsFh."""
@@ -103,7 +106,7 @@ class Kind:
         return ", ".join(fields)
 
     def answer_code(self):
-        return f"""{DROPPED}pub enum {self.answer} {{
+        return f"""{COPIED if self.name in HANDED_ON else DROPPED}pub enum {self.answer} {{
     Refused(Refusal),
     Took {{ {self.took(value=self.code_type, next="usize", plain="bool")} }},
 }}
@@ -340,17 +343,21 @@ class Proof:
 
 
 class Answers:
-    """The goals of a function that takes one part after another: that of each early return, and that of the last. One search answers all."""
+    """What answers the goals of one function that are not answered by themselves."""
 
     file = "Answers.antt"
 
-    def __init__(self, parts, search, unfolding):
-        early = ["returns-in_default"] + [f"returns-in_default-r{at}" for at in range(2, parts + 1)]
-        self.goals = early + ["returns"]
-        self.search = search
+    def __init__(self, answers, unfolding=""):
+        self.answers = answers  # by the names of the goals
         self.unfolding = unfolding
 
     def text(self, function, module, words):
-        lines = words.spec_lines(f"{self.unfolding} {self.search}", proofs=True) + [f"use {module}.Goals as goal"]
-        answers = [f"pub {goal} : goal.{goal}\nunfolding {self.unfolding}\n{goal} c = {self.search}\n" for goal in self.goals]
+        unfolding = f"unfolding {self.unfolding}\n" if self.unfolding else ""
+        lines = words.spec_lines(" ".join([unfolding, *self.answers.values()])) + [f"use {module}.Goals as goal"]
+        answers = [f"pub {goal} : goal.{goal}\n{unfolding}{goal} c = {answer}\n" for goal, answer in self.answers.items()]
         return "\n".join(lines) + "\n\n" + "\n".join(answers)
+
+
+def goals_in_order(count):
+    """The goals of a function that takes so many parts one after another: that of each early return, and that of the last."""
+    return ["returns-in_default", *(f"returns-in_default-r{at}" for at in range(2, count + 1)), "returns"]

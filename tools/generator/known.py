@@ -175,7 +175,8 @@ OPAQUE = ITEMS["opaque"]
 # Read, written and proved as a hyper.
 VERIFIER = replace(ITEMS["u64"], defined="verifier")
 
-# Where the names stand that every text may use, in the order of a file's `use` lines. The library's come from other modules in proofs.
+# Where the names stand that every text may use, in the order of a file's `use` lines. IN_PROOFS has where those of the library
+# stand that a proof uses which walks the code.
 XDR = "Rattle.xdr.specs."
 PRELUDE = "Rattle.std.specs.Prelude"
 COMMON = "Rattle.std.proofs.Common"
@@ -191,7 +192,7 @@ SPECS = (
     (PRELUDE, "length"),
     ("mir.Val", "Val"),
     ("denote.Laws", "Is"),
-    ("borrow.Author.Rules", "rules"),
+    (COMMON, "rules"),
     (XDR + "Meaning.Answer", "Answer took refused most Written"),
     (XDR + "Meaning.Bytes", "Bytes"),
     (XDR + "Meaning.Kind", "Codec"),
@@ -245,6 +246,7 @@ IN_PROOFS = {
         ("Prim.Native.Nat", "ℕ + ≤"),
         ("native.Mathlib.Omega", "arith"),
         ("lib.ListN", "length"),
+        ("borrow.Author.Rules", "rules"),
     )
     for name in names.split()
 }

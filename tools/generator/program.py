@@ -1,6 +1,6 @@
 """The text of a program's procedures: their arguments, and their results, read by the number of the procedure."""
 
-from generator.kind import DROPPED, RULES, Proof, rules
+from generator.kind import DROPPED, RULES, Answers, Proof, rules
 from generator.known import escaped
 
 # A type for all arguments, and one for all results: the type, what a field of it is called, and what the comment of its reader says.
@@ -101,8 +101,5 @@ view_{stem} ({stem}Read.Took v n p) = some (took v n p)""")
             for name, _, kind in entries:
                 law = f"{name.lower()}_{stem} view_{kind.name}"
                 proofs[f"{stem}_of_{name.lower()}"] = Proof(rules(3) + [f"(λ c. search (for-lost {law}))", f"(λ c. search (for-took {law}))"])
-            one = f"(λ c. search (by-procedure {stem}_by_number))"
-            count = len(entries)
-            none = f"(λ c. by-none {stem}_by_number _ _ _ _ {RULES} c.match.rest)"
-            proofs[f"read_{stem}"] = Proof(rules(count) + [one] * count + [none])
+            proofs[f"read_{stem}"] = Answers({"returns-in_default": f"by-none {stem}_by_number _ _ _ _ {RULES} c.in_default.in_default-own.rest"})
         return proofs

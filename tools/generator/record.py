@@ -2,7 +2,7 @@
 
 from itertools import takewhile
 
-from generator.kind import COPIED, RULES, Answers, Kind, Proof, bracket, folded, least_of, most_of, nested, product, projections, rules
+from generator.kind import COPIED, RULES, Answers, Kind, Proof, bracket, folded, goals_in_order, least_of, most_of, nested, product, projections, rules
 from generator.known import OPAQUE, Known, camel, escaped
 from generator.table import Trouble
 
@@ -416,7 +416,7 @@ unfolding {m} {self.pieces(OPAQUE, *self.fields)}
         search = f"search ({', '.join(dict.fromkeys([by, 'asks', 'marked'] + steps))}) depth 20"
         one = f"(λ c. {search})"
         if count > MOST_BY_CALLS:
-            proofs = {f"{self.name}_at": Answers(count, f"{search} fits 20000", m)}
+            proofs = {f"{self.name}_at": Answers(dict.fromkeys(goals_in_order(count), f"{search} fits 20000"), m)}
         else:
             proofs = {f"{self.name}_at": Proof((rules(4) + [one]) * count + [one], unfolding=m)}
         if self.run:
