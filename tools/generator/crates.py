@@ -4,16 +4,16 @@ import re
 from collections import defaultdict
 from dataclasses import dataclass
 
-from generator.table import Kind, Trouble, read_text
+from generator.table import Kind, Trouble, read_text, read_uses
 
-READER = re.compile(r"^pub fn read_(\w+)\(\s*src: &\[u8\],\s*at: usize,?\s*\) -> (\w+)\s+ensures .* \((view\w+) r\)", re.M)
+READER = re.compile(r"^pub fn read_(\w+)\(\s*src: &\[u8\],\s*at: usize,?\s*\) -> (\w+)\s+ensures .* \((view_\w+) result\)", re.M)
 WRITER = re.compile(r"^pub fn write_(\w+)\(\s*(src: )?", re.M)
 ANSWER = re.compile(r"^pub enum (\w+) {\n((?:.*\n)*?)^}", re.M)
-PASSED_ON = re.compile(r"^pub use (\w+)::(\w+);", re.M)
+PASSED_ON = re.compile(r"^pub use (\w+)::(\w+|\{[^}]*\});", re.M)
 DECLARED = re.compile(r"^(?:([a-z]+) )?pub (\S+) : (.*)$", re.M)
 # Also inside a module that has parameters, as the kinds over a reading are.
 UNFOLDABLE = re.compile(r"^ *unfoldable pub (\S+) : (.*)$", re.M)
-USED = re.compile(r"^use Rattle·(\w+)·specs\.(specs\.Meaning\.\w+)\.", re.M)
+USED = re.compile(r"^use Rattle\.(\w+)\.(specs\.Meaning\.\w+)\.", re.M)
 CODEC = re.compile(r"^(\S+) = record \{ codec = ([^;]+);", re.M)
 
 
@@ -78,14 +78,14 @@ class Index:
             self.readers[name].append((answer, view))
         for name, source in WRITER.findall(text):
             self.writers[name].append(bool(source))
-        module = f"Rattle·{self.crate}.specs.declared." + ".".join(path.with_suffix("").parts[1:])
+        module = f"Rattle.{self.crate}.specs.declared." + ".".join(path.with_suffix("").parts[1:])
         for name, cases in ANSWER.findall(text):
             self.answers[name].append((self.crate, f"{module}.{name}", "plain: bool" in cases))
         if path.name == "lib.rt":
-            self.passed_on.update(PASSED_ON.findall(text))
+            self.passed_on.update((module, name) for module, names in PASSED_ON.findall(text) for name in re.findall(r"\w+", names))
 
     def add_specs(self, path, text):
-        module = f"Rattle·{self.crate}." + ".".join(path.with_suffix("").parts)
+        module = f"Rattle.{self.crate}." + ".".join(path.with_suffix("").parts)
         for _, name, type in DECLARED.findall(text):
             found = Name(self.crate, module, name, type)
             if path.parts[1] == "Meaning":
@@ -103,7 +103,7 @@ class Index:
             elif type.startswith("Bounded "):
                 self.bounded[type.split()[-1]].append(found)
         self.unfoldable[module] = [Name(self.crate, module, name, type) for name, type in UNFOLDABLE.findall(text)]
-        self.used[module] = [f"Rattle·{crate}.{used}" for crate, used in USED.findall(text)]
+        self.used[module] = [f"Rattle.{crate}.{used}" for crate, used in USED.findall(text) if crate == self.crate]
         self.codecs.update(CODEC.findall(text))
 
     def unfolded(self, module):
@@ -114,11 +114,7 @@ class Index:
 class Crates:
     def __init__(self, root):
         self.root = root
-        self.uses = {}
-        for line in read_text(root / "crates.txt", root).splitlines():
-            if line.strip() and not line.startswith("#"):
-                name, _, uses = line.partition(":")
-                self.uses[name] = uses.split()
+        self.uses = read_uses(root)
         self.indexes = {}
 
     def index(self, crate):
@@ -159,9 +155,9 @@ class Crates:
     def measured(self, kind):
         """What a law of the kind's lengths may be about. A format that has none has that of its codec."""
         if kind.exact:
-            return [f"({kind.meaning} .kind)"]
+            return [f"{kind.meaning}.kind"]
         codecs = [self.index(crate).codecs.get(kind.meaning) for crate in self.reached(kind.crate)]
-        return [f"({kind.meaning} .codec .kind)"] + [f"({codec} .kind)" for codec in codecs if codec]
+        return [f"{kind.meaning}.codec.kind"] + [f"{codec}.kind" for codec in codecs if codec]
 
     def length_law(self, kind):
         for measured in self.measured(kind):
@@ -173,8 +169,8 @@ class Crates:
     def mark_law(self, kind):
         """What a kind's marks tell, or that it has none."""
         if kind.exact:
-            return self.need(kind.crate, "marked", f"({kind.meaning} .kind)", f"law `Unpadded` of {kind.meaning}")
-        return self.need(kind.crate, "marked", f"({kind.meaning} .held)", f"law `Marked` of {kind.meaning}")
+            return self.need(kind.crate, "marked", f"{kind.meaning}.kind", f"law `Unpadded` of {kind.meaning}")
+        return self.need(kind.crate, "marked", f"{kind.meaning}.held", f"law `Marked` of {kind.meaning}")
 
     def facts(self, kind):
         crate = kind.crate

@@ -1,6 +1,6 @@
 """The text of a closed enumeration."""
 
-from generator.kind import Kind, Proof, lower, needs
+from generator.kind import COPIED, DROPPED, Kind, Proof, lower, rules, of_definitions
 from generator.known import Known, escaped
 from generator.status import Status
 from generator.table import Trouble
@@ -11,10 +11,11 @@ class Enumeration(Kind):
 
     def __init__(self, declared, meaning, topic):
         super().__init__(declared, meaning, topic)
-        self.known = Known(self.name, self.code_type, self.answer, False, True, meaning, self.type, self.type, 4, f"{meaning}-good")
+        self.known = Known(self.name, self.code_type, self.answer, False, True, meaning, self.type, self.type, 4, f"{self.head}-good")
         self.found = f"{self.camel}Found"
-        self.number, self.all, self.each = f"{lower(meaning)}Number", f"{lower(meaning)}All", f"each-{meaning}"
+        self.number, self.all, self.each = f"{self.start}_number", f"{self.start}_all", f"each_{self.start}"
         self.variants = f"{lower(meaning)}Is"
+        self.seen = f"found_{self.name}"
 
     def aliased(self):
         return {**super().aliased(), self.variants: self.code_type, f"{lower(self.meaning)}Found": self.found}
@@ -22,7 +23,7 @@ class Enumeration(Kind):
     def code(self):
         return [
             self.enum_code(),
-            f"pub enum {self.found} {{\n    None,\n    Is({self.code_type}),\n}}",
+            f"{DROPPED}pub enum {self.found} {{\n    None,\n    Is({self.code_type}),\n}}",
             self.numbers_code(),
             self.answer_code(),
             f"""{self.at_head()}
@@ -43,7 +44,7 @@ class Enumeration(Kind):
 
     def write_code(self):
         return f"""pub fn write_{self.name}(v: {self.code_type}, out: &mut [u8], at: usize) -> Wrote
-    ensures {{ λ r. ⌜ Writes (exactly {self.meaning}) [] v at (now (out .entry)) (viewWrote r) (now (out .exit)) ⌝ }}
+    ensures {{ Writes (exactly {self.meaning}) [] v at out.old (view_wrote result) out.new }}
 {{
     write_u32(v.number(), out, at)
 }}"""
@@ -51,7 +52,7 @@ class Enumeration(Kind):
     def enum_code(self):
         comment = f"// {self.declared.comment}\n" if self.declared.comment else ""
         cases = "".join(f"    {name},\n" for name, _ in self.declared.parts)
-        return f"{comment}pub enum {self.code_type} {{\n{cases}}}"
+        return f"{comment}{COPIED}pub enum {self.code_type} {{\n{cases}}}"
 
     def numbers_code(self):
         cases = "".join(f"            {number} => {self.found}::Is({self.case_code(name)}),\n" for name, number in self.declared.parts)
@@ -61,7 +62,7 @@ class Enumeration(Kind):
 {self.number_code(self.number, self.numbers())}
 
     pub fn of(v: u32) -> {self.found}
-        ensures {{ λ r. ⌜ found{self.camel} r ≡ among {self.number} {self.all} v ⌝ }}
+        ensures {{ {self.seen} result ≡ among {self.number} {self.all} v }}
     {{
         match v {{
 {cases}            _ => {self.found}::None,
@@ -77,7 +78,7 @@ class Enumeration(Kind):
         """The function that says the number."""
         numbers = "".join(f"            {case} => {number},\n" for case, number in cases)
         return f"""    pub fn number(self) -> u32
-        ensures {{ λ r. ⌜ r ≡ {meaning} self ⌝ }}
+        ensures {{ result ≡ {meaning} self }}
     {{
         match self {{
 {numbers}        }}
@@ -101,50 +102,48 @@ class Enumeration(Kind):
             f"abbrev pub {self.all} : List {T}\n{self.all} = {every}",
             f"pub {self.each} : (a : {T}) → among {self.number} {self.all} ({self.number} a) ≡ means a []\n{each}",
             f"unfoldable pub {m} : Codec {T}\n{m} = closed {self.number} {self.all} {self.each}",
-            f"""abbrev pub found{self.camel} : {self.found} → Seen {T}
-found{self.camel} {found}.None = undeclared
-found{self.camel} ({found}.Is a) = means a []""",
+            f"""abbrev pub {self.seen} : {self.found} → Seen {T}
+{self.seen} {found}.None = undeclared
+{self.seen} ({found}.Is a) = means a []""",
             self.views(),
         ]
 
     def laws(self):
-        m, T = self.meaning, self.type
+        m, law, T = self.meaning, self.head, self.type
         of = f"{self.number} {self.all} {self.each}"
         return [
             f"-- {self.code_type}\n{self.step_laws()}",
             self.told_law(),
-            f"pub {m}-within : Within 0 ({m} .kind)\nunfolding {m}\n{m}-within = closed-within {of}",
+            f"pub {law}-within : Within 0 {m}.kind\nunfolding {m}\n{law}-within = closed-within {of}",
             self.unpadded_law(f"closed-unpadded {of}"),
-            f"pub {m}-fixed : Fixed 4 {m}\nunfolding {m}\n{m}-fixed = seen-fixed word-fixed _ _ _ _",
-            f"""pub {m}-writes : (a : {T}) {{v : ℕ}} (at : ℕ) (o : List ℕ) {{w : Written}} {{o′ : List ℕ}} → v ≡ {self.number} a → Writes (exactly word) [] v at o w o′
-    → Writes (exactly {m}) [] a at o w o′
+            f"pub {law}-fixed : Fixed 4 {m}\nunfolding {m}\n{law}-fixed = seen-fixed word-fixed _ _ _ _",
+            f"""pub {law}-writes : (a : {T}) {{v : ℕ}} (at : ℕ) (o : List ℕ) {{w : Written}} {{o' : List ℕ}} → v ≡ {self.number} a → Writes (exactly word) [] v at o w o'
+    → Writes (exactly {m}) [] a at o w o'
 unfolding {m}
-{m}-writes = by-number {of}""",
-            f"""pub {m}-bytes : (n : ℕ) (a : {T}) → n ≡ {self.number} a → word .kind .write n ≡ {m} .kind .write a
+{law}-writes = by_number {of}""",
+            f"""pub {law}-bytes : (n : ℕ) (a : {T}) → n ≡ {self.number} a → word.kind.write n ≡ {m}.kind.write a
 unfolding {m}
-{m}-bytes n a e = ap (word .kind .write) e""",
+{law}-bytes n a e = ap word.kind.write e""",
         ]
 
     def ranges(self):
-        m = self.meaning
-        cases = "\n".join(f"{m}-good {self.variant(name)} = word-good _ (omega arith)" for name, _ in self.declared.parts)
-        return [f"pub {m}-good : (a : {self.type}) → {m} .kind .Good a\nunfolding {m}\n{cases}"], []
+        m, law = self.meaning, self.head
+        cases = "\n".join(f"{law}-good {self.variant(name)} = word_good _ (omega arith)" for name, _ in self.declared.parts)
+        return [f"pub {law}-good : (a : {self.type}) → {m}.kind.Good a\nunfolding {m}\n{cases}"], []
 
     def proofs(self):
-        m = self.meaning
-        tags = f"{self.number} {self.all} {self.each} found{self.camel}"
-        found = [f"(λ c. search (found-at {self.number} {self.all}))"] * len(self.declared.parts)
+        m, law = self.meaning, self.head
+        tags = f"{self.number} {self.all} {self.each} {self.seen}"
         proofs = {
-            f"{self.code_type}/of": Proof(found + [f"(λ c. found-none {self.number} {self.all} _ _ (c .match .rest))"], name="of"),
             f"{self.name}_at": Proof(
-                needs(4) + [f"(λ c. search (tag-lost {tags}))"] + needs(3) + [f"(λ c. search (tag-none {tags}))", f"(λ c. search (tag-is {tags}))"],
+                rules(4) + [f"(λ c. search (tag-lost {tags}))"] + rules(3) + [f"(λ c. search (tag-none {tags}))", f"(λ c. search (tag_is {tags}))"],
                 unfolding=m,
             ),
-            f"put_{self.name}": Proof(needs(3) + [f"(λ c. search (lays, {m}-bytes))"]),
+            f"put_{self.name}": Proof(rules(3) + [f"(λ c. search (lays, {law}-bytes))"]),
             **self.common_proofs(),
         }
         if self.public:
-            proofs[f"write_{self.name}"] = Proof(needs(3) + [f"(λ c. search {m}-writes)"])
+            proofs[f"write_{self.name}"] = Proof(rules(3) + [f"(λ c. search {law}-writes)"])
         return proofs
 
 
@@ -159,9 +158,9 @@ class Statuses(Enumeration):
         self.failures, failing = (name.replace("stat", "fail") for name in (self.code_type, meaning))
         if self.failures == self.code_type or failing == meaning:
             raise Trouble(f"{topic.path}: {self.code_type} has no `stat` in its name or its meaning, in whose place its failures have `fail`")
-        self.failing_number, self.failing_variants = f"{lower(failing)}Number", f"{lower(failing)}Is"
-        start = lower(meaning)
-        self.failure, self.status = f"{start}Failure", Status(self.code_type, self.ok, self.failures, meaning, f"{start}Or", f"{start}For", self.answer)
+        self.failing_number, self.failing_variants = f"{of_definitions(failing)}_number", f"{lower(failing)}Is"
+        start = self.start
+        self.failure, self.status = f"{start}_failure", Status(self.code_type, self.ok, self.failures, meaning, f"{start}_or", f"{start}_for", self.answer)
 
     def passed_on(self):
         return [self.failures, *super().passed_on()]
@@ -175,10 +174,10 @@ class Statuses(Enumeration):
         comment = f"// {self.declared.comment}\n" if self.declared.comment else ""
         cases = "".join(f"    {name},\n" for name, _ in self.failing)
         return f"""// The failures of {self.code_type}: a type of their own, so that the failing arm of a result can hold no success.
-pub enum {self.failures} {{
+{COPIED}pub enum {self.failures} {{
 {cases}}}
 
-{comment}pub enum {self.code_type} {{
+{comment}{COPIED}pub enum {self.code_type} {{
     {self.ok},
     Failed({self.failures}),
 }}"""
@@ -201,38 +200,40 @@ pub enum {self.failures} {{
         return f"({self.variants}.Failed {self.failing_variants}.{escaped(name)})"
 
     def meanings(self):
-        m, T, E, status = self.meaning, self.type, escaped(self.failures), self.status
+        start, T, E, status = self.start, self.type, escaped(self.failures), self.status
         ok, failed = super().variant(self.ok), f"{self.variants}.Failed f"
         return super().meanings() + [
             f"abbrev pub {self.failing_number} : {E} → ℕ\n{self.failing_number} f = {self.number} ({failed})",
             f"-- success, or a failure: what a result is by its status\nabbrev pub {self.failure} : {T} → Option {E}\n{self.failure} {ok} = none\n{self.failure} ({failed}) = some f",
             f"abbrev pub {status.to} : Option {E} → {T}\n{status.to} none = {ok}\n{status.to} (some f) = {failed}",
-            f"pub {m}-to-of : (a : {T}) → {status.to} ({self.failure} a) ≡ a\n{m}-to-of {ok} = refl\n{m}-to-of ({failed}) = refl",
-            f"pub {m}-of-to : (o : Option {E}) → {self.failure} ({status.to} o) ≡ o\n{m}-of-to none = refl\n{m}-of-to (some f) = refl",
+            f"pub {start}_to_of : (a : {T}) → {status.to} ({self.failure} a) ≡ a\n{start}_to_of {ok} = refl\n{start}_to_of ({failed}) = refl",
+            f"pub {start}_of_to : (o : Option {E}) → {self.failure} ({status.to} o) ≡ o\n{start}_of_to none = refl\n{start}_of_to (some f) = refl",
             f"""abbrev pub {status.success} : Status {T} {E}
-{status.success} = record {{ of = {self.failure}; to = {status.to}; to-of = {m}-to-of; of-to = {m}-of-to }}""",
+{status.success} = record {{ of = {self.failure}; to = {status.to}; to_of = {start}_to_of; of_to = {start}_of_to }}""",
         ]
 
     def laws(self):
         """A result, by the answer of the call that reads its status: what that refuses, and what it says."""
-        m, E, success, view, lost = self.meaning, escaped(self.failures), self.status.success, f"view{self.camel}", f"lost{self.camel}"
+        m, law, E, success, view, lost = self.meaning, self.head, escaped(self.failures), self.status.success, self.view, self.lost
         of = f"{{M N S T R : Type 0}} {{F : Format M S}} {{G : Format N T}} {{W : Arms {E} S T R}} {{D : Format (Result {E} M N) R}} (X : OnStatus {m} {success} F G W D) (s : List ℕ) (p : ℕ) (r : {self.answer})"
         took = f"{self.alias}.Took a n"
         return super().laws() + [
-            f"""pub {m}-lost : {of} (u q : Refusal) → q ≡ {lost} r → {view} r ≡ {m} .kind .read s p → r ≡ {self.alias}.Refused u
-    → refused q ≡ D .held .read s p
-{m}-lost X s p r u q g e f = status-lost {view} X s p r {lost} ({self.alias}.Refused u) q g e f refl""",
-            f"""pub {m}-took : {of} (a c : {self.type}) (n : ℕ) (z : Answer R) → {view} r ≡ {m} .kind .read s p → r ≡ {took} → a ≡ c
-    → z ≡ run (armBy {m} {success} F G W ({success} .of c)) s n true → z ≡ D .held .read s p
-{m}-took X s p r a c n z e f h k = status-took {view} X s p r ({took}) a c n z refl e f h k""",
+            f"""pub {law}-lost : {of} (u q : Refusal) → q ≡ {lost} r → {view} r ≡ {m}.kind.read s p → r ≡ {self.alias}.Refused u
+    → refused q ≡ D.held.read s p
+{law}-lost X s p r u q g e f = status-lost {view} X s p r {lost} ({self.alias}.Refused u) q g e f refl""",
+            f"""pub {law}-took : {of} (a c : {self.type}) (n : ℕ) (z : Answer R) → {view} r ≡ {m}.kind.read s p → r ≡ {took} → a ≡ c
+    → z ≡ run (arm_by {m} {success} F G W ({success}.of c)) s n true → z ≡ D.held.read s p
+{law}-took X s p r a c n z e f h k = status-took {view} X s p r ({took}) a c n z refl e f h k""",
         ]
 
     # ------------------------------------------------ proofs
 
     def proofs(self):
         count = len(self.failing)
+        found = [f"(λ c. search (found_at {self.number} {self.all}))"] * len(self.declared.parts)
         return {
             **super().proofs(),
-            f"{self.failures}/number": Proof(needs(count) + [f"(λ c. search (numbered {self.failing_number}))"] * count, name="number"),
-            f"{self.code_type}/number": Proof(needs(3) + [f"(λ c. search (numbered {self.number}))"] * 2, name="number"),
+            f"{self.code_type}/of": Proof(found + [f"(λ c. found_none {self.number} {self.all} _ _ c.match.rest)"], name="of"),
+            f"{self.failures}/number": Proof(rules(count) + [f"(λ c. search (numbered {self.failing_number}))"] * count, name="number"),
+            f"{self.code_type}/number": Proof(rules(3) + [f"(λ c. search (numbered {self.number}))"] * 2, name="number"),
         }

@@ -1,14 +1,26 @@
 """The text that every declared kind has: its answer, its public functions, and what follows from them."""
 
-from generator.known import bracket, camel, escaped, stem
+from generator.known import bracket, camel, escaped, law_head, stem
 
-NEEDS = "(search needs)"
+RULES = "(search rules)"
+
+# Before a type whose values are used again and again, and before that of an answer, which may be let go.
+COPIED = "#[derive(Clone, Copy)]\n"
+DROPPED = "#[derive(Drop)]\n"
+
+# Kinds whose answers the crate reader looks at and hands on, so that they are copied too.
+HANDED_ON = {"diropargs3", "nfs_fh3"}
 
 
 def lower(meaning):
-    """A meaning as the first part of a name: `nfs-fh` is nfsFh."""
+    """A meaning as the first part of a name in camel case: `nfs_fh` is nfsFh."""
     name = camel(meaning)
     return name[:1].lower() + name[1:]
+
+
+def of_definitions(meaning):
+    """A meaning as the first part of a definition's name: dashes are for laws."""
+    return meaning.replace("-", "_")
 
 
 def nested(parts):
@@ -26,14 +38,14 @@ def folded(function, parts):
 
 
 def projections(variable, count):
-    """What the fields of a nested tuple are: x .0, x .1 .0, x .1 .1."""
+    """What the fields of a nested tuple are: x.0, x.1.0, x.1.1."""
     if count == 1:
         return [variable]
-    return [f"{variable}{' .1' * at}{' .0' if at < count - 1 else ''}" for at in range(count)]
+    return [f"{variable}{'.1' * at}{'.0' if at < count - 1 else ''}" for at in range(count)]
 
 
-def needs(count):
-    return [NEEDS] * count
+def rules(count):
+    return [RULES] * count
 
 
 def least_of(field):
@@ -55,12 +67,15 @@ class Kind:
         self.code_type = declared.name
         self.name = stem(declared.name)  # as the functions and kinds.txt have it
         self.meaning = meaning
+        self.start = of_definitions(meaning)  # how the names of its definitions begin
+        self.head = law_head(meaning)  # how those of its laws do
         self.topic = topic
         self.camel = camel(self.name)
         self.answer = f"{self.camel}Read"
         self.type = escaped(declared.name)
         self.alias = self.camel
         self.dashed = self.name.replace("_", "-")
+        self.view, self.lost = f"view_{self.name}", f"lost_{self.name}"
 
     # ------------------------------------------------ what others see
 
@@ -84,21 +99,21 @@ class Kind:
 
     @property
     def read_by(self):
-        return f"{self.meaning} .kind .read" if self.known.codec else f"{self.meaning} .held .read"
+        return f"{self.meaning}.kind.read" if self.known.codec else f"{self.meaning}.held.read"
 
     def took(self, **values):
         fields = [f"{field}: {values[field]}" for field in ("value", "next", "plain") if field != "plain" or self.known.plain]
         return ", ".join(fields)
 
     def answer_code(self):
-        return f"""pub enum {self.answer} {{
+        return f"""{COPIED if self.name in HANDED_ON else DROPPED}pub enum {self.answer} {{
     Refused(Refusal),
     Took {{ {self.took(value=self.code_type, next="usize", plain="bool")} }},
 }}
 
 impl {self.answer} {{
     pub fn refusal(self) -> Refusal
-        ensures {{ λ r. ⌜ r ≡ lost{self.camel} self ⌝ }}
+        ensures {{ result ≡ {self.lost} self }}
     {{
         match self {{
             {self.answer}::Refused(r) => r,
@@ -109,14 +124,14 @@ impl {self.answer} {{
 
     def at_head(self):
         return f"""pub fn {self.name}_at(src: &[u8], at: usize) -> {self.answer}
-    ensures {{ λ r. ⌜ view{self.camel} r ≡ {self.read_by} (now (src .entry)) at ⌝ }}"""
+    ensures {{ {self.view} result ≡ {self.read_by} src.now at }}"""
 
     def public_code(self):
         return [self.read_code(), self.write_code()] if self.public else []
 
     def read_code(self):
         return f"""pub fn read_{self.name}(src: &[u8], at: usize) -> {self.answer}
-    ensures {{ λ r. ⌜ Answers {bracket(self.format)} (now (src .entry)) at (view{self.camel} r) ⌝ }}
+    ensures {{ Answers {bracket(self.format)} src.now at ({self.view} result) }}
 {{
     match open_at(src, at) {{
         Opening::Refused(r) => {self.answer}::Refused(r),
@@ -128,7 +143,7 @@ impl {self.answer} {{
         """Behind the tests of the order of refusals, the inner writer."""
         if self.known.codec:
             return f"""pub fn write_{self.name}(v: {self.code_type}, out: &mut [u8], at: usize) -> Wrote
-    ensures {{ λ r. ⌜ Writes (exactly {self.meaning}) [] v at (now (out .entry)) (viewWrote r) (now (out .exit)) ⌝ }}
+    ensures {{ Writes (exactly {self.meaning}) [] v at out.old (view_wrote result) out.new }}
 {{
     let w = room(out.len(), at, {self.known.size_of("v")});
     let Wrote::Done(_) = w else {{
@@ -138,7 +153,7 @@ impl {self.answer} {{
     w
 }}"""
         return f"""pub fn write_{self.name}(src: &[u8], x: {self.code_type}, out: &mut [u8], at: usize) -> Wrote
-    ensures {{ λ r. ⌜ Writes {self.meaning} (now (src .entry)) x at (now (out .entry)) (viewWrote r) (now (out .exit)) ⌝ }}
+    ensures {{ Writes {self.meaning} src.now x at out.old (view_wrote result) out.new }}
 {{
     let w = place(src.len(), {self.name}_inside(src, x), {self.name}_size(x), out.len(), at);
     let Wrote::Done(_) = w else {{
@@ -154,7 +169,7 @@ impl {self.answer} {{
     pub const SIZE: usize = {self.known.fixed};
 
     pub fn size() -> usize
-        ensures {{ λ r. ⌜ OfSize r {self.meaning} ⌝ }}
+        ensures {{ OfSize result {self.meaning} }}
     {{
         {self.code_type}::SIZE
     }}
@@ -163,9 +178,9 @@ impl {self.answer} {{
     def put_head(self):
         if self.known.codec:
             return f"""pub fn put_{self.name}(v: {self.code_type}, out: &mut [u8])
-    ensures {{ λ _. ⌜ now (out .exit) ≡ laid ({self.meaning} .kind .write v) (now (out .entry)) ⌝ }}"""
+    ensures {{ out.new ≡ laid ({self.meaning}.kind.write v) out.old }}"""
         return f"""pub fn put_{self.name}(src: &[u8], x: {self.code_type}, out: &mut [u8])
-    ensures {{ λ _. ⌜ now (out .exit) ≡ laidOf {self.meaning} (now (src .entry)) x (now (out .entry)) ⌝ }}"""
+    ensures {{ out.new ≡ laid_of {self.meaning} src.now x out.old }}"""
 
     def tests_code(self):
         """What is tested before all is laid."""
@@ -185,25 +200,25 @@ impl {self.answer} {{
     def size_head(self):
         if self.known.codec:
             return f"""pub fn {self.name}_size(v: {self.code_type}) -> usize
-    ensures {{ λ r. ⌜ r ≡ length ({self.meaning} .kind .write v) ⌝ }}"""
+    ensures {{ result ≡ length ({self.meaning}.kind.write v) }}"""
         return f"""pub fn {self.name}_size(x: {self.code_type}) -> usize
-    ensures {{ λ r. ⌜ r ≡ {lower(self.meaning)}Size x ⌝ }}"""
+    ensures {{ result ≡ {self.start}_size x }}"""
 
     def inside_head(self):
         return f"""pub fn {self.name}_inside(src: &[u8], x: {self.code_type}) -> bool
-    ensures {{ λ r. ⌜ r ≡ {self.meaning} .held .inside (now (src .entry)) x ⌝ }}"""
+    ensures {{ result ≡ {self.meaning}.held.inside src.now x }}"""
 
     def marks_head(self):
         return f"""    pub fn marks(self) -> Marks
-        ensures {{ λ r. ⌜ MarksAre {self.meaning} self (viewMarks r) ⌝ }}"""
+        ensures {{ MarksAre {self.meaning} self (view_marks result) }}"""
 
     def unpadded_law(self, proof):
-        m = self.meaning
-        return f"pub {m}-unpadded : Unpadded ({m} .kind)\nunfolding {m}\n{m}-unpadded = {proof}"
+        m, law = self.meaning, self.head
+        return f"pub {law}-unpadded : Unpadded {m}.kind\nunfolding {m}\n{law}-unpadded = {proof}"
 
     def marked_law(self, proof):
-        m = self.meaning
-        return f"pub {m}-marked : Marked ({m} .held)\nunfolding {m}\n{m}-marked = {proof}"
+        m, law = self.meaning, self.head
+        return f"pub {law}-marked : Marked {m}.held\nunfolding {m}\n{law}-marked = {proof}"
 
     def marks_proof(self, answers):
         return {f"{self.code_type}/marks": Proof(answers, name="marks")}
@@ -220,26 +235,26 @@ impl {self.answer} {{
     def views(self):
         plain = "p" if self.known.plain else "true"
         refused = self.case("Refused", "r")
-        return f"""abbrev pub view{self.camel} : {self.answer} → Answer {self.type}
-view{self.camel} {refused} = refused r
-view{self.camel} {self.took_case()} = took v n {plain}
+        return f"""abbrev pub {self.view} : {self.answer} → Answer {self.type}
+{self.view} {refused} = refused r
+{self.view} {self.took_case()} = took v n {plain}
 
-abbrev pub lost{self.camel} : {self.answer} → Refusal
-lost{self.camel} {refused} = r
-lost{self.camel} {self.took_case()} = PastEnd"""
+abbrev pub {self.lost} : {self.answer} → Refusal
+{self.lost} {refused} = r
+{self.lost} {self.took_case()} = PastEnd"""
 
     def step_laws(self):
-        return f"""pub step-{self.meaning} : Step view{self.camel}
-step-{self.meaning} U = step view{self.camel}
+        return f"""pub step-{self.head} : Step {self.view}
+step-{self.head} U = step {self.view}
 
-pub lost-{self.meaning} : Loses lost{self.camel}
-lost-{self.meaning} A = lost-at lost{self.camel}"""
+pub lost-{self.head} : Loses {self.lost}
+lost-{self.head} A = lost-at {self.lost}"""
 
     def told_law(self):
         name = f"{self.dashed}-told"
-        refused, other = self.case("Refused", "r"), self.case("Refused", "r′")
-        return f"""pub {name} : Told view{self.camel}
-{name} {self.took_case()} {self.took_case("′")} e = cc
+        refused, other = self.case("Refused", "r"), self.case("Refused", "r'")
+        return f"""pub {name} : Told {self.view}
+{name} {self.took_case()} {self.took_case("'")} e = cc
 {name} {self.took_case()} {refused} e = cc
 {name} {refused} {self.took_case()} e = cc
 {name} {refused} {other} e = cc"""
@@ -252,8 +267,8 @@ lost-{self.meaning} A = lost-at lost{self.camel}"""
     def good_head(self, value):
         """That every value of a kind with pieces is in range: if it lies inside, where that is needed."""
         m = self.meaning
-        inside = f" → {m} .held .inside s {value} ≡ true" if self.known.inside else ""
-        return f"pub {m}-good : ({value} : {self.type}) {{vs : List Val}} → Is {self.dashed}·.the-row {value} vs{inside} → {m} .codec .kind .Good ({m} .held .mean s {value})"
+        inside = f" → {m}.held.inside s {value} ≡ true" if self.known.inside else ""
+        return f"pub {self.head}-good : ({value} : {self.type}) {{vs : List Val}} → Is {self.dashed}·.the_row {value} vs{inside} → {m}.codec.kind.Good ({m}.held.mean s {value})"
 
     def good_value(self, field, value, inside):
         """That a field's value is in range; `inside` proves that it lies inside."""
@@ -270,40 +285,40 @@ lost-{self.meaning} A = lost-at lost{self.camel}"""
         return " ".join(dict.fromkeys(field.piece.held for field in fields if field and field.piece))
 
     def small_law(self):
-        m = self.meaning
-        return f"pub {m}-small : (v : {self.type}) → length ({m} .kind .write v) ≤ most\n{m}-small v = omega (arith, {m}-between v)"
+        law = self.head
+        return f"pub {law}-small : (v : {self.type}) → length ({self.meaning}.kind.write v) ≤ most\n{law}-small v = omega (arith, {law}-between v)"
 
     def most_law(self, size):
         """Its size in a sum."""
-        m = self.meaning
-        return f"pub {m}-most : (n : ℕ) (x : {self.type}) → n ≡ {size} x → n ≤ 4294967296\n{m}-most n x e = omega (arith, {m}-bound x)"
+        law = self.head
+        return f"pub {law}-most : (n : ℕ) (x : {self.type}) → n ≡ {size} x → n ≤ 4294967296\n{law}-most n x e = omega (arith, {law}-bound x)"
 
     # ------------------------------------------------ the proofs that all have
 
     def common_proofs(self):
         proofs = self.public_proofs() if self.public else {}
         if self.known.fixed:
-            proofs[f"{self.code_type}/size"] = Proof([f"(λ c. of-size {self.meaning}-fixed)"], name="size")
+            proofs[f"{self.code_type}/size"] = Proof([f"(λ c. of_size {self.head}-fixed)"], name="size")
         return proofs
 
     def public_proofs(self):
         proofs = {f"read_{self.name}": Proof("tie.spec " + " ".join(["(search reads)"] * 4 + ["(λ c. search reads)"] * 2))}
-        m, good = self.meaning, self.known.good
+        m, law, good = self.meaning, self.head, self.known.good
         if not self.known.codec:
-            law = "write-in" if self.known.inside else "write-on"
+            how = "write-in" if self.known.inside else "write-on"
             proofs[f"write_{self.name}"] = Proof(
-                needs(5) + [f"(λ c. search (write-off {m}-writer))"] + [f"(λ c. search (write-place {m}-writer))"] * 2 + needs(3)
-                + [f"(λ c. search ({law} {m}-writer, {good}))"]
+                rules(5) + [f"(λ c. search (write-off {law}-writer))"] + [f"(λ c. search (write-place {law}-writer))"] * 2 + rules(3)
+                + [f"(λ c. search ({how} {law}-writer, {good}))"]
             )  # fmt: skip
         elif self.known.fixed:
             proofs[f"write_{self.name}"] = Proof(
-                needs(3) + [f"(λ c. search (needs, fixed-off {m}-fixed))"] + ["(λ c. search rooms)"] * 2 + needs(3)
-                + [f"(λ c. search (needs, fixed-on {m}-fixed, {good}))"]
+                rules(3) + [f"(λ c. search (rules, fixed_off {law}-fixed))"] + ["(λ c. search rooms)"] * 2 + rules(3)
+                + [f"(λ c. search (rules, fixed_on {law}-fixed, {good}))"]
             )  # fmt: skip
         else:
             proofs[f"write_{self.name}"] = Proof(
-                needs(4) + [f"(λ c. search (plain-off {m} {m}-small))"] + ["(λ c. search rooms)"] * 2 + needs(3)
-                + [f"(λ c. search (plain-on {m} {m}-small, {good}))"]
+                rules(4) + [f"(λ c. search (plain-off {m} {law}-small))"] + ["(λ c. search rooms)"] * 2 + rules(3)
+                + [f"(λ c. search (plain-on {m} {law}-small, {good}))"]
             )  # fmt: skip
         return proofs
 
@@ -311,15 +326,38 @@ lost-{self.meaning} A = lost-at lost{self.camel}"""
 class Proof:
     """The proof of one function: what answers each need, in the order of the code."""
 
+    file = "Proof.antt"
+
     def __init__(self, answers, unfolding="", name=""):
         self.answers = answers if isinstance(answers, str) else "tie.spec " + " ".join(answers)
         self.unfolding = unfolding
         self.name = name
 
     def text(self, function, module, words):
-        name = self.name or function.split("/")[-1].replace("_", "-")
+        name = self.name or function.split("/")[-1]
         unfolding = f"unfolding {self.unfolding}\n" if self.unfolding else ""
-        body = f"pub {name}-spec : {{M : Type 1}} → statement M\n{unfolding}{name}-spec = tie.close ({self.answers})\n"
-        lines = words.spec_lines(unfolding + self.answers)
+        body = f"pub {name}_spec : {{M : Type 1}} → statement M\n{unfolding}{name}_spec = tie.close ({self.answers})\n"
+        lines = words.spec_lines(unfolding + self.answers, proofs=True)
         lines += [f"use {module}.Statement.{{statement}}", f"use {module}.Tie as tie"]
         return "\n".join(lines) + "\n\n" + body
+
+
+class Answers:
+    """What answers the goals of one function that are not answered by themselves."""
+
+    file = "Answers.antt"
+
+    def __init__(self, answers, unfolding=""):
+        self.answers = answers  # by the names of the goals
+        self.unfolding = unfolding
+
+    def text(self, function, module, words):
+        unfolding = f"unfolding {self.unfolding}\n" if self.unfolding else ""
+        lines = words.spec_lines(" ".join([unfolding, *self.answers.values()])) + [f"use {module}.Goals as goal"]
+        answers = [f"pub {goal} : goal.{goal}\n{unfolding}{goal} c = {answer}\n" for goal, answer in self.answers.items()]
+        return "\n".join(lines) + "\n\n" + "\n".join(answers)
+
+
+def goals_in_order(count):
+    """The goals of a function that takes so many parts one after another: that of each early return, and that of the last."""
+    return ["returns-in_default", *(f"returns-in_default-r{at}" for at in range(2, count + 1)), "returns"]

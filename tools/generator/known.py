@@ -9,7 +9,7 @@ RESERVED = {"abbrev", "as", "data", "in", "let", "mod", "module", "pub", "record
 
 def escaped(name):
     """A name of the code, as the specifications write it."""
-    return f"«{name}»" if "_" in name or name in RESERVED else name
+    return f"«{name}»" if name in RESERVED else name
 
 
 def bracket(text):
@@ -29,6 +29,11 @@ def bracketed(text):
 
 def camel(name):
     return "".join(part[:1].upper() + part[1:] for part in re.split("[_-]", name))
+
+
+def law_head(meaning):
+    """How the names of a meaning's laws begin: those of nfs_fh with `nfs-fh`."""
+    return meaning.replace("_", "-")
 
 
 def stem(name):
@@ -52,8 +57,8 @@ class Held:
 
 
 PIECES = {
-    "opaque": Held("opaque_size", "inside", "isInside", "pieceHeld", "bytes-writer", "size-small", "", "opaque-within", "bytes-marked"),
-    "words": Held("words_size", "words_inside", "areInside", "wordsHeld", "words-writer", "words-small", "by-words", "words-within", "words-marked"),
+    "opaque": Held("opaque_size", "inside", "is_inside", "piece_held", "bytes-writer", "size_small", "", "opaque-within", "bytes-marked"),
+    "words": Held("words_size", "words_inside", "are_inside", "words_held", "words-writer", "words_small", "by-words", "words-within", "words-marked"),
 }
 
 
@@ -83,6 +88,10 @@ class Known:
         return PIECES.get(self.name)
 
     @property
+    def head(self):
+        return law_head(self.meaning)
+
+    @property
     def format(self):
         return f"exactly {self.meaning}" if self.codec else self.meaning
 
@@ -94,10 +103,10 @@ class Known:
     def writer(self):
         """The law that says how many bytes are written."""
         if self.fixed:
-            return f"(fixed-writer {self.meaning}-fixed)"
+            return f"(fixed-writer {self.head}-fixed)"
         if self.codec:
             return f"(codec-writer {self.meaning})"
-        return self.piece.writer if self.piece else f"{self.meaning}-writer"
+        return self.piece.writer if self.piece else f"{self.head}-writer"
 
     @property
     def bound(self):
@@ -106,37 +115,37 @@ class Known:
             return ""
         if self.piece:
             return self.piece.sum
-        return f"{self.meaning}-small" if self.codec else f"{self.meaning}-most"
+        return f"{self.head}-small" if self.codec else f"{self.head}-most"
 
     @property
     def steps(self):
         """The steps of a plan; those of items are in the plans' own rule set."""
-        return () if self.name in ITEMS else (f"step-{self.meaning}", f"lost-{self.meaning}")
+        return () if self.name in ITEMS else (f"step-{self.head}", f"lost-{self.head}")
 
     @property
     def within(self):
-        return self.piece.within if self.piece else f"{self.meaning}-within"
+        return self.piece.within if self.piece else f"{self.head}-within"
 
     @property
     def marked(self):
         """What its marks tell: a codec has no padding."""
         if self.codec:
             return f"plain-marked {self.unpadded}"
-        return self.piece.marked if self.piece else f"{self.meaning}-marked"
+        return self.piece.marked if self.piece else f"{self.head}-marked"
 
     @property
     def unpadded(self):
-        return f"{self.meaning}-unpadded"
+        return f"{self.head}-unpadded"
 
     def small(self, value):
         """The law that the size of a value is no large number, if it varies."""
         if self.piece:
-            return f"{self.piece.small} ({value} .count)"
-        return f"{self.meaning}-{'between' if self.codec else 'bound'} {bracket(value)}"
+            return f"{self.piece.small} {value}.count"
+        return f"{self.head}-{'between' if self.codec else 'bound'} {value}"
 
     def lies(self, value):
         """Whether the pieces of a value lie inside the source s, in the specifications."""
-        return f"{self.piece.lies if self.piece else f'{self.meaning} .held .inside'} s {bracket(value)}"
+        return f"{self.piece.lies if self.piece else f'{self.meaning}.held.inside'} s {value}"
 
     def size_of(self, value):
         """The code that says how many bytes a value has."""
@@ -154,11 +163,11 @@ class Known:
 
 
 ITEMS = {
-    "u32": Known("u32", "u32", "U32Read", False, True, "word", "ℕ", "ℕ", 4, "word-good"),
+    "u32": Known("u32", "u32", "U32Read", False, True, "word", "ℕ", "ℕ", 4, "word_good"),
     "u64": Known("u64", "u64", "U64Read", False, True, "hyper", "ℕ", "ℕ", 8, "hyper-good"),
     "bool": Known("bool", "bool", "BoolRead", True, True, "flag", "Bool", "Bool", 4, "flag-good"),
-    "opaque": Known("opaque", "Piece", "PieceRead", True, False, "bytes", "List ℕ", "Piece", 0, "piece-good", 4, 1 << 21, paths=((),), seen=("pieceHeld",)),
-    "words": Known("words", "Piece", "PieceRead", True, False, "wordList", "List ℕ", "Piece", 0, "words-good", 4, 1 << 23, inside=True, paths=((),), seen=("wordsHeld",)),
+    "opaque": Known("opaque", "Piece", "PieceRead", True, False, "bytes", "List ℕ", "Piece", 0, "piece-good", 4, 1 << 21, paths=((),), seen=("piece_held",)),
+    "words": Known("words", "Piece", "PieceRead", True, False, "word_list", "List ℕ", "Piece", 0, "words-good", 4, 1 << 23, inside=True, paths=((),), seen=("words_held",)),
 }
 
 OPAQUE = ITEMS["opaque"]
@@ -166,61 +175,80 @@ OPAQUE = ITEMS["opaque"]
 # Read, written and proved as a hyper.
 VERIFIER = replace(ITEMS["u64"], defined="verifier")
 
-# Where the names stand that every text may use.
-XDR = "Rattle·xdr.specs."
-SPECS = {
-    "mathlib.Core.Path": "≡ refl sym ap ap₂ ∙",
-    "mathlib.Core.Bool": "Bool true false && and-true",
-    "mathlib.Core.Option": "Option none some",
-    "mathlib.Core.List": "List [] ∷",
-    "Prim.Native.Nat": "ℕ + ≤",
-    "native.Mathlib.Omega": "arith",
-    "lib.ListN": "length",
-    "mir.Val": "Val",
-    "denote.Laws": "Is",
-    "borrow.Author.Needs": "needs",
-    XDR + "Meaning.Answer": "Answer took refused most Written",
-    XDR + "Meaning.Bytes": "Bytes",
-    XDR + "Meaning.Kind": "Codec",
-    XDR + "Meaning.Combinators": "Seen means undeclared among",
-    XDR + "Meaning.Codecs": "⨾ mapped void",
-    XDR + "Meaning.Items": "word hyper verifier flag closed",
-    XDR + "Meaning.Format": "Format Renaming exactly ⨟ named optional flagged ifFormat",
-    XDR + "Meaning.Formats": "bytes pieceHeld wordList wordsHeld",
-    XDR + "Meaning.Cases": "Cases maybe maybeHeld caseNames",
-    XDR + "Meaning.Status": "Status Result ok failed Arms onStatus",
-    XDR + "Meaning.Programs": "Procedure procedure AnswersFor AnswersBy",
-    XDR + "Meaning.Pieces": "isInside sizeUpTo areInside",
-    XDR + "Meaning.Sizes": "OfSize",
-    XDR + "Meaning.Public": "Answers Writes output laid laidOf",
-    XDR + "Meaning.Marks": "Marked MarksAre",
-    XDR + "Meaning.Views": "viewWrote viewMarks",
-    XDR + "Laws.Padding": "size-small words-small",
-    XDR + "Laws.Marks": "and-left and-right",
-    XDR + "Laws.Pieces": "piece-good",
-    XDR + "Laws.Words": "words-good",
-    XDR + "Laws.Ranges": "word-good hyper-good flag-good",
-    XDR + "Laws.Closed": "by-number",
-    XDR + "Laws.Fixed": "Fixed word-fixed hyper-fixed flag-fixed pair-fixed seen-fixed of-size",
-    XDR + "Laws.One": "Told",
-    XDR + "Laws.Plans": "Planned planned plan at then next Step Loses step lost-at asks optionally reads run",
-    XDR + "Laws.Records": "ByPlan by-plan fields one",
-    XDR + "Laws.Tags": "tag-lost tag-none tag-is",
-    XDR + "Laws.Numbers": "found-at found-none numbered",
-    XDR + "Laws.Lengths": "Within void-within chain-within pair-within view-within mapped-within closed-within no-default word-within hyper-within flag-within opaque-within words-within",
-    XDR + "Laws.Write": "Ready of-long",
-    XDR + "Laws.Writers": "Writer bytes-writer words-writer put-outside put-short write-off write-place write-on write-in plain-off plain-on",
-    XDR + "Laws.Lays": "sums by-words lays rooms size-is fixed-off fixed-on",
-    XDR + "Laws.Fields": "fixed-writer codec-writer pair-writer pair-sized named-sized Lays lays-of lays-codec lays-none lays-both lays-named lays-all lays-plain marked",
-    XDR + "Laws.Optional": "Between maybe-plan maybe-between maybe-within held-within Optional OptionalHeld lays-void lays-value none-bytes none-size some-word some-hyper some-size option-writer optionSize void-inside value-inside held-void held-value held-sized void-size value-size void-marks value-marks",
-    XDR + "Laws.Status": "OnStatus ok-inside failed-inside alone-inside ok-marks failed-marks alone-marks ok-lays failed-lays alone-lays resultSize status-sized ok-size failed-size alone-size ok-fixed failed-fixed status-within armBy status-lost status-took",
-    XDR + "Laws.Unpadded": "Unpadded void-unpadded pair-unpadded view-unpadded closed-unpadded option-unpadded word-unpadded hyper-unpadded flag-unpadded no-marks",
-    XDR + "Laws.Marked": "plain-marked pair-marked named-marked maybe-marked status-marked bytes-marked words-marked piece-marks words-marks",
-    XDR + "Laws.Programs": "for-lost for-took by-procedure by-none",
-    "Rattle·nfsattr.specs.Laws.Status": "nfsstat-lost nfsstat-took",
-    XDR + "declared.piece.Piece": "Piece",
-    XDR + "declared.refusal.Refusal": "Refusal",
-    XDR + "declared.refusal.Refusal.the-variants": "PastEnd",
+# Where the names stand that every text may use, in the order of a file's `use` lines. IN_PROOFS has where those of the library
+# stand that a proof uses which walks the code.
+XDR = "Rattle.xdr.specs."
+PRELUDE = "Rattle.std.specs.Prelude"
+COMMON = "Rattle.std.proofs.Common"
+SPECS = (
+    (PRELUDE, "≡ refl"),
+    (COMMON, "sym ap ap₂ ∙"),
+    (PRELUDE, "Bool true false &&"),
+    ("Rattle.std.proofs.Math.Bool", "and-true"),
+    ("Rattle.std.proofs.Math.Option", "Option none some"),
+    (PRELUDE, "List [] ∷"),
+    (PRELUDE, "ℕ + ≤"),
+    (COMMON, "arith"),
+    (PRELUDE, "length"),
+    ("mir.Val", "Val"),
+    ("denote.Laws", "Is"),
+    (COMMON, "rules"),
+    (XDR + "Meaning.Answer", "Answer took refused most Written"),
+    (XDR + "Meaning.Bytes", "Bytes"),
+    (XDR + "Meaning.Kind", "Codec"),
+    (XDR + "Meaning.Combinators", "Seen means undeclared among"),
+    (XDR + "Meaning.Codecs", "⨾ mapped void"),
+    (XDR + "Meaning.Items", "word hyper verifier flag closed"),
+    (XDR + "Meaning.Format", "Format Renaming exactly ⨟ named optional flagged if_format"),
+    (XDR + "Meaning.Formats", "bytes piece_held word_list words_held"),
+    (XDR + "Meaning.Cases", "Cases maybe maybe_held case_names"),
+    (XDR + "Meaning.Status", "Status Result ok failed Arms on_status"),
+    (XDR + "Meaning.Programs", "Procedure procedure AnswersFor AnswersBy"),
+    (XDR + "Meaning.Pieces", "is_inside size_up_to are_inside"),
+    (XDR + "Meaning.Sizes", "OfSize"),
+    (XDR + "Meaning.Public", "Answers Writes output laid laid_of"),
+    (XDR + "Meaning.Marks", "Marked MarksAre"),
+    (XDR + "Meaning.Views", "view_wrote view_marks"),
+    (XDR + "Laws.Padding", "size_small words_small"),
+    (XDR + "Laws.Marks", "and_left and_right"),
+    (XDR + "Laws.Pieces", "piece-good"),
+    (XDR + "Laws.Words", "words-good"),
+    (XDR + "Laws.Ranges", "word_good hyper-good flag-good"),
+    (XDR + "Laws.Closed", "by_number"),
+    (XDR + "Laws.Fixed", "Fixed word-fixed hyper-fixed flag-fixed pair-fixed seen-fixed of_size"),
+    (XDR + "Laws.One", "Told"),
+    (XDR + "Laws.Plans", "Planned planned plan at then next Step Loses step lost-at asks optionally reads run"),
+    (XDR + "Laws.Records", "ByPlan by-plan fields one"),
+    (XDR + "Laws.Tags", "tag-lost tag-none tag_is"),
+    (XDR + "Laws.Numbers", "found_at found_none numbered"),
+    (XDR + "Laws.Lengths", "Within void-within chain-within pair-within view-within mapped-within closed-within no_default word-within hyper-within flag-within opaque-within words-within"),
+    (XDR + "Laws.Write", "Ready of-long"),
+    (XDR + "Laws.Writers", "Writer bytes-writer words-writer put-outside put-short write-off write-place write-on write-in plain-off plain-on"),
+    (XDR + "Laws.Lays", "sums by-words lays rooms size_is fixed_off fixed_on"),
+    (XDR + "Laws.Fields", "fixed-writer codec-writer pair-writer pair-sized named-sized Lays lays-of lays-codec lays-none lays-both lays-named lays_all lays-plain marked"),
+    (XDR + "Laws.Optional", "Between maybe-plan maybe-between maybe-within held-within Optional OptionalHeld lays-void lays-value none-bytes none-size some_word some-hyper some_size option-writer option_size void-inside value-inside held-void held-value held-sized void-size value-size void-marks value-marks"),
+    (XDR + "Laws.Status", "OnStatus ok-inside failed-inside alone-inside ok-marks failed-marks alone-marks ok-lays failed-lays alone-lays result_size status-sized ok-size failed-size alone-size ok-fixed failed-fixed status-within arm_by status-lost status-took"),
+    (XDR + "Laws.Unpadded", "Unpadded void-unpadded pair-unpadded view-unpadded closed-unpadded option-unpadded word-unpadded hyper-unpadded flag-unpadded no-marks"),
+    (XDR + "Laws.Marked", "plain-marked pair-marked named-marked maybe-marked status-marked bytes-marked words-marked piece-marks words-marks"),
+    (XDR + "Laws.Programs", "for-lost for-took by-procedure by-none"),
+    ("Rattle.nfsattr.specs.Laws.Status", "nfsstat-lost nfsstat-took"),
+    (XDR + "declared.piece.Piece", "Piece"),
+    (XDR + "declared.refusal.Refusal", "Refusal"),
+    (XDR + "declared.refusal.Refusal.TheVariants", "PastEnd"),
+)
+IN_PROOFS = {
+    name: module
+    for module, names in (
+        ("mathlib.Core.Path", "≡ refl sym ap ap₂ ∙"),
+        ("mathlib.Core.Bool", "Bool true false && and-true"),
+        ("mathlib.Core.Option", "Option none some"),
+        ("mathlib.Core.List", "List [] ∷"),
+        ("Prim.Native.Nat", "ℕ + ≤"),
+        ("native.Mathlib.Omega", "arith"),
+        ("lib.ListN", "length"),
+        ("borrow.Author.Rules", "rules"),
+    )
+    for name in names.split()
 }
 CODE = {
     "xdr": "MOST Marks Piece PieceRead BoolRead U32Read U64Read Refusal Wrote inside words_inside write_u32",
@@ -233,36 +261,37 @@ class Words:
     """The names that are declared somewhere, and the lines that bring them."""
 
     def __init__(self):
-        self.specs = {name: module for module, names in SPECS.items() for name in names.split()}
+        self.specs = {name: module for module, names in SPECS for name in names.split()}
         self.code = {name: f"{path}::{name}" for path, names in CODE.items() for name in names.split()}
 
-    def spec_lines(self, text, own=(), ghost=False):
+    def spec_lines(self, text, own=(), ghost=False, proofs=False):
         """`use` lines for the names of a text, in the order of the list above, and then of the crates."""
+        used = [name for name in spec_names(text) if name in self.specs and name not in own and not (ghost and name in PARAMETERS)]
+        order = {name: at for at, (_, names) in enumerate(SPECS) for name in names.split()}
+        used.sort(key=lambda name: (order.get(name, len(SPECS)), "" if name in order else self.specs[name]))
         found = {}
-        for name in spec_names(text):
-            if name in self.specs and name not in own and not (ghost and name in PARAMETERS):
-                found.setdefault(self.specs[name], []).append(operator(name))
-        order = list(SPECS)
-        modules = sorted(found, key=lambda module: (order.index(module) if module in order else len(order), module))
+        for name in used:
+            module = IN_PROOFS.get(name, self.specs[name]) if proofs else self.specs[name]
+            found.setdefault(module, []).append(operator(name))
         start, end = ("ghost use ", ";") if ghost else ("use ", "")
-        return [f"{start}{module}.{{{', '.join(found[module])}}}{end}" for module in modules]
+        return [f"{start}{module}.{{{', '.join(names)}}}{end}" for module, names in found.items()]
 
-    def code_lines(self, text, own=()):
-        names = [name for name in dict.fromkeys(re.findall(r"[A-Za-z_]\w*", text)) if name in self.code and name not in own]
-        return sorted(f"use {self.code[name]};" for name in names)
+    def code_paths(self, text, own=()):
+        """The paths of the names of a text of code."""
+        return {self.code[name] for name in re.findall(r"[A-Za-z_]\w*", text) if name in self.code and name not in own}
 
 
 # What the contracts call the parameters of a function.
-PARAMETERS = {"at", "out", "procedure", "src", "self", "f", "r", "v", "x"}
+PARAMETERS = {"at", "out", "procedure", "src", "self", "f", "v", "x", "result"}
 
 
 def operator(name):
-    return f"_{name}_" if name in {"≡", "∙", "&&", "∷", "+", "≤", "⨾", "⨟", "then", "next"} else name
+    return f"◌{name}◌" if name in {"≡", "∙", "&&", "∷", "+", "≤", "⨾", "⨟", "then", "next"} else name
 
 
 def spec_names(text):
     """The names that a text of the specifications uses, in order: not the fields and cases that stand behind a dot, or are set."""
     text = re.sub(r"--.*", "", text)
-    text = re.sub(r"([{;]\s*)[«\w′·-]+»?(?= = )", r"\1", text)
-    text = re.sub(r"\.(?=[«\w])[«\w′·-]+»?", " ", text)
+    text = re.sub(r"([{;]\s*)[«\w'·-]+»?(?= = )", r"\1", text)
+    text = re.sub(r"\.(?=[«\w])[«\w'·-]+»?", " ", text)
     return list(dict.fromkeys(re.findall(r"[^\s(){};,.]+", text)))

@@ -10,6 +10,7 @@ import textwrap
 from generator.crates import Crates
 from generator.known import stem
 from generator.language import read_topic
+from generator.layout import call, in_order, signature, use_lines
 from generator.table import MOST_PIECES, Trouble, read_pieces, read_table, read_text
 
 HEADER = "made by tools/generate from kinds.txt"
@@ -31,7 +32,7 @@ BY_ZERO = {"bool", "msg_type", "reply_stat", "reject_stat"}
 BY_LIST = {"exports"}
 
 # What else a reading unfolds, besides what the modules of the meanings declare.
-UNFOLDED = ("opened", "partOf", "wordsPartOf")
+UNFOLDED = ("opened", "part_of", "words_part_of")
 
 # What the C header says of a kind, with the blanks before it.
 NOTES = {
@@ -45,9 +46,9 @@ C_HEADER = "include/yugerzat.h"
 # What every copier takes.
 PARAMETERS = ("src: &[u8]", "at: usize", "out: &mut [u8]", "start: usize")
 
-EXACTLY = "Rattle·xdr.specs.Meaning.Format.{exactly}"
+EXACTLY = "Rattle.xdr.specs.Meaning.Format.{exactly}"
 
-# No rewriting is longer than the larger of this and the bytes read (`every-length`).
+# No rewriting is longer than the larger of this and the bytes read (`every_length`).
 LONGEST = 40
 
 
@@ -118,16 +119,6 @@ def camel_case(name):
     return "".join(part[:1].upper() + part[1:] for part in name.split("_"))
 
 
-def sorted_paths(paths):
-    """In the order of `rt fmt`: _ before digits before letters, and numbers by their size."""
-
-    def part_key(part):
-        signs = re.findall(r"\d+|\D", part)
-        return [(0, 0) if sign == "_" else (1, int(sign)) if sign.isdigit() else (2, ord(sign)) for sign in signs]
-
-    return sorted(paths, key=lambda path: [part_key(part) for part in path.split("::")])
-
-
 def uses(names, order):
     """MODULE.{NAME, ..} for each module of the names: crate by crate, and else as they come first."""
     modules = {}
@@ -153,29 +144,29 @@ def definition(*parts):
 
 def has_pieces(fact):
     """Whether what the code holds has pieces, or its type a case that has: it then says which marks it has."""
-    return not fact.kind.exact and fact.kind.meaning != "eightBytes"
+    return not fact.kind.exact and fact.kind.meaning != "eight_bytes"
 
 
 def copier_file(comment, facts, order):
     ghosts = [EXACTLY] if any(fact.kind.exact for fact in facts) else []
     ghosts += uses([fact.meaning for fact in facts], order)
-    ghosts.append("Rattle·door·specs.specs.Meaning.Copy.{viewCopied, Copies}")
+    ghosts.append("Rattle.door.specs.Meaning.Copy.{view_copied, Copies}")
     items = ["crate::copy::Copied", "crate::copy::copied_to", "crate::copy::write_span"] + [f"{fact.answer_crate}::{fact.answer}" for fact in facts]
     items += [] if all(map(has_pieces, facts)) else ["xdr::Marks"]
     return lines(
         f"// {HEADER}",
         f"// {comment}",
         *(f"ghost use {ghost};" for ghost in ghosts),
-        *(f"use {item};" for item in sorted_paths(set(items))),
+        "",
+        *use_lines(items),
     ) + "".join("\n" + copier(fact) for fact in facts)
 
 
 def copier(fact):
     name = fact.kind.name
     return lines(
-        *signature(f"pub(crate) fn copy_{name}", PARAMETERS),
-        f"    ensures {{ λ r. ⌜ Copies {fact.kind.format} (now (src .entry)) at start (now (out .entry)) (viewCopied r)"
-        " (now (out .exit)) ⌝ }",
+        *signature(f"pub(crate) fn copy_{name}", PARAMETERS, " -> Copied"),
+        f"    ensures {{ Copies {fact.kind.format} src.now at start out.old (view_copied result) out.new }}",
         "{",
         f"    match {fact.called}::read_{name}(src, at) {{",
         f"        {fact.answer}::Refused(r) => Copied::Unread(r),",
@@ -183,21 +174,6 @@ def copier(fact):
         "    }",
         "}",
     )
-
-
-def signature(head, parameters):
-    line = f"{head}({', '.join(parameters)}) -> Copied"
-    if len(line) <= 100:
-        return [line]
-    return [f"{head}(", *(f"    {parameter}," for parameter in parameters), ") -> Copied"]
-
-
-def call(indent, head, arguments, end):
-    """A call. `rt fmt` breaks a line over 100 signs, and a call with over 60 of arguments."""
-    joined = ", ".join(arguments)
-    if len(joined) <= 60 and len(f"{indent}{head}({joined}){end}") <= 100:
-        return [f"{indent}{head}({joined}){end}"]
-    return [f"{indent}{head}(", *(f"{indent}    {argument}," for argument in arguments), f"{indent}){end}"]
 
 
 def took(fact):
@@ -227,7 +203,7 @@ def span_law(fact):
     """The law that the bytes of what was plain are the copy, what the proof is to search with, and what that takes from elsewhere."""
     kind, view = fact.kind, fact.view.name
     if kind.exact:
-        none = "Rattle·xdr.specs.Laws.Unpadded.{no-marks}"
+        none = "Rattle.xdr.specs.Laws.Unpadded.{no-marks}"
         return "bare-read", f"(bare-read {kind.format} (no-marks {kind.meaning}) {view})", [none]
     if not has_pieces(fact):
         return "bare-read", f"(bare-read {kind.format} eight-marks {view})", []
@@ -244,7 +220,7 @@ def written_law(fact):
         return "plain-read", f"(plain-read {meaning} {view})"
     if fact.bounded:
         return "bounded-read", f"(bounded-read {fact.bounded.name} {view}{marks})"
-    return "was-read", f"(was-read {meaning} {view}{marks})"
+    return "was_read", f"(was_read {meaning} {view}{marks})"
 
 
 def copier_proof(file, fact):
@@ -253,30 +229,30 @@ def copier_proof(file, fact):
     law, given = written_law(fact)
     span, stood, taken = span_law(fact)
     copy = ["not-read", law] if fact.plain else ["not-read"]
-    spans = sorted(["span-in", span] + (["eight-marks"] if kind.meaning == "eightBytes" else []))
-    imports = ["borrow.Author.Needs.{needs}", f"{fact.meaning.module}.{{{kind.meaning}}}"]
+    spans = sorted(["span-in", span] + (["eight-marks"] if kind.meaning == "eight_bytes" else []))
+    imports = ["borrow.Author.Rules.{rules}", f"{fact.meaning.module}.{{{kind.meaning}}}"]
     imports += [EXACTLY] if kind.exact else []
     imports.append(f"{fact.view.module}.{{{view}}}")
     imports += [f"{fact.bounded.module}.{{{fact.bounded.name}}}"] if fact.bounded and fact.plain else []
     imports += taken
-    imports.append(f"Rattle·door·specs.specs.Laws.Copy.{{{', '.join(copy)}}}")
-    imports.append(f"Rattle·door·specs.specs.Laws.Span.{{{', '.join(spans)}}}")
-    needs = ["(search needs)"]
-    pieces = needs if has_pieces(fact) else []
+    imports.append(f"Rattle.door.specs.Laws.Copy.{{{', '.join(copy)}}}")
+    imports.append(f"Rattle.door.specs.Laws.Span.{{{', '.join(spans)}}}")
+    rules = ["(search rules)"]
+    pieces = rules if has_pieces(fact) else []
     inside = [f"(λ c κs. search (span-in {kind.format} {view}))"]
     refused = [f"(λ c. search (not-read {kind.format} {view}))"]
     plain, anew = [f"(λ c. search {stood})"], [f"(λ c. search {given})"]
     if fact.plain:
-        answers = [*pieces, *inside, *needs * 2, *plain, *pieces, *needs * 2, *refused, *needs, *anew]
+        answers = [*pieces, *inside, *rules * 2, *plain, *pieces, *rules * 2, *refused, *rules, *anew]
     else:
-        answers = [*pieces, *inside, *needs, *refused, *needs, *plain]
-    return proof(file, f"copy_{kind.name}", imports, [f"tie.close (tie.spec {' '.join(needs * 3 + answers)})"])
+        answers = [*pieces, *inside, *rules, *refused, *rules, *plain]
+    return proof(file, f"copy_{kind.name}", imports, [f"tie.close (tie.spec {' '.join(rules * 3 + answers)})"])
 
 
 def proof(file, function, imports, term, laws=()):
     """A proof file: its imports, its laws, and the term of its statement, which stands in one line or below its name."""
-    module = f"Rattle·door·proofs.proofs.{file}.{function}"
-    spec = f"{with_dashes(function)}-spec"
+    module = f"Rattle.door.proofs.{file}.{function}"
+    spec = f"{function}_spec"
     return lines(
         f"-- {HEADER}",
         *(f"use {name}" for name in imports),
@@ -290,7 +266,7 @@ def proof(file, function, imports, term, laws=()):
 
 
 def modules():
-    return lines(*(f"mod {name};" for name in sorted_paths([file for file, _, _ in COPIERS] + ["kinds"])))
+    return lines(*(f"mod {name};" for name in in_order([file for file, _, _ in COPIERS] + ["kinds"])))
 
 
 # ---------------------------------------------------------------- the exported functions of each kind
@@ -308,8 +284,8 @@ class Export:
         return f"yugerzat_{self.name}_{kind.name}"
 
     def promise(self, number):
-        out = ("(now (out .entry)) ", "(now (out .exit)) ") if self.out else ("", "")
-        return f"{self.called} {number} (now (src .entry)) at {out[0]}(now (info .entry)) r {out[1]}(now (info .exit))"
+        out = ("out.old ", "out.new ") if self.out else ("", "")
+        return f"{self.called} {number} src.now at {out[0]}info.old result {out[1]}info.new"
 
 
 EXPORTS = (
@@ -352,21 +328,16 @@ def export_file(export, kinds, copiers):
     return lines(
         f"// {HEADER}",
         f"// {export.comment}",
-        f"ghost use Rattle·door·specs.specs.Meaning.Exports.{{{export.called}}};",
-        *(f"use {item};" for item in sorted_paths(items)),
+        f"ghost use Rattle.door.specs.Meaning.Exports.{{{export.called}}};",
+        "",
+        *use_lines(items),
         *export_by_number(export, kinds),
         *(line for kind in kinds for line in export_function(export, kind, copiers[kind.name])),
     )
 
 
-def function_head(words, name, parameters):
-    head = f"{words} {name}({', '.join(parameters)}) -> u32"
-    broken = [f"{words} {name}(", *(f"    {parameter}," for parameter in parameters), ") -> u32"]
-    return [head] if len(head) <= 100 else broken
-
-
 def export_head(name, parameters):
-    return ["#[no_mangle]", *function_head('pub extern "C" fn', name, parameters)]
+    return ["#[unsafe(no_mangle)]", *signature(f'pub extern "C" fn {name}', parameters, " -> u32")]
 
 
 def by_number(export, kinds):
@@ -388,8 +359,8 @@ def export_by_number(export, kinds):
         made += [
             "",
             *(f"// {line}" for line in export.does if exported),
-            *(export_head(name, parameters) if exported else function_head("fn", name, parameters)),
-            f"    ensures {{ λ r. ⌜ {export.promise('kind')} ⌝ }}",
+            *(export_head(name, parameters) if exported else signature(f"fn {name}", parameters, " -> u32")),
+            f"    ensures {{ {export.promise('kind')} }}",
             "{",
             "    match kind {",
             *(f"        {kind.number} => {export.function(kind)}({', '.join(export.given)})," for kind in own),
@@ -402,12 +373,12 @@ def export_by_number(export, kinds):
 
 def export_number_proof(export, name, kinds):
     imports = [
-        "borrow.Author.Needs.{needs}",
-        f"Rattle·door·specs.specs.Laws.Exports.{{{export.name}-at}}",
+        "borrow.Author.Rules.{rules}",
+        f"Rattle.door.specs.Laws.Exports.{{{export.name}-at}}",
     ]
     arms = len(kinds) + 1
-    asked = ["(search needs)"] * arms
-    told = ["(search needs)"] * (2 if export.out else 1) + [f"(λ c. search {export.name}-at)"]
+    asked = ["(search rules)"] * arms
+    told = ["(search rules)"] * (2 if export.out else 1) + [f"(λ c. search {export.name}-at)"]
     return proof(export.name, name, imports, [f"tie.close (tie.spec {' '.join(asked + told * arms)})"])
 
 
@@ -426,7 +397,7 @@ def export_function(export, kind, copier):
     return [
         "",
         *export_head(export.function(kind), export.parameters),
-        f"    ensures {{ λ r. ⌜ {export.promise(kind.number)} ⌝ }}",
+        f"    ensures {{ {export.promise(kind.number)} }}",
         "{",
         *body,
         "}",
@@ -436,16 +407,16 @@ def export_function(export, kind, copier):
 def export_proof(export, kind):
     """That of the function that takes a number, at this one."""
     if (export.name, kind.name) in BY_HAND:
-        needs = ["(search needs)"] * (3 if export.out else 2)
-        return proof(export.name, export.function(kind), ["borrow.Author.Needs.{needs}"], [f"tie.close (tie.spec {' '.join(needs)} (λ c. search needs))"])
+        rules = ["(search rules)"] * (3 if export.out else 2)
+        return proof(export.name, export.function(kind), ["borrow.Author.Rules.{rules}"], [f"tie.close (tie.spec {' '.join(rules)} (λ c. search rules))"])
     imports = [
-        "borrow.Author.Needs.{needs}",
-        f"Rattle·door·specs.specs.Laws.Exports.{{{export.name}-short, {export.name}-told}}",
+        "borrow.Author.Rules.{rules}",
+        f"Rattle.door.specs.Laws.Exports.{{{export.name}-short, {export.name}-told}}",
     ]
-    short = f"(λ c. search ({export.name}-short, needs))"
-    told = f"(λ c. search ({export.name}-told {kind.number}, needs))"
-    needs = ["(search needs)"] * 4
-    return proof(export.name, export.function(kind), imports, [f"tie.close (tie.spec {' '.join([short, *needs, told])})"])
+    short = f"(λ c. search ({export.name}-short, rules))"
+    told = f"(λ c. search ({export.name}-told {kind.number}, rules))"
+    rules = ["(search rules)"] * 4
+    return proof(export.name, export.function(kind), imports, [f"tie.close (tie.spec {' '.join([short, *rules, told])})"])
 
 
 # ---------------------------------------------------------------- the kinds by their numbers
@@ -458,9 +429,10 @@ def kinds_file(kinds, groups, copiers):
     return lines(
         f"// {HEADER}",
         "// A message of a kind that is named by its number.",
-        "ghost use Rattle·door·specs.specs.Meaning.Copy.{viewCopied};",
-        f"ghost use Rattle·door·specs.specs.Meaning.Kinds.{{{lists}, kinds, CopiesOf, CopiesIn}};",
-        *(f"use {item};" for item in sorted_paths({"crate::copy::Copied", *called})),
+        "ghost use Rattle.door.specs.Meaning.Copy.{view_copied};",
+        f"ghost use Rattle.door.specs.Meaning.Kinds.{{{lists}, kinds, CopiesOf, CopiesIn}};",
+        "",
+        *use_lines({"crate::copy::Copied", *called}),
         *(line for group in groups for line in group_function(group, copiers)),
         "",
         *chooser(groups),
@@ -472,9 +444,8 @@ def group_function(group, copiers):
     return [
         "",
         f"// {group.comment[:1].upper()}{group.comment[1:]}.",
-        *signature(f"fn {group.function}", ("kind: u32", *PARAMETERS)),
-        f"    ensures {{ λ r. ⌜ CopiesIn {group.list} kind (now (src .entry)) at start (now (out .entry)) (viewCopied r)"
-        " (now (out .exit)) ⌝ }",
+        *signature(f"fn {group.function}", ("kind: u32", *PARAMETERS), " -> Copied"),
+        f"    ensures {{ CopiesIn {group.list} kind src.now at start out.old (view_copied result) out.new }}",
         "{",
         "    match kind {",
         *arms,
@@ -490,9 +461,8 @@ def chooser(groups):
         body += [f"    if kind < {following.first} {{", f"        return {group_call(group)};", "    }"]
     return [
         "// Reads a message of the kind from a place of one buffer and writes it, in published form, from a place of another.",
-        *signature("pub fn copy_kind", ("kind: u32", *PARAMETERS)),
-        "    ensures { λ r. ⌜ CopiesOf kinds kind (now (src .entry)) at start (now (out .entry)) (viewCopied r)"
-        " (now (out .exit)) ⌝ }",
+        *signature("pub fn copy_kind", ("kind: u32", *PARAMETERS), " -> Copied"),
+        "    ensures { CopiesOf kinds kind src.now at start out.old (view_copied result) out.new }",
         "{",
         *body,
         f"    {group_call(groups[-1])}",
@@ -508,10 +478,10 @@ def group_call(group):
 def group_proof(group):
     """A test for each arm, and the kind of each arm that is entered."""
     count = len(group.kinds)
-    tests = " ".join(["(search needs)"] * (count + 1))
-    arms = " (search needs) ".join(["(λ c. search of-kind)"] * count)
-    imports = ["borrow.Author.Needs.{needs}", "Rattle·door·specs.specs.Laws.Copy.{of-kind, no-kind}"]
-    return proof("kinds", group.function, imports, [f"tie.close (tie.spec {tests} {arms} (λ c. search no-kind))"])
+    tests = " ".join(["(search rules)"] * (count + 1))
+    arms = " (search rules) ".join(["(λ c. search of-kind)"] * count)
+    imports = ["borrow.Author.Rules.{rules}", "Rattle.door.specs.Laws.Copy.{of-kind, no_kind}"]
+    return proof("kinds", group.function, imports, [f"tie.close (tie.spec {tests} {arms} (λ c. search no_kind))"])
 
 
 def chooser_proof(groups):
@@ -521,7 +491,7 @@ def chooser_proof(groups):
     for at, group in enumerate(groups):
         name = "returns" if at == 0 else f"returns-{at + 1}"
         before, behind = joined(lists[:at]), joined(lists[at + 1 :])
-        given = f"(c .before .before .{with_dashes(group.function)} .ensures)"
+        given = f"c.before.before.{with_dashes(group.function)}.ensures"
         if at == 0:
             law = f"kind-first {group.list} {behind} {given} (omega arith)"
         elif at + 1 < len(groups):
@@ -531,15 +501,15 @@ def chooser_proof(groups):
         laws += [f"{name} : tie.Need-{name}", f"{name} c = {law}", ""]
         returns.append(name)
     imports = [
-        "borrow.Author.Needs.{needs}",
+        "borrow.Author.Rules.{rules}",
         "native.Mathlib.Omega.{arith}",
         "mathlib.Core.Path.{refl}",
-        "mathlib.Core.List.{_++_}",
-        f"Rattle·door·specs.specs.Meaning.Kinds.{{{', '.join(lists)}}}",
-        "Rattle·door·specs.specs.Laws.Copy.{kind-first, kind-amid, kind-last}",
+        "mathlib.Core.List.{◌++◌}",
+        f"Rattle.door.specs.Meaning.Kinds.{{{', '.join(lists)}}}",
+        "Rattle.door.specs.Laws.Copy.{kind-first, kind-amid, kind-last}",
     ]
-    needs = " ".join(f"(search needs) (search needs) {name}" for name in returns)
-    return proof("kinds", "copy_kind", imports, ["tie.close", "(tie.spec", f"{needs})"], laws)
+    answers = " ".join(f"(search rules) (search rules) {name}" for name in returns)
+    return proof("kinds", "copy_kind", imports, ["tie.close", "(tie.spec", f"{answers})"], laws)
 
 
 def joined(lists):
@@ -585,7 +555,7 @@ def worked_answers(facts, order):
     return [
         (path, "uses", lines(*(f"use {use}" for use in views + told + bounds))),
         (path, "readers", definition("abbrev pub readers : Readers kinds", "readers =", *chain("next", readers))),
-        (path, "every-within", definition("every-within : EachWithin kinds", "every-within =", *chain("also", lengths))),
+        (path, "every_within", definition("every_within : EachWithin kinds", "every_within =", *chain("also", lengths))),
     ]
 
 
@@ -594,7 +564,7 @@ def worked_marks(facts, order):
     entries = [f"plain-marked {fact.marked.name}" if fact.kind.exact else fact.marked.name for fact in facts] + ["tt"]
     return [
         (path, "uses", lines(*(f"use {use}" for use in uses([fact.marked for fact in facts], order)))),
-        (path, "every-marked", definition("every-marked : EachMarked kinds", "every-marked =", *chain("also", entries))),
+        (path, "every_marked", definition("every_marked : EachMarked kinds", "every_marked =", *chain("also", entries))),
     ]
 
 
@@ -611,8 +581,8 @@ def without_two(root):
 def sampled(name, by_zero):
     """The law that has two messages of a kind."""
     if name in BY_LIST:
-        return "by-list"
-    return "by-zero" if name in by_zero else "by-two"
+        return "by_list"
+    return "by_zero" if name in by_zero else "by_two"
 
 
 def worked_kinds(facts, order, by_zero):
@@ -623,11 +593,11 @@ def worked_kinds(facts, order, by_zero):
         (path, "meanings", lines(*(f"use {use}" for use in uses(unfoldable.values(), order)))),
         (
             path,
-            "every-kind",
+            "every_kind",
             definition(
-                "pub every-kind : Each kinds",
+                "pub every_kind : Each kinds",
                 f"unfolding {' '.join([*UNFOLDED, *unfoldable])}",
-                "every-kind =",
+                "every_kind =",
                 f"    {''.join(entries)}tt{')' * len(entries)}",
             ),
         ),

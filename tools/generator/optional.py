@@ -1,11 +1,11 @@
 """The text of a value that a flag says is there."""
 
-from generator.kind import NEEDS, Kind, Proof, bracket, lower, most_of, needs
+from generator.kind import COPIED, RULES, Kind, Proof, bracket, lower, most_of, rules
 from generator.known import OPAQUE, Known, escaped
 
 
 # A number is written in one step with its flag: by what, and the law of that.
-WITH_FLAG = {"u32": ("put_u32_pair", "some-word"), "u64": ("put_u32_u64", "some-hyper")}
+WITH_FLAG = {"u32": ("put_u32_pair", "some_word"), "u64": ("put_u32_u64", "some-hyper")}
 
 
 class Optional(Kind):
@@ -15,9 +15,9 @@ class Optional(Kind):
         self.value = declared.parts[0].name
         self.value_type = type
         message = self.type if field.codec else f"Option {bracket(field.message)}"
-        self.known = Known(self.name, self.code_type, self.answer, True, field.codec, meaning, message, self.type, 0, f"{meaning}-good", 4, 4 + most_of(field), inside=field.inside, paths=() if field.codec else None)
+        self.known = Known(self.name, self.code_type, self.answer, True, field.codec, meaning, message, self.type, 0, f"{self.head}-good", 4, 4 + most_of(field), inside=field.inside, paths=() if field.codec else None)
         self.variable = "v" if field.codec else "x"
-        self.cases = lower(meaning) + "Cases"
+        self.cases = f"{self.start}_cases"
         self.variants = f"{lower(meaning)}Is"
 
     def aliased(self):
@@ -36,7 +36,7 @@ class Optional(Kind):
 
     def enum_code(self):
         comment = f"// {self.declared.comment}\n" if self.declared.comment else ""
-        return f"{comment}pub enum {self.code_type} {{\n    Void,\n    {self.value}({self.value_type}),\n}}"
+        return f"{comment}{COPIED}pub enum {self.code_type} {{\n    Void,\n    {self.value}({self.value_type}),\n}}"
 
     def at_code(self):
         field = self.field
@@ -76,9 +76,9 @@ class Optional(Kind):
 
     def link_code(self):
         src = "" if self.known.codec else "src: &[u8], "
-        source = "[]" if self.known.codec else "(now (src .entry))"
+        source = "[]" if self.known.codec else "src.now"
         return f"""fn put_{self.name}_1({src}f: {self.value_type}, out: &mut [u8])
-    ensures {{ λ _. ⌜ Lays (exactly flag ⨟ {self.field.format}) {source} (true, f) (now (out .entry)) (now (out .exit)) ⌝ }}
+    ensures {{ Lays (exactly flag ⨟ {self.field.format}) {source} (true, f) out.old out.new }}
 {{
     if out.len() < 4 {{
         return;
@@ -96,103 +96,103 @@ class Optional(Kind):
 
     def meanings(self):
         m, T, held = self.meaning, self.type, self.field.held
-        start, name, case, variants = lower(m), escaped(self.value), f"{self.variants}.Void", self.variants
+        start, name, case, variants = self.start, escaped(self.value), f"{self.variants}.Void", self.variants
         some = f"({variants}.{name} f)"
         made = "Codec" if self.known.codec else f"Format (Option {bracket(self.field.message)})"
-        how = "maybe" if self.known.codec else "maybeHeld"
+        how = "maybe" if self.known.codec else "maybe_held"
         return [
-            f"-- {self.code_type}\nabbrev pub {start}To : Option {bracket(held)} → {T}\n{start}To none = {case}\n{start}To (some f) = {some[1:-1]}",
-            f"abbrev pub {start}From : {T} → Option {bracket(held)}\n{start}From {case} = none\n{start}From {some} = some f",
-            f"pub {m}-from-to : (x : Option {bracket(held)}) → {start}From ({start}To x) ≡ x\n{m}-from-to none = refl\n{m}-from-to (some f) = refl",
-            f"pub {m}-to-from : (y : {T}) → {start}To ({start}From y) ≡ y\n{m}-to-from {case} = refl\n{m}-to-from {some} = refl",
+            f"-- {self.code_type}\nabbrev pub {start}_to : Option {bracket(held)} → {T}\n{start}_to none = {case}\n{start}_to (some f) = {some[1:-1]}",
+            f"abbrev pub {start}_from : {T} → Option {bracket(held)}\n{start}_from {case} = none\n{start}_from {some} = some f",
+            f"pub {start}_from_to : (x : Option {bracket(held)}) → {start}_from ({start}_to x) ≡ x\n{start}_from_to none = refl\n{start}_from_to (some f) = refl",
+            f"pub {start}_to_from : (y : {T}) → {start}_to ({start}_from y) ≡ y\n{start}_to_from {case} = refl\n{start}_to_from {some} = refl",
             f"""abbrev pub {self.cases} : Cases {bracket(held)} {T}
-{self.cases} = record {{ to = {start}To; from = {start}From; from-to = {m}-from-to; to-from = {m}-to-from }}""",
+{self.cases} = record {{ to = {start}_to; from = {start}_from; from_to = {start}_from_to; to_from = {start}_to_from }}""",
             f"unfoldable pub {m} : {made} {T}\n{m} = {how} {self.field.meaning} {self.cases}",
             self.views(),
         ]
 
     def laws(self):
-        m, T, field = self.meaning, self.type, self.field
+        m, law, T, field = self.meaning, self.head, self.type, self.field
         if self.known.codec:
-            plan = f"-- {self.code_type}\nabbrev pub {m}-plan : ByPlan {m}\nunfolding {m}\n{m}-plan = maybe-plan {field.meaning} {self.cases}"
-            within = f"pub {m}-within : Within 0 ({m} .kind)\nunfolding {m}\n{m}-within = maybe-within {field.meaning} {self.cases} {field.within}"
+            plan = f"-- {self.code_type}\nabbrev pub {law}-plan : ByPlan {m}\nunfolding {m}\n{law}-plan = maybe-plan {field.meaning} {self.cases}"
+            within = f"pub {law}-within : Within 0 {m}.kind\nunfolding {m}\n{law}-within = maybe-within {field.meaning} {self.cases} {field.within}"
             own = [
-                f"pub {m}-optional : Optional {field.meaning} {self.cases} {m}\nunfolding {m}\n{m}-optional = record {{ is = refl }}",
-                f"""pub {m}-between : (v : {T}) → Between 4 {self.known.most} (length ({m} .kind .write v))
+                f"pub {law}-optional : Optional {field.meaning} {self.cases} {m}\nunfolding {m}\n{law}-optional = record {{ is = refl }}",
+                f"""pub {law}-between : (v : {T}) → Between 4 {self.known.most} (length ({m}.kind.write v))
 unfolding {m}
-{m}-between v = maybe-between {field.meaning} {self.cases} {field.meaning}-fixed v""",
+{law}-between v = maybe-between {field.meaning} {self.cases} {field.head}-fixed v""",
                 self.small_law(),
                 self.unpadded_law(f"view-unpadded (λ x. refl) (option-unpadded {field.meaning} {field.unpadded})"),
             ]
         else:
-            plan = f"-- {self.code_type}\nabbrev pub {m}-plan : Planned ({m} .held .read)\nunfolding {m}\n{m}-plan = plan (optionally (at {bracket(field.format)})) _"
-            within = f"""pub {m}-within : Within 0 ({m} .codec .kind)
+            plan = f"-- {self.code_type}\nabbrev pub {law}-plan : Planned {m}.held.read\nunfolding {m}\n{law}-plan = plan (optionally (at {bracket(field.format)})) _"
+            within = f"""pub {law}-within : Within 0 {m}.codec.kind
 unfolding {m}
-{m}-within = held-within {field.meaning} {self.cases} {field.within}"""
-            size = lower(m) + "Size"
+{law}-within = held-within {field.meaning} {self.cases} {field.within}"""
+            size = f"{self.start}_size"
             own = [
-                f"pub {m}-optional : OptionalHeld {field.meaning} {self.cases} {m}\nunfolding {m}\n{m}-optional = record {{ is = refl }}",
-                f"abbrev pub {size} : {T} → ℕ\n{size} x = optionSize {field.writer} ({lower(m)}From x)",
-                f"abbrev pub {m}-writer : Writer {m}\n{m}-writer = record {{ size = {size}; sized = held-sized {m}-optional {field.writer} }}",
-                f"""pub {m}-bound : (x : {T}) → {size} x ≤ {self.known.most}
-{m}-bound {self.variants}.Void = omega arith
-{m}-bound ({self.variants}.{escaped(self.value)} f) = omega (arith, {field.small("f")})""",
+                f"pub {law}-optional : OptionalHeld {field.meaning} {self.cases} {m}\nunfolding {m}\n{law}-optional = record {{ is = refl }}",
+                f"abbrev pub {size} : {T} → ℕ\n{size} x = option_size {field.writer} ({self.start}_from x)",
+                f"abbrev pub {law}-writer : Writer {m}\n{law}-writer = record {{ size = {size}; sized = held-sized {law}-optional {field.writer} }}",
+                f"""pub {law}-bound : (x : {T}) → {size} x ≤ {self.known.most}
+{law}-bound {self.variants}.Void = omega arith
+{law}-bound ({self.variants}.{escaped(self.value)} f) = omega (arith, {field.small("f")})""",
                 self.most_law(size),
                 self.marked_law(f"maybe-marked {bracket(field.format)} {bracket(field.marked)} {self.cases}"),
             ]
         return [plan, self.step_laws(), self.told_law(), within] + own
 
     def ranges(self):
-        m, T, field = self.meaning, self.type, self.field
+        m, law, T, field = self.meaning, self.head, self.type, self.field
         variants, value = self.variants, escaped(self.value)
         if self.known.codec:
-            return [f"""pub {m}-good : (m : {T}) {{vs : List Val}} → Is {self.dashed}·.the-row m vs → {m} .kind .Good m
+            return [f"""pub {law}-good : (m : {T}) {{vs : List Val}} → Is {self.dashed}·.the_row m vs → {m}.kind.Good m
 unfolding {m}
-{m}-good {variants}.Void p = search flag-good
-{m}-good ({variants}.{value} f) p = search (flag-good, {field.good})"""], []  # fmt: skip
+{law}-good {variants}.Void p = search flag-good
+{law}-good ({variants}.{value} f) p = search (flag-good, {field.good})"""], []  # fmt: skip
         i = " i" * field.inside
         return [], [f"""{self.good_head("m")}
 unfolding {m} {self.pieces(OPAQUE, field)}
-{m}-good {variants}.Void p{i} = (flag-good false, tt)
-{m}-good ({variants}.{value} f) p{i} = (flag-good true, {self.good_value(field, "f", "i")})"""]  # fmt: skip
+{law}-good {variants}.Void p{i} = (flag-good false, tt)
+{law}-good ({variants}.{value} f) p{i} = (flag-good true, {self.good_value(field, "f", "i")})"""]  # fmt: skip
 
     def proofs(self):
-        m, field = self.meaning, self.field
-        by = f"by-plan {m}-plan" if self.known.codec else f"planned {m}-plan"
+        m, law, field = self.meaning, self.head, self.field
+        by = f"by-plan {law}-plan" if self.known.codec else f"planned {law}-plan"
         one = f"(λ c. search ({', '.join([by, 'asks', 'marked', *field.steps])}) depth 20)"
-        proofs = {f"{self.name}_at": Proof(needs(4) + [one, one] + needs(4) + [one, one], unfolding=m)}
+        proofs = {f"{self.name}_at": Proof(rules(4) + [one, one] + rules(4) + [one, one], unfolding=m)}
         if self.number:
-            _, law = WITH_FLAG[field.name]
+            _, some = WITH_FLAG[field.name]
             proofs[f"{self.name}_size"] = Proof(
-                needs(2) + [f"(λ c. search (none-size {m}-optional))", f"(λ c. search (some-size {m}-optional {field.meaning}-fixed))"]
+                rules(2) + [f"(λ c. search (none-size {law}-optional))", f"(λ c. search (some_size {law}-optional {field.head}-fixed))"]
             )
             proofs[f"put_{self.name}"] = Proof(
-                needs(5) + [f"(λ c. search (lays, none-bytes {m}-optional))", NEEDS, f"(λ c. search (lays, {law} {m}-optional))"]
+                rules(5) + [f"(λ c. search (lays, none-bytes {law}-optional))", RULES, f"(λ c. search (lays, {some} {law}-optional))"]
             )
             return {**proofs, **self.common_proofs()}
         flag = "(fixed-writer flag-fixed)"
         proofs[f"put_{self.name}_1"] = Proof(
-            [f"(λ c. search (lays-none {flag} {field.writer}))"] + needs(9) + [f"(λ c. search (lays-both {flag} {field.writer}, lays-of, lays-codec))"]
+            [f"(λ c. search (lays-none {flag} {field.writer}))"] + rules(9) + [f"(λ c. search (lays-both {flag} {field.writer}, lays-of, lays-codec))"]
         )
         add = f"(λ c. search (sums, {field.bound}))" if field.bound else "(λ c. search sums)"
         if self.known.codec:
-            proofs[f"{self.name}_size"] = Proof(needs(3) + [f"(λ c. search (none-size {m}-optional))", f"(λ c. search (some-size {m}-optional {field.meaning}-fixed))"])
+            proofs[f"{self.name}_size"] = Proof(rules(3) + [f"(λ c. search (none-size {law}-optional))", f"(λ c. search (some_size {law}-optional {field.head}-fixed))"])
             proofs[f"put_{self.name}"] = Proof(
-                needs(1) + ["(λ c. search lays)"] + needs(5)
-                + [f"(λ c. search (needs, lays-plain, lays-void {m}-optional))", NEEDS, f"(λ c. search (needs, lays-plain, lays-value {m}-optional))"]
+                rules(1) + ["(λ c. search lays)"] + rules(5)
+                + [f"(λ c. search (rules, lays-plain, lays-void {law}-optional))", RULES, f"(λ c. search (rules, lays-plain, lays-value {law}-optional))"]
             )  # fmt: skip
         else:
             value = "piece-marks" if field.name == "opaque" else "words-marks" if field.name == "words" else ""
-            some = ", ".join([f"value-marks {m}-optional"] + [value] * bool(value))
-            proofs.update(self.marks_proof(needs(3) + [f"(λ c. search (void-marks {m}-optional))", f"(λ c. search ({some}))"]))
+            some = ", ".join([f"value-marks {law}-optional"] + [value] * bool(value))
+            proofs.update(self.marks_proof(rules(3) + [f"(λ c. search (void-marks {law}-optional))", f"(λ c. search ({some}))"]))
             proofs[f"{self.name}_inside"] = Proof(
-                needs(3) + [f"(λ c. search (void-inside {m}-optional))", f"(λ c. search (value-inside {m}-optional))"], unfolding=self.pieces(field)
+                rules(3) + [f"(λ c. search (void-inside {law}-optional))", f"(λ c. search (value-inside {law}-optional))"], unfolding=self.pieces(field)
             )
             proofs[f"{self.name}_size"] = Proof(
-                needs(3) + [add, f"(λ c. search (void-size {m}-optional {field.writer}))", f"(λ c. search (value-size {m}-optional {field.writer}))"]
+                rules(3) + [add, f"(λ c. search (void-size {law}-optional {field.writer}))", f"(λ c. search (value-size {law}-optional {field.writer}))"]
             )
             proofs[f"put_{self.name}"] = Proof(
-                ["(λ c. search of-long)", NEEDS, f"(λ c. search (put-outside {m}-writer))", NEEDS, f"(λ c. search (put-short {m}-writer))"]
-                + needs(5) + [f"(λ c. search (lays-all {m}-writer, held-void {m}-optional))", NEEDS, f"(λ c. search (lays-all {m}-writer, held-value {m}-optional))"]
+                ["(λ c. search of-long)", RULES, f"(λ c. search (put-outside {law}-writer))", RULES, f"(λ c. search (put-short {law}-writer))"]
+                + rules(5) + [f"(λ c. search (lays_all {law}-writer, held-void {law}-optional))", RULES, f"(λ c. search (lays_all {law}-writer, held-value {law}-optional))"]
             )  # fmt: skip
         return {**proofs, **self.common_proofs()}

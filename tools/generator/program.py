@@ -1,6 +1,6 @@
 """The text of a program's procedures: their arguments, and their results, read by the number of the procedure."""
 
-from generator.kind import NEEDS, Proof, needs
+from generator.kind import DROPPED, RULES, Answers, Proof, rules
 from generator.known import escaped
 
 # A type for all arguments, and one for all results: the type, what a field of it is called, and what the comment of its reader says.
@@ -41,13 +41,13 @@ class Program:
         parts = []
         for T, stem, comment, entries in self.halves():
             cases = "".join(f"    {name}({kind.type}),\n" for name, _, kind in entries)
-            parts.append(f"pub enum {T} {{\n{cases}}}")
-            parts.append(f"// `Another`: no procedure of this number is known here.\npub enum {T}Read {{\n    Refused(Refusal),\n    Another,\n    Took {{ value: {T}, next: usize, plain: bool }},\n}}")
+            parts.append(f"{DROPPED}pub enum {T} {{\n{cases}}}")
+            parts.append(f"// `Another`: no procedure of this number is known here.\n{DROPPED}pub enum {T}Read {{\n    Refused(Refusal),\n    Another,\n    Took {{ value: {T}, next: usize, plain: bool }},\n}}")
             parts += [self.one_code(T, stem, name, kind) for name, _, kind in entries]
             arms = "".join(f"        {number} => {stem}_of_{name.lower()}(src, at),\n" for name, number, _ in entries)
             parts.append(f"""// {comment}
 pub fn read_{stem}(procedure: u32, src: &[u8], at: usize) -> {T}Read
-    ensures {{ λ r. ⌜ AnswersBy {stem}ByNumber procedure (now (src .entry)) at (view{T} r) ⌝ }}
+    ensures {{ AnswersBy {stem}_by_number procedure src.now at (view_{stem} result) }}
 {{
     match procedure {{
 {arms}        _ => {T}Read::Another,
@@ -58,7 +58,7 @@ pub fn read_{stem}(procedure: u32, src: &[u8], at: usize) -> {T}Read
     def one_code(self, T, stem, name, kind):
         plain, mark = (", plain", "plain") if kind.plain else ("", "plain: true")
         return f"""fn {stem}_of_{name.lower()}(src: &[u8], at: usize) -> {T}Read
-    ensures {{ λ r. ⌜ AnswersFor {name.lower()}{T} (now (src .entry)) at (view{T} r) ⌝ }}
+    ensures {{ AnswersFor {name.lower()}_{stem} src.now at (view_{stem} result) }}
 {{
     match read_{kind.name}(src, at) {{
         {kind.answer}::Refused(r) => {T}Read::Refused(r),
@@ -71,13 +71,13 @@ pub fn read_{stem}(procedure: u32, src: &[u8], at: usize) -> {T}Read
     def meanings(self):
         parts = []
         for T, stem, _, entries in self.halves():
-            parts += [f"abbrev pub {name.lower()}{T} : Procedure {T}\n{name.lower()}{T} = procedure {number} {self.argument(kind)} {stem}Is.{escaped(name)}" for name, number, kind in entries]
-            listed = " ∷ ".join([f"{name.lower()}{T}" for name, _, _ in entries] + ["[]"])
-            parts.append(f"abbrev pub {stem}ByNumber : List (Procedure {T})\n{stem}ByNumber = {listed}")
-            parts.append(f"""abbrev pub view{T} : {T}Read → Option (Answer {T})
-view{T} ({stem}Read.Refused r) = some (refused r)
-view{T} {stem}Read.Another = none
-view{T} ({stem}Read.Took v n p) = some (took v n p)""")
+            parts += [f"abbrev pub {name.lower()}_{stem} : Procedure {T}\n{name.lower()}_{stem} = procedure {number} {self.argument(kind)} {stem}Is.{escaped(name)}" for name, number, kind in entries]
+            listed = " ∷ ".join([f"{name.lower()}_{stem}" for name, _, _ in entries] + ["[]"])
+            parts.append(f"abbrev pub {stem}_by_number : List (Procedure {T})\n{stem}_by_number = {listed}")
+            parts.append(f"""abbrev pub view_{stem} : {T}Read → Option (Answer {T})
+view_{stem} ({stem}Read.Refused r) = some (refused r)
+view_{stem} {stem}Read.Another = none
+view_{stem} ({stem}Read.Took v n p) = some (took v n p)""")
         return parts
 
     def argument(self, kind):
@@ -87,9 +87,9 @@ view{T} ({stem}Read.Took v n p) = some (took v n p)""")
         """The views lose nothing."""
         parts = []
         for T, stem, _, _ in self.halves():
-            cases = [(f"({stem}Read.Refused r{mark})", f"{stem}Read.Another", f"({stem}Read.Took v{mark} n{mark} p{mark})") for mark in ("", "′")]
+            cases = [(f"({stem}Read.Refused r{mark})", f"{stem}Read.Another", f"({stem}Read.Took v{mark} n{mark} p{mark})") for mark in ("", "'")]
             lines = "".join(f"\n{stem}-told {a} {b} e = cc" for a in cases[0] for b in cases[1])
-            parts.append(f"pub {stem}-told : (a b : {T}Read) → view{T} a ≡ view{T} b → a ≡ b{lines}")
+            parts.append(f"pub {stem}-told : (a b : {T}Read) → view_{stem} a ≡ view_{stem} b → a ≡ b{lines}")
         return parts
 
     def ranges(self):
@@ -99,10 +99,7 @@ view{T} ({stem}Read.Took v n p) = some (took v n p)""")
         proofs = {}
         for T, stem, _, entries in self.halves():
             for name, _, kind in entries:
-                law = f"{name.lower()}{T} view{kind.answer.removesuffix('Read')}"
-                proofs[f"{stem}_of_{name.lower()}"] = Proof(needs(3) + [f"(λ c. search (for-lost {law}))", f"(λ c. search (for-took {law}))"])
-            one = f"(λ c. search (by-procedure {stem}ByNumber))"
-            count = len(entries)
-            none = f"(λ c. by-none {stem}ByNumber _ _ _ _ {NEEDS} (c .match .rest))"
-            proofs[f"read_{stem}"] = Proof(needs(count) + [one] * count + [none])
+                law = f"{name.lower()}_{stem} view_{kind.name}"
+                proofs[f"{stem}_of_{name.lower()}"] = Proof(rules(3) + [f"(λ c. search (for-lost {law}))", f"(λ c. search (for-took {law}))"])
+            proofs[f"read_{stem}"] = Answers({"returns-in_default": f"by-none {stem}_by_number _ _ _ _ {RULES} c.in_default.in_default-own.rest"})
         return proofs

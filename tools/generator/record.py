@@ -2,7 +2,7 @@
 
 from itertools import takewhile
 
-from generator.kind import NEEDS, Kind, Proof, bracket, folded, least_of, lower, most_of, needs, nested, product, projections
+from generator.kind import COPIED, RULES, Answers, Kind, Proof, bracket, folded, goals_in_order, least_of, most_of, nested, product, projections, rules
 from generator.known import OPAQUE, Known, camel, escaped
 from generator.table import Trouble
 
@@ -15,8 +15,13 @@ LENGTH_WORD = 4
 # The cases of xdr's type Marks, by how many marks each has.
 MARKS = ("None", "One", "Two")
 
-# Of a reader with so many calls: those in its middle.
-MIDDLE = {5: (3,), 6: (2, 4)}
+# A reader of more calls than these is proved goal by goal.
+MOST_BY_CALLS = 4
+
+
+def projected(value, field):
+    """A field of a value, which may be a term."""
+    return f"{bracket(value)}.{field}"
 
 
 class Record(Kind):
@@ -34,7 +39,7 @@ class Record(Kind):
         least, most = sum(map(least_of, fields)), sum(map(most_of, fields))
         inside = any(field.inside for field in fields)
         paths, seen = self.piece_paths(), (meaning, *dict.fromkeys(name for field in fields for name in field.seen))
-        self.known = Known(self.name, self.code_type, self.answer, plain, codec, meaning, message, self.type, fixed, f"{meaning}-good", least, most, inside=inside, paths=paths, seen=() if codec else seen)
+        self.known = Known(self.name, self.code_type, self.answer, plain, codec, meaning, message, self.type, fixed, f"{self.head}-good", least, most, inside=inside, paths=paths, seen=() if codec else seen)
         self.variable = "v" if codec else "x"
         self.locals = [f"f{at}" for at in range(1, len(fields) + 1)]
 
@@ -85,7 +90,7 @@ class Record(Kind):
     def struct_code(self):
         lines = "".join(f"    pub {name}: {type},\n" for name, type in zip(self.names, self.types))
         comment = f"// {self.declared.comment}\n" if self.declared.comment else ""
-        return f"{comment}pub struct {self.code_type} {{\n{lines}}}"
+        return f"{comment}{COPIED}pub struct {self.code_type} {{\n{lines}}}"
 
     @property
     def run(self):
@@ -169,7 +174,7 @@ class Record(Kind):
 
     @property
     def source(self):
-        return "[]" if self.known.codec else "(now (src .entry))"
+        return "[]" if self.known.codec else "src.now"
 
     def link_code(self, at):
         """The field, and the others behind it."""
@@ -183,7 +188,7 @@ class Record(Kind):
         if at + 2 == len(self.fields):
             rest = self.fields[-1].put_of(self.locals[-1], f"&mut out[{size}..]")
         return f"""fn put_{self.name}_{at + 1}({src}{self.arguments(at)}out: &mut [u8])
-    ensures {{ λ _. ⌜ Lays ({self.tail(at)}) {self.source} {values} (now (out .entry)) (now (out .exit)) ⌝ }}
+    ensures {{ Lays ({self.tail(at)}) {self.source} {values} out.old out.new }}
 {{
 {let}    if out.len() < {size} {{
         return;
@@ -201,33 +206,39 @@ class Record(Kind):
 
     # ------------------------------------------------ meaning
 
+    @property
+    def names_of(self):
+        """The fields by their names: what its format is `named` by."""
+        return f"{self.start}_names"
+
     def meanings(self):
         m, names = self.meaning, [escaped(name) for name in self.names]
         fields = [f"{name} = {value}" for name, value in zip(names, projections("x", len(names)))]
         to = f"λ x. record {{ {'; '.join(fields)} }}"
-        back = f"λ m. {nested([f'm .{name}' for name in names])}"
+        back = f"λ m. {nested([f'm.{name}' for name in names])}"
         if self.known.codec:
             return [f"""-- {self.code_type}
 unfoldable pub {m} : Codec {self.type}
 {m} = mapped ({self.defined}) ({to}) ({back}) (λ x. refl) (λ m. refl)""", self.views()]  # fmt: skip
+        names_of = self.names_of
         messages = [field.message for field in self.fields]
         record = "".join(f"  pub {name} : {message}\n" for name, message in zip(names, messages))
-        hold = to.replace("x .", "y .").replace("λ x.", "λ y.").replace("= x", "= y")
+        hold = to.replace("= x", "= y").replace("λ x.", "λ y.")
         held = product([field.held for field in self.fields])
         return [
             f"-- {self.code_type}\npub record {self.known.message} : Type 0 where\n{record.rstrip()}",
-            f"""abbrev pub {lower(m)}Names : Renaming {bracket(product(messages))} {self.known.message} {bracket(held)} {self.type}
-{lower(m)}Names =
+            f"""abbrev pub {names_of} : Renaming {bracket(product(messages))} {self.known.message} {bracket(held)} {self.type}
+{names_of} =
     record {{
       to = {to};
       from = {back};
-      from-to = λ x. refl;
-      to-from = λ m. refl;
+      from_to = λ x. refl;
+      to_from = λ m. refl;
       hold = {hold};
-      pieces = {back.replace("m .", "y .").replace("λ m.", "λ y.")};
-      pieces-hold = λ y. refl;
+      pieces = {back.replace("m.", "y.")};
+      pieces_hold = λ y. refl;
     }}""",
-            f"unfoldable pub {m} : Format {self.known.message} {self.type}\n{m} = named {bracket(self.defined)} {lower(m)}Names",
+            f"unfoldable pub {m} : Format {self.known.message} {self.type}\n{m} = named {bracket(self.defined)} {names_of}",
             self.views(),
         ]
 
@@ -237,32 +248,32 @@ unfoldable pub {m} : Codec {self.type}
         return [self.plan_law(), self.step_laws(), self.told_law(), self.within_law(), *self.mark_laws()] + (self.codec_laws() if self.known.codec else self.held_laws())
 
     def plan_law(self):
-        m = self.meaning
+        m, law = self.meaning, self.head
         if self.known.codec:
             plan = " next ".join(f"one {field.meaning}" for field in self.fields)
-            return f"-- {self.code_type}\nabbrev pub {m}-plan : ByPlan {m}\nunfolding {m}\n{m}-plan = fields ({plan}) _ _ _ _"
+            return f"-- {self.code_type}\nabbrev pub {law}-plan : ByPlan {m}\nunfolding {m}\n{law}-plan = fields ({plan}) _ _ _ _"
         plan = " then ".join(f"at {bracket(field.format)}" for field in self.fields)
-        return f"-- {self.code_type}\nabbrev pub {m}-plan : Planned ({m} .held .read)\nunfolding {m}\n{m}-plan = plan ({plan}) _"
+        return f"-- {self.code_type}\nabbrev pub {law}-plan : Planned {m}.held.read\nunfolding {m}\n{law}-plan = plan ({plan}) _"
 
     def within_law(self):
-        m = self.meaning
+        m, law = self.meaning, self.head
         parts = folded("pair-within", [field.within for field in self.fields])
         if self.known.codec:
-            return f"pub {m}-within : Within 0 ({m} .kind)\nunfolding {m}\n{m}-within = mapped-within ({self.codecs}) _ _ _ _ {bracket(parts)}"
-        return f"""pub {m}-within : Within 0 ({m} .codec .kind)
+            return f"pub {law}-within : Within 0 {m}.kind\nunfolding {m}\n{law}-within = mapped-within ({self.codecs}) _ _ _ _ {bracket(parts)}"
+        return f"""pub {law}-within : Within 0 {m}.codec.kind
 unfolding {m}
-{m}-within = view-within _ _ ({bracket(self.formats)} .codec .laws) {bracket(parts)} (λ x m l u w e s f. no-default s)"""
+{law}-within = view-within _ _ {bracket(self.formats)}.codec.laws {bracket(parts)} (λ x m l u w e s f. no_default s)"""
 
     def mark_laws(self):
         """What its marks tell, and which they are."""
-        m = self.meaning
+        m, law = self.meaning, self.head
         if self.known.codec:
             return [self.unpadded_law(f"view-unpadded (λ x. refl) {bracket(folded('pair-unpadded', [field.unpadded for field in self.fields]))}")]
         parts = bracket(folded("pair-marked", [field.marked for field in self.fields]))
-        marks = " ∷ ".join([f"x {' '.join(f'.{escaped(name)}' for name in path)} .clean" for path in self.known.paths] + ["[]"])
+        marks = " ∷ ".join([f"x.{'.'.join(map(escaped, path))}.clean" for path in self.known.paths] + ["[]"])
         return [
-            self.marked_law(f"named-marked {bracket(self.formats)} {lower(m)}Names {parts}"),
-            f"pub {m}-marks : (x : {self.type}) → MarksAre {m} x ({marks})\nunfolding {' '.join(self.known.seen)}\n{m}-marks x = record {{ are = λ s. refl }}",
+            self.marked_law(f"named-marked {bracket(self.formats)} {self.names_of} {parts}"),
+            f"pub {law}-marks : (x : {self.type}) → MarksAre {m} x ({marks})\nunfolding {' '.join(self.known.seen)}\n{law}-marks x = record {{ are = λ s. refl }}",
         ]
 
     def link_laws(self):
@@ -270,49 +281,49 @@ unfolding {m}
         found = []
         for at in reversed(range(len(self.fields) - 1)):
             rest = self.rest(at + 1)
-            found.append(f"abbrev pub {self.meaning}-{at + 1} : Writer ({self.tail(at)})\n{self.meaning}-{at + 1} = pair-writer {self.fields[at].writer} {rest}")
+            found.append(f"abbrev pub {self.head}-{at + 1} : Writer ({self.tail(at)})\n{self.head}-{at + 1} = pair-writer {self.fields[at].writer} {rest}")
         return found
 
     def rest(self, at):
-        return self.fields[-1].writer if at == len(self.fields) - 1 else f"{self.meaning}-{at + 1}"
+        return self.fields[-1].writer if at == len(self.fields) - 1 else f"{self.head}-{at + 1}"
 
     def values(self, variable):
-        return nested([f"{variable} .{escaped(name)}" for name in self.names])
+        return nested([f"{variable}.{escaped(name)}" for name in self.names])
 
     def held_laws(self):
-        m, size, T = self.meaning, lower(self.meaning) + "Size", self.type
-        names = lower(m) + "Names"
+        m, law, size, T = self.meaning, self.head, f"{self.start}_size", self.type
+        names = self.names_of
         writer = self.rest(0)
-        bounds = [field.small(f"x .{escaped(name)}") for name, field in zip(self.names, self.fields) if not field.fixed]
+        bounds = [field.small(f"x.{escaped(name)}") for name, field in zip(self.names, self.fields) if not field.fixed]
         laws = self.link_laws() + [
-            f"abbrev pub {size} : {T} → ℕ\n{size} x = {writer} .size {bracket(self.values('x'))}",
-            f"""pub {m}-sized : (s : List ℕ) (x : {T}) → Ready {m} s x → length (output {m} s x) ≡ {size} x
+            f"abbrev pub {size} : {T} → ℕ\n{size} x = {projected(writer, 'size')} {self.values('x')}",
+            f"""pub {law}-sized : (s : List ℕ) (x : {T}) → Ready {m} s x → length (output {m} s x) ≡ {size} x
 unfolding {m}
-{m}-sized s x r = named-sized _ {names} {writer} s x (record {{ short = r .short; inside = r .inside }})""",
-            f"abbrev pub {m}-writer : Writer {m}\n{m}-writer = record {{ size = {size}; sized = {m}-sized }}",
-            f"pub {m}-bound : (x : {T}) → {size} x ≤ {self.known.most}\n{m}-bound x = omega (arith, {', '.join(bounds)})",
+{law}-sized s x r = named-sized _ {names} {writer} s x (record {{ short = r.short; inside = r.inside }})""",
+            f"abbrev pub {law}-writer : Writer {m}\n{law}-writer = record {{ size = {size}; sized = {law}-sized }}",
+            f"pub {law}-bound : (x : {T}) → {size} x ≤ {self.known.most}\n{law}-bound x = omega (arith, {', '.join(bounds)})",
             self.most_law(size),
             self.inside_law(),
         ]
         if len(self.fields) == 1:
             return laws + [
-                f"""pub {m}-laid : (s : List ℕ) (x : {T}) (o z : List ℕ) → z ≡ laidOf {self.formats} s {bracket(self.values('x'))} o → z ≡ laidOf {m} s x o
-unfolding {m} laidOf
-{m}-laid s x o z e = e"""
+                f"""pub {law}-laid : (s : List ℕ) (x : {T}) (o z : List ℕ) → z ≡ laid_of {self.formats} s {self.values('x')} o → z ≡ laid_of {m} s x o
+unfolding {m} laid_of
+{law}-laid s x o z e = e"""
             ]
         return laws + [
-            f"""pub {m}-lays : (s : List ℕ) (x : {T}) (o z : List ℕ) → Lays ({self.formats}) s {self.values('x')} o z → Lays {m} s x o z
+            f"""pub {law}-lays : (s : List ℕ) (x : {T}) (o z : List ℕ) → Lays ({self.formats}) s {self.values('x')} o z → Lays {m} s x o z
 unfolding {m}
-{m}-lays s x o z a = lays-named _ {names} s x o z a"""
+{law}-lays s x o z a = lays-named _ {names} s x o z a"""
         ]
 
     def inside_law(self):
-        m = self.meaning
+        m, law = self.meaning, self.head
         held = [(name, field) for name, field in zip(self.names, self.fields) if not field.codec]
         letters = "abcdef"[: len(held)]
         premises, proofs = [], []
         for letter, (name, field) in zip(letters, held):
-            inside = field.lies(f"x .{escaped(name)}")
+            inside = field.lies(f"x.{escaped(name)}")
             premises.append(f"{letter} ≡ {inside}")
             proofs.append(f"e{letter}")
             last = inside
@@ -323,31 +334,31 @@ unfolding {m}
             joined = f"({letter} && {joined})"
             proof = f"ap₂ (λ a b. a && b) {one} {bracket(proof)}"
         hypotheses = " ".join(f"e{letter}" for letter in letters)
-        return f"""pub {m}-inside : (s : List ℕ) (x : {self.type}) ({' '.join(letters)} : Bool) → {' → '.join(premises)} → {joined} ≡ {m} .held .inside s x
+        return f"""pub {law}-inside : (s : List ℕ) (x : {self.type}) ({' '.join(letters)} : Bool) → {' → '.join(premises)} → {joined} ≡ {m}.held.inside s x
 unfolding {m} {self.pieces(OPAQUE, *self.fields)}
-{m}-inside s x {' '.join(letters)} {hypotheses} = {proof}"""
+{law}-inside s x {' '.join(letters)} {hypotheses} = {proof}"""
 
     def codec_laws(self):
-        m, T = self.meaning, self.type
+        m, law, T = self.meaning, self.head, self.type
         if len(self.fields) == 1:
-            laid = f"""pub {m}-laid : (v : {T}) (o z : List ℕ) → z ≡ laid ({self.fields[0].meaning} .kind .write ({self.values('v')})) o → z ≡ laid ({m} .kind .write v) o
+            laid = f"""pub {law}-laid : (v : {T}) (o z : List ℕ) → z ≡ laid ({self.fields[0].meaning}.kind.write {self.values('v')}) o → z ≡ laid ({m}.kind.write v) o
 unfolding {m}
-{m}-laid v o z e = e"""
+{law}-laid v o z e = e"""
         else:
-            laid = f"""pub {m}-lays : (v : {T}) (o z : List ℕ) → Lays ({self.formats}) [] {self.values('v')} o z → Lays (exactly {m}) [] v o z
+            laid = f"""pub {law}-lays : (v : {T}) (o z : List ℕ) → Lays ({self.formats}) [] {self.values('v')} o z → Lays (exactly {m}) [] v o z
 unfolding {m}
-{m}-lays v o z a = record {{ put = λ r h. a .put (record {{ short = r .short; inside = refl }}) h }}"""
+{law}-lays v o z a = record {{ put = λ r h. a.put (record {{ short = r.short; inside = refl }}) h }}"""
         if self.known.fixed:
-            parts = folded("pair-fixed", [f"{field.meaning}-fixed" for field in self.fields])
-            return [f"pub {m}-fixed : Fixed {self.known.fixed} {m}\nunfolding {m}\n{m}-fixed = seen-fixed {bracket(parts)} _ _ _ _"] + self.link_laws() + [laid]
+            parts = folded("pair-fixed", [f"{field.head}-fixed" for field in self.fields])
+            return [f"pub {law}-fixed : Fixed {self.known.fixed} {m}\nunfolding {m}\n{law}-fixed = seen-fixed {bracket(parts)} _ _ _ _"] + self.link_laws() + [laid]
         writer = self.rest(0)
-        bounds = ", ".join(["arith", f"{m}-sized v"] + [f"{field.meaning}-between (v .{escaped(name)})" for name, field in zip(self.names, self.fields) if not field.fixed])
+        bounds = ", ".join(["arith", f"{law}-sized v"] + [f"{field.head}-between v.{escaped(name)}" for name, field in zip(self.names, self.fields) if not field.fixed])
         return self.link_laws() + [
-            f"""pub {m}-sized : (v : {T}) → length ({m} .kind .write v) ≡ {writer} .size {bracket(self.values('v'))}
+            f"""pub {law}-sized : (v : {T}) → length ({m}.kind.write v) ≡ {projected(writer, 'size')} {self.values('v')}
 unfolding {m}
-{m}-sized v = {writer} .sized [] {bracket(self.values('v'))} (record {{ short = omega arith; inside = refl }})""",
-            f"""pub {m}-between : (v : {T}) → Between {self.known.least} {self.known.most} (length ({m} .kind .write v))
-{m}-between v = record {{ least = omega ({bounds}); greatest = omega ({bounds}) }}""",
+{law}-sized v = {projected(writer, 'sized')} [] {self.values('v')} (record {{ short = omega arith; inside = refl }})""",
+            f"""pub {law}-between : (v : {T}) → Between {self.known.least} {self.known.most} (length ({m}.kind.write v))
+{law}-between v = record {{ least = omega ({bounds}); greatest = omega ({bounds}) }}""",
             self.small_law(),
             self.size_law(),
             laid,
@@ -355,33 +366,33 @@ unfolding {m}
 
     def size_law(self):
         """The sum that the code makes."""
-        m = self.meaning
+        m, law = self.meaning, self.head
         held = [(letter, name, field) for letter, (name, field) in zip("abcdef", ((n, f) for n, f in zip(self.names, self.fields) if not f.fixed))]
         letters = " ".join(letter for letter, _, _ in held)
-        premises = " → ".join(f"{letter} ≡ length ({field.meaning} .kind .write (v .{escaped(name)}))" for letter, name, field in held)
+        premises = " → ".join(f"{letter} ≡ length ({field.meaning}.kind.write v.{escaped(name)})" for letter, name, field in held)
         fixed = sum(field.fixed for field in self.fields)
         total = " + ".join([letter for letter, _, _ in held] + ([str(fixed)] if fixed else []))
         proofs = " ".join(f"e{letter}" for letter, _, _ in held)
-        return f"""pub {m}-size : (v : {self.type}) ({letters} : ℕ) → {premises} → {total} ≡ length ({m} .kind .write v)
-{m}-size v {letters} {proofs} = omega (arith, {m}-sized v)"""
+        return f"""pub {law}-size : (v : {self.type}) ({letters} : ℕ) → {premises} → {total} ≡ length ({m}.kind.write v)
+{law}-size v {letters} {proofs} = omega (arith, {law}-sized v)"""
 
     # ------------------------------------------------ ranges
 
     def ranges(self):
-        m = self.meaning
+        m, law = self.meaning, self.head
         if self.known.codec:
             goods = ", ".join(dict.fromkeys(field.good for field in self.fields))
-            return [f"""pub {m}-good : (m : {self.type}) {{vs : List Val}} → Is {self.dashed}·.the-row m vs → {m} .kind .Good m
+            return [f"""pub {law}-good : (m : {self.type}) {{vs : List Val}} → Is {self.dashed}·.the_row m vs → {m}.kind.Good m
 unfolding {m}
-{m}-good m p = search ({goods})"""], []  # fmt: skip
+{law}-good m p = search ({goods})"""], []  # fmt: skip
         goods = [self.good_at(at) for at in range(len(self.fields))]
         return [], [f"""{self.good_head("m")}
 unfolding {m} {self.pieces(OPAQUE, *self.fields)}
-{m}-good m p{" i" * self.known.inside} = {nested(goods)}"""]  # fmt: skip
+{law}-good m p{" i" * self.known.inside} = {nested(goods)}"""]  # fmt: skip
 
     def good_at(self, at):
         """That a field is in range."""
-        values = [f"m .{escaped(name)}" for name in self.names]
+        values = [f"m.{escaped(name)}" for name in self.names]
         return self.good_value(self.fields[at], values[at], self.inside_at(at, values))
 
     def inside_at(self, at, values):
@@ -393,60 +404,51 @@ unfolding {m} {self.pieces(OPAQUE, *self.fields)}
         proof = "i"
         for before in range(at):
             if lies[before] != "true":
-                proof = f"and-right {bracket(lies[before])} {bracket(behind[before + 1])} {bracket(proof)}"
-        return proof if at == len(lies) - 1 else f"and-left {bracket(lies[at])} {bracket(behind[at + 1])} {bracket(proof)}"
+                proof = f"and_right {bracket(lies[before])} {bracket(behind[before + 1])} {bracket(proof)}"
+        return proof if at == len(lies) - 1 else f"and_left {bracket(lies[at])} {bracket(behind[at + 1])} {bracket(proof)}"
 
     # ------------------------------------------------ proofs
 
     def proofs(self):
-        m, count = self.meaning, len(self.fields)
+        m, law, count = self.meaning, self.head, len(self.fields)
         steps = [step for field in self.fields for step in field.steps]
-        by = f"by-plan {m}-plan" if self.known.codec else f"planned {m}-plan"
-        rules = ", ".join(dict.fromkeys([by, "asks", "marked"] + steps))
-        one = f"(λ c. search ({rules}) depth 20)"
-        # Behind five calls or more the search is handed what was known in their middle: it does not reach back far enough.
-        middle = "".join(f"let d{at} : tie.After-r{at} = search in " for at in MIDDLE.get(count, ()))
-        far = f"(λ c. {middle}search ({rules}) depth 20 fits 20000)"
-        reads = [needs(4) + [far if at >= 4 else one] for at in range(count)]
-        took = [far if count > 4 else one]
-        proofs = {f"{self.name}_at": Proof(sum(reads, []) + took, unfolding=m)}
+        by = f"by-plan {law}-plan" if self.known.codec else f"planned {law}-plan"
+        search = f"search ({', '.join(dict.fromkeys([by, 'asks', 'marked'] + steps))}) depth 20"
+        one = f"(λ c. {search})"
+        if count > MOST_BY_CALLS:
+            proofs = {f"{self.name}_at": Answers(dict.fromkeys(goals_in_order(count), f"{search} fits 20000"), m)}
+        else:
+            proofs = {f"{self.name}_at": Proof((rules(4) + [one]) * count + [one], unfolding=m)}
         if self.run:
             proofs[f"{self.name}_cut"] = proofs[f"{self.name}_at"]
-            tests = [NEEDS, "(λ c. search needs)"] + needs(2) + ["(λ c. search needs)"]
-            behind = self.run[0]
-            # The tests stand between; what was known before them is handed over.
-            known = f"let d0 : tie.After-r{behind} = search in "
-            far = far.replace("(λ c. ", f"(λ c. {known}")
-            later = [part.replace("(λ c. ", f"(λ c. {known}") for part in sum(reads[behind:-2], [])] + (needs(4) + [far]) * 2 + [far]
-            proofs[f"{self.name}_at"] = Proof(sum(reads[:behind], []) + tests + later, unfolding=m)
         if not self.known.fixed:
             varying, fixed = self.sizes()
             bounds = ", ".join(dict.fromkeys(["sums"] + [field.bound for field in self.fields if field.bound]))
             add = f"(λ c. search ({bounds}))" if "," in bounds else f"(λ c. search {bounds})"
-            end = f"(λ c. search {m}-size)" if self.known.codec else "(λ c. omega arith)"
-            parts = needs(1) + [part for _ in varying[1:] for part in (NEEDS, add)] + ([add] if fixed else []) + [end]
+            end = f"(λ c. search {law}-size)" if self.known.codec else "(λ c. omega arith)"
+            parts = rules(1) + [part for _ in varying[1:] for part in (RULES, add)] + ([add] if fixed else []) + [end]
             proofs[f"{self.name}_size"] = Proof(parts)
         if not self.known.codec:
             held = [field for field in self.fields if not field.codec]
-            proofs[f"{self.name}_inside"] = Proof(needs(len(held)) + [f"(λ c. search {m}-inside)"])
+            proofs[f"{self.name}_inside"] = Proof(rules(len(held)) + [f"(λ c. search {law}-inside)"])
         for at in range(count - 1):
             field, rest = self.fields[at], self.rest(at + 1)
-            first = [] if field.fixed else needs(1)
+            first = [] if field.fixed else rules(1)
             proofs[f"put_{self.name}_{at + 1}"] = Proof(
-                first + [f"(λ c. search (lays-none {field.writer} {rest}))"] + needs(9)
+                first + [f"(λ c. search (lays-none {field.writer} {rest}))"] + rules(9)
                 + [f"(λ c. search (lays-both {field.writer} {rest}, lays-of, lays-codec))"]
             )  # fmt: skip
         if count == 1:
-            proofs[f"put_{self.name}"] = Proof(needs(2) + [f"(λ c. search {m}-laid)"])
+            proofs[f"put_{self.name}"] = Proof(rules(2) + [f"(λ c. search {law}-laid)"])
         elif not self.known.codec:
             proofs[f"put_{self.name}"] = Proof(
-                ["(λ c. search of-long)", NEEDS, f"(λ c. search (put-outside {m}-writer))", NEEDS, f"(λ c. search (put-short {m}-writer))"]
-                + needs(2) + [f"(λ c. search (lays-all {m}-writer, {m}-lays))"]
+                ["(λ c. search of-long)", RULES, f"(λ c. search (put-outside {law}-writer))", RULES, f"(λ c. search (put-short {law}-writer))"]
+                + rules(2) + [f"(λ c. search (lays_all {law}-writer, {law}-lays))"]
             )  # fmt: skip
         elif self.known.fixed:
-            proofs[f"put_{self.name}"] = Proof([f"(λ c. search (lays, size-is {m}-fixed))"] + needs(2) + [f"(λ c. search (needs, lays-plain, {m}-lays, size-is {m}-fixed))"])
+            proofs[f"put_{self.name}"] = Proof([f"(λ c. search (lays, size_is {law}-fixed))"] + rules(2) + [f"(λ c. search (rules, lays-plain, {law}-lays, size_is {law}-fixed))"])
         else:
-            proofs[f"put_{self.name}"] = Proof(needs(1) + ["(λ c. search lays)"] + needs(2) + [f"(λ c. search (needs, lays-plain, {m}-lays))"])
+            proofs[f"put_{self.name}"] = Proof(rules(1) + ["(λ c. search lays)"] + rules(2) + [f"(λ c. search (rules, lays-plain, {law}-lays))"])
         if not self.known.codec:
-            proofs.update(self.marks_proof([f"(λ c. search {m}-marks)"]))
+            proofs.update(self.marks_proof([f"(λ c. search {law}-marks)"]))
         return {**proofs, **self.common_proofs()}

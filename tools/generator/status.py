@@ -2,8 +2,8 @@
 
 from dataclasses import dataclass
 
-from generator.kind import NEEDS, Kind, Proof, bracket, least_of, lower, most_of, needs
-from generator.known import OPAQUE, Known, escaped, stem
+from generator.kind import COPIED, RULES, Kind, Proof, bracket, least_of, lower, most_of, rules
+from generator.known import OPAQUE, Known, escaped, law_head, stem
 
 # The bytes of a status.
 BYTES = 4
@@ -26,9 +26,13 @@ class Status:
     def name(self):
         return stem(self.type)
 
+    @property
+    def head(self):
+        return law_head(self.meaning)
+
 
 # The one that is written by hand.
-NFS = Status("nfsstat3", "NFS3_OK", "nfsfail3", "nfsstat", "successOr", "statusFor", "Nfsstat3Read")
+NFS = Status("nfsstat3", "NFS3_OK", "nfsfail3", "nfsstat", "success_or", "status_for", "Nfsstat3Read")
 
 
 class Result(Kind):
@@ -44,9 +48,9 @@ class Result(Kind):
         message = f"Result {escaped(status.failures)} {' '.join(bracket(arm.message) if arm else NOTHING for arm in arms)}"
         plain = any(arm.plain for arm in there)
         least, most = BYTES + min(size[0] for size in sizes), BYTES + max(size[1] for size in sizes)
-        self.known = Known(self.name, self.code_type, self.answer, plain, False, meaning, message, self.type, 0, f"{meaning}-good", least, most, inside=any(arm.inside for arm in there), paths=None)
+        self.known = Known(self.name, self.code_type, self.answer, plain, False, meaning, message, self.type, 0, f"{self.head}-good", least, most, inside=any(arm.inside for arm in there), paths=None)
         self.variants = f"{lower(meaning)}Is"
-        self.law = f"{meaning}-status"
+        self.law = f"{self.head}-status"
 
     # ------------------------------------------------ code
 
@@ -60,7 +64,7 @@ class Result(Kind):
     def enum_code(self):
         comment = f"// {self.declared.comment}\n" if self.declared.comment else ""
         failed = f", {self.types[1]}" if self.arms[1] else ""
-        return f"{comment}pub enum {self.code_type} {{\n    {self.status.ok}({self.types[0]}),\n    Failed({self.status.failures}{failed}),\n}}"
+        return f"{comment}{COPIED}pub enum {self.code_type} {{\n    {self.status.ok}({self.types[0]}),\n    Failed({self.status.failures}{failed}),\n}}"
 
     def arm_code(self, at, value):
         """An arm's own value, in the code."""
@@ -126,7 +130,7 @@ class Result(Kind):
     def link_code(self, at):
         field = self.arms[at]
         return f"""fn put_{self.name}_{at + 1}(src: &[u8], status: {self.status.type}, f: {self.types[at]}, out: &mut [u8])
-    ensures {{ λ _. ⌜ Lays (exactly {self.status.meaning} ⨟ {field.format}) (now (src .entry)) (status, f) (now (out .entry)) (now (out .exit)) ⌝ }}
+    ensures {{ Lays (exactly {self.status.meaning} ⨟ {field.format}) src.now (status, f) out.old out.new }}
 {{
     if out.len() < {BYTES} {{
         return;
@@ -158,20 +162,20 @@ class Result(Kind):
         return [ok, ("(failed e u)", "(failed e tt)", f"({self.variants}.Failed e)")]
 
     def meanings(self):
-        m, T, start, cases = self.meaning, self.type, lower(self.meaning), self.cases()
-        to = "".join(f"\n{start}To {taken} = {own.strip('()')}" for taken, _, own in cases)
-        back = "".join(f"\n{start}From {own} = {made.strip('()')}" for _, made, own in cases)
-        from_to = "".join(f"\n{m}-from-to {taken} = refl" for taken, _, _ in cases)
-        to_from = "".join(f"\n{m}-to-from {own} = refl" for _, _, own in cases)
+        m, T, start, cases = self.meaning, self.type, self.start, self.cases()
+        to = "".join(f"\n{start}_to {taken} = {own.strip('()')}" for taken, _, own in cases)
+        back = "".join(f"\n{start}_from {own} = {made.strip('()')}" for _, made, own in cases)
+        from_to = "".join(f"\n{start}_from_to {taken} = refl" for taken, _, _ in cases)
+        to_from = "".join(f"\n{start}_to_from {own} = refl" for _, _, own in cases)
         held = f"Result {self.held()}"
         return [
-            f"-- {self.code_type}\nabbrev pub {start}To : {held} → {T}{to}",
-            f"abbrev pub {start}From : {T} → {held}{back}",
-            f"pub {m}-from-to : (x : {held}) → {start}From ({start}To x) ≡ x{from_to}",
-            f"pub {m}-to-from : (y : {T}) → {start}To ({start}From y) ≡ y{to_from}",
-            f"""abbrev pub {start}Arms : Arms {self.held()} {T}
-{start}Arms = record {{ to = {start}To; from = {start}From; from-to = {m}-from-to; to-from = {m}-to-from }}""",
-            f"unfoldable pub {m} : Format ({self.known.message}) {T}\n{m} = onStatus {self.status.meaning} {self.status.success} {self.formats()} {start}Arms",
+            f"-- {self.code_type}\nabbrev pub {start}_to : {held} → {T}{to}",
+            f"abbrev pub {start}_from : {T} → {held}{back}",
+            f"pub {start}_from_to : (x : {held}) → {start}_from ({start}_to x) ≡ x{from_to}",
+            f"pub {start}_to_from : (y : {T}) → {start}_to ({start}_from y) ≡ y{to_from}",
+            f"""abbrev pub {start}_arms : Arms {self.held()} {T}
+{start}_arms = record {{ to = {start}_to; from = {start}_from; from_to = {start}_from_to; to_from = {start}_to_from }}""",
+            f"unfoldable pub {m} : Format ({self.known.message}) {T}\n{m} = on_status {self.status.meaning} {self.status.success} {self.formats()} {start}_arms",
             self.views(),
         ]
 
@@ -181,37 +185,37 @@ class Result(Kind):
         return " ".join(arm.writer if arm else "(codec-writer void)" for arm in self.arms)
 
     def laws(self):
-        m, T, start = self.meaning, self.type, lower(self.meaning)
-        size = f"{start}Size"
-        of = f"{self.status.meaning} {self.status.success} {self.formats()} {start}Arms"
+        m, law, T, start = self.meaning, self.head, self.type, self.start
+        size = f"{start}_size"
+        of = f"{self.status.meaning} {self.status.success} {self.formats()} {start}_arms"
         within = " ".join(arm.within if arm else "void-within" for arm in self.arms)
         marked = " ".join(bracket(arm.marked if arm else "plain-marked void-unpadded") for arm in self.arms)
         bounds = ""
         for arm, (_, _, own) in zip(self.arms, self.cases()):
-            law = arm.small("f") if arm and not arm.fixed else ""
-            bounds += f"\n{m}-bound {own} = omega {f'(arith, {law})' if law else 'arith'}"
+            small = arm.small("f") if arm and not arm.fixed else ""
+            bounds += f"\n{law}-bound {own} = omega {f'(arith, {small})' if small else 'arith'}"
         return [
             f"-- {self.code_type}\npub {self.law} : OnStatus {of} {m}\nunfolding {m}\n{self.law} = record {{ is = refl }}",
             self.step_laws(),
             self.told_law(),
-            self.marked_law(f"status-marked {of} {self.status.meaning}-unpadded {marked}"),
-            f"pub {m}-within : Within 0 ({m} .codec .kind)\nunfolding {m}\n{m}-within = status-within {of} {self.status.meaning}-within {within}",
-            f"abbrev pub {size} : {T} → ℕ\n{size} x = resultSize {self.sizes()} ({start}From x)",
-            f"abbrev pub {m}-writer : Writer {m}\n{m}-writer = record {{ size = {size}; sized = status-sized {self.sizes()} }}",
-            f"pub {m}-bound : (x : {T}) → {size} x ≤ {self.known.most}{bounds}",
+            self.marked_law(f"status-marked {of} {self.status.head}-unpadded {marked}"),
+            f"pub {law}-within : Within 0 {m}.codec.kind\nunfolding {m}\n{law}-within = status-within {of} {self.status.head}-within {within}",
+            f"abbrev pub {size} : {T} → ℕ\n{size} x = result_size {self.sizes()} ({start}_from x)",
+            f"abbrev pub {law}-writer : Writer {m}\n{law}-writer = record {{ size = {size}; sized = status-sized {self.sizes()} }}",
+            f"pub {law}-bound : (x : {T}) → {size} x ≤ {self.known.most}{bounds}",
             self.most_law(size),
         ]
 
     def sizes(self):
-        return f"{self.law} {self.status.meaning}-fixed {self.writers()}"
+        return f"{self.law} {self.status.head}-fixed {self.writers()}"
 
     # ------------------------------------------------ ranges
 
     def ranges(self):
-        m, goods = self.meaning, []
+        m, law, goods = self.meaning, self.head, []
         for arm, status, (_, _, own) in zip(self.arms, ("none", "(some e)"), self.cases()):
             good = self.good_value(arm, "f", "i") if arm else "tt"
-            goods.append(f"{m}-good {own} p{' i' * self.known.inside} = ({self.status.meaning}-good ({self.status.to} {status}), {good})")
+            goods.append(f"{law}-good {own} p{' i' * self.known.inside} = ({self.status.head}-good ({self.status.to} {status}), {good})")
         return [], [f"""{self.good_head("m")}
 unfolding {m} {self.pieces(OPAQUE, *self.arms)}
 {chr(10).join(goods)}"""]  # fmt: skip
@@ -219,25 +223,25 @@ unfolding {m} {self.pieces(OPAQUE, *self.arms)}
     # ------------------------------------------------ proofs
 
     def proofs(self):
-        m, count = self.meaning, len(self.arms)
-        status = f"(fixed-writer {self.status.meaning}-fixed)"
+        head, count = self.head, len(self.arms)
+        status = f"(fixed-writer {self.status.head}-fixed)"
         proofs = {f"{self.name}_at": Proof(self.at_proof())}
         asked = [bool(arm and not arm.codec) for arm in self.arms]
         proofs[f"{self.name}_inside"] = Proof(
-            needs(count + sum(asked)) + [f"(λ c. search ({law}-inside {self.law}))" for law in self.told], unfolding=self.pieces(*self.arms)
+            rules(count + sum(asked)) + [f"(λ c. search ({law}-inside {self.law}))" for law in self.told], unfolding=self.pieces(*self.arms)
         )
         proofs[f"{self.name}_size"] = Proof(self.size_proof())
         ends = [f"(λ c. search ({', '.join([f'{law}-marks {self.law}'] + ['no-marks'] * bool(arm and arm.codec))}))" for arm, law in zip(self.arms, self.told)]
-        proofs.update(self.marks_proof(needs(count + sum(asked)) + ends))
+        proofs.update(self.marks_proof(rules(count + sum(asked)) + ends))
         for at, arm in enumerate(self.arms):
             if arm:
                 proofs[f"put_{self.name}_{at + 1}"] = Proof(
-                    [f"(λ c. search (lays-none {status} {arm.writer}))"] + needs(9) + [f"(λ c. search (lays-both {status} {arm.writer}, lays-of, lays-codec))"]
+                    [f"(λ c. search (lays-none {status} {arm.writer}))"] + rules(9) + [f"(λ c. search (lays-both {status} {arm.writer}, lays-of, lays-codec))"]
                 )
-        ends = [f"(λ c. search (lays-all {m}-writer, {law}-lays {self.law}))" for law in self.told]
+        ends = [f"(λ c. search (lays_all {head}-writer, {law}-lays {self.law}))" for law in self.told]
         proofs[f"put_{self.name}"] = Proof(
-            ["(λ c. search of-long)", NEEDS, f"(λ c. search (put-outside {m}-writer))", NEEDS, f"(λ c. search (put-short {m}-writer))"]
-            + needs(5) + [ends[0], NEEDS, ends[1]]
+            ["(λ c. search of-long)", RULES, f"(λ c. search (put-outside {head}-writer))", RULES, f"(λ c. search (put-short {head}-writer))"]
+            + rules(5) + [ends[0], RULES, ends[1]]
         )  # fmt: skip
         return {**proofs, **self.common_proofs()}
 
@@ -248,21 +252,21 @@ unfolding {m} {self.pieces(OPAQUE, *self.arms)}
 
     def at_proof(self):
         """The status, each arm with its own refusal, and in the end what each took."""
-        answers = needs(4) + [f"(λ c. search ({self.status.meaning}-lost {self.law}))"]
+        answers = rules(4) + [f"(λ c. search ({self.status.head}-lost {self.law}))"]
         ends = []
         for arm in self.arms:
-            rules = ", ".join([f"{self.status.meaning}-took {self.law}", "asks", "marked", *(arm.steps if arm else ())])
-            one = f"(λ c. search ({rules}) depth 20)"
-            answers += needs(1) + (needs(4) + [one] if arm else [])
+            given = ", ".join([f"{self.status.head}-took {self.law}", "asks", "marked", *(arm.steps if arm else ())])
+            one = f"(λ c. search ({given}) depth 20)"
+            answers += rules(1) + (rules(4) + [one] if arm else [])
             ends.append(one)
         return answers + ends
 
     def size_proof(self):
         answers = []
         for arm in self.arms:
-            answers += needs(1)
+            answers += rules(1)
             if arm and not arm.fixed:
-                answers += needs(1) + [f"(λ c. search (sums, {arm.bound}))" if arm.bound else "(λ c. search sums)"]
+                answers += rules(1) + [f"(λ c. search (sums, {arm.bound}))" if arm.bound else "(λ c. search sums)"]
         for arm, law in zip(self.arms, self.told):
             how = f"{law}-size" if law == "alone" or not arm.fixed else f"{law}-fixed"
             answers.append(f"(λ c. search ({how} {self.sizes()}))")

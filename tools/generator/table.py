@@ -41,6 +41,16 @@ def read_text(path, root):
         raise Trouble(f"{path.relative_to(root)}: {error.strerror}")
 
 
+def read_uses(root):
+    """The crates of crates.txt, and the crates that each uses. Behind a crate's name may stand what is built of it."""
+    uses = {}
+    for line in read_text(root / "crates.txt", root).splitlines():
+        crate, colon, used = line.partition(":")
+        if colon and not line.startswith("#"):
+            uses[crate.split()[0]] = used.split()
+    return uses
+
+
 def read_table(root):
     """The kinds and the groups of kinds.txt."""
     kinds, heads = [], []
@@ -64,7 +74,7 @@ def read_row(at, line, number):
         raise Trouble(f"kinds.txt:{at}: a row has six columns, and this has {len(row)}")
     if row[0] != str(number):
         raise Trouble(f"kinds.txt:{at}: the number is {row[0]}, and the next one is {number}")
-    meaning = re.fullmatch(r"(exactly )?([a-zA-Z][a-zA-Z0-9-]*)", row[3])
+    meaning = re.fullmatch(r"(exactly )?([a-z][a-z0-9_-]*)", row[3])
     if not meaning:
         raise Trouble(f"kinds.txt:{at}: no meaning: {row[3]}")
     return Kind(number, row[1], row[2], bool(meaning[1]), meaning[2])
@@ -76,9 +86,9 @@ def read_group(at, line):
         len(head) != 4
         or not head[0].isdigit()
         or not re.fullmatch(r"copy_[a-z0-9_]+", head[1])
-        or not re.fullmatch(r"[a-z]+Kinds", head[2])
+        or not re.fullmatch(r"[a-z]+_kinds", head[2])
     ):
-        raise Trouble(f"kinds.txt:{at}: a group is `# group: NUMBER | copy_NAME | nameKinds | COMMENT`")
+        raise Trouble(f"kinds.txt:{at}: a group is `# group: NUMBER | copy_NAME | NAME_kinds | COMMENT`")
     return Group(int(head[0]), head[1], head[2], head[3], ())
 
 

@@ -1,18 +1,16 @@
 """The files of each topic: crates/CRATE/rfc/TOPIC.x has its declarations, and all else is made from them."""
 
 import re
-import subprocess
-import tempfile
-from pathlib import Path
 
 from generator.enumeration import Enumeration, Statuses
-from generator.known import ITEMS, VERIFIER, Known, Words, camel, escaped, stem
+from generator.known import ITEMS, VERIFIER, Known, Words, camel, escaped, law_head, stem
 from generator.language import read_topic, types_of
+from generator.layout import laid_out, use_lines
 from generator.optional import Optional
 from generator.program import Program
 from generator.record import MOST_FIELDS, Record
 from generator.status import NFS, Result
-from generator.table import Trouble, read_table, read_text
+from generator.table import Trouble, read_table, read_text, read_uses
 
 HEADER = "made by tools/generate from "
 
@@ -30,42 +28,19 @@ def outputs(root):
         for made in own:
             files.update(made.files())
         regions += crate_regions(crate, own)
-    return [(path, text) for path, text in formatted(files).items()] + regions
-
-
-def formatted(files):
-    """The texts as `rt fmt` lays them out."""
-    with tempfile.TemporaryDirectory() as folder:
-        base = Path(folder)
-        for path, text in files.items():
-            place = base / path
-            place.parent.mkdir(parents=True, exist_ok=True)
-            place.write_text(text, encoding="utf-8")
-        crates = {path.split("/")[1] for path in files}
-        (base / "crates.txt").write_text("".join(f"{crate}:\n" for crate in sorted(crates)), encoding="utf-8")
-        for crate in crates:
-            library = base / "crates" / crate / "src" / "lib.rt"
-            if not library.exists():
-                library.write_text("", encoding="utf-8")
-        try:
-            done = subprocess.run(["rt", "fmt"], cwd=base, capture_output=True, text=True, check=False)
-        except OSError:
-            raise Trouble("the command rt of the Rattle kit is not on the PATH")
-        if done.returncode:
-            raise Trouble(f"rt fmt: {(done.stderr or done.stdout).strip().splitlines()[0]}")
-        return {path: (base / path).read_text(encoding="utf-8") for path in files}
+    return list(files.items()) + regions
 
 
 def crate_regions(crate, topics):
     """The lines of a crate's own files that bring its topics in."""
     base = f"crates/{crate}"
     names = [made.topic.name for made in topics]
-    uses = [f"pub use {made.topic.name}::{name};" for made in topics for name in made.passed_on()]
+    passed_on = [f"{made.topic.name}::{name}" for made in topics for name in made.passed_on()]
     # `rt fmt` wants an empty line before a comment of the specifications.
     titles = "".join(f"pub mod {camel(name)}\n" for name in names) + "\n"
     return [
         (f"{base}/src/lib.rt", "modules", "".join(f"pub mod {name};\n" for name in names)),
-        (f"{base}/src/lib.rt", "names", "".join(f"{line}\n" for line in sorted(uses))),
+        (f"{base}/src/lib.rt", "names", "".join(f"{line}\n" for line in use_lines(passed_on, "pub use "))),
         (f"{base}/specs/Meaning.antt", "meanings", titles),
         (f"{base}/specs/Laws.antt", "laws", titles),
         (f"{base}/proofs/Lib.antt", "ranges", "".join(f"pub mod {camel(made.topic.name)}Ranges\n" for made in topics if made.has_ranges()) + "\n"),
@@ -78,11 +53,7 @@ class Library:
     def __init__(self, root, topics):
         self.root = root
         self.kinds = {kind.name: kind for kind in read_table(root)[0]}
-        self.below = {}
-        for line in read_text(root / "crates.txt", root).splitlines():
-            crate, colon, uses = line.partition(":")
-            if colon and not line.startswith("#"):
-                self.below[crate] = uses.split()
+        self.below = read_uses(root)
         self.known = dict(ITEMS)
         self.aliases = {}
         self.found = {}
@@ -108,7 +79,7 @@ class Library:
             for name in re.findall(r"^pub (?:fn|struct|enum|type|const) (\w+)", text, re.M):
                 code.setdefault(name, f"{where}::{name}")
             for name in re.findall(r"^pub (?:struct|enum) (\w+)", text, re.M):
-                specs.setdefault(escaped(name), f"Rattle·{crate}.specs.declared.{'.'.join(module)}.{name}")
+                specs.setdefault(escaped(name), f"Rattle.{crate}.specs.declared.{'.'.join(module)}.{name}")
             for name, alias in re.findall(r"^pub type (\w+) = (\w+);", text, re.M):
                 self.aliases.setdefault(name, {"Piece": "opaque"}.get(alias, alias))
             self.found.update({(crate, name): text for name in re.findall(r"^pub (?:struct|enum) (\w+)", text, re.M)})
@@ -120,7 +91,7 @@ class Library:
                 text = read_text(path, self.root)
                 if text.startswith(f"-- {HEADER}"):
                     continue
-                module = f"Rattle·{crate}." + ".".join(path.relative_to(folder).with_suffix("").parts)
+                module = f"Rattle.{crate}." + ".".join(path.relative_to(folder).with_suffix("").parts)
                 for name in re.findall(r"^(?:abbrev |unfoldable )?pub (?:record |ruleset )?(\S+)", text, re.M):
                     specs.setdefault(name, module)
                 for name, least, most in re.findall(r"^pub (\S+)-between : .* Between (\d+) (\d+) ", text, re.M):
@@ -160,12 +131,13 @@ class Library:
         if cases is None:
             raise Trouble(f"crates/{row.crate}/src: there is no `pub enum {answer}`")
         size = re.search(rf"^impl {name} {{\n    pub const SIZE: usize = (\d+);", self.found.get((row.crate, name), ""), re.M)
-        between = self.bounds.get((row.crate, row.meaning), (0, 0))
+        head = law_head(row.meaning)
+        between = self.bounds.get((row.crate, head), (0, 0))
         if not size and not any(between):
-            raise Trouble(f"crates/{row.crate}/specs/Laws: there is no law {row.meaning}-between, and {name} has no constant SIZE")
+            raise Trouble(f"crates/{row.crate}/specs/Laws: there is no law {head}-between, and {name} has no constant SIZE")
         if not row.exact:
             raise Trouble(f"{topic.path}: {name} has pieces and is written by hand, which no field may be yet")
-        return Known(name, name, answer, "plain: bool" in cases.group(1), True, row.meaning, escaped(name), escaped(name), int(size.group(1)) if size else 0, f"{row.meaning}-good", *between)
+        return Known(name, name, answer, "plain: bool" in cases.group(1), True, row.meaning, escaped(name), escaped(name), int(size.group(1)) if size else 0, f"{head}-good", *between)
 
 
 class Made:
@@ -227,7 +199,9 @@ class Made:
 
     def meaning(self, name):
         row = self.library.kinds.get(stem(name))
-        meaning = row.meaning if row else re.sub("3(?=[a-z])", "-", re.sub("3(?=_|$)", "", stem(name))).replace("_", "-")
+        meaning = row.meaning if row else re.sub("3(?=[a-z])", "_", re.sub("3(?=_|$)", "", stem(name)))
+        if meaning == name:
+            meaning = meaning.replace("_", "-")
         if meaning in Words().specs:
             raise Trouble(f"{self.topic.path}: {name} cannot be called {meaning}, which is a name of the laws already")
         if meaning == escaped(name):
@@ -238,7 +212,7 @@ class Made:
 
     def module(self, part, title=None):
         crate = self.topic.crate
-        return f"Rattle·{crate}.{part}.{title or camel(self.topic.name)}"
+        return f"Rattle.{crate}.{part}.{title or camel(self.topic.name)}"
 
     def register(self):
         """Its own names, for itself and for the topics above."""
@@ -254,7 +228,7 @@ class Made:
             for found in re.findall(r"^pub (?:fn|struct|enum) (\w+)", "\n\n".join(kind.code()), re.M):
                 code[found] = f"{crate}::{name}::{found}"
             for type in re.findall(r"^pub (?:struct|enum) (\w+)", "\n\n".join(kind.code()), re.M):
-                specs[escaped(type)] = f"Rattle·{crate}.specs.declared.{name}.{type}"
+                specs[escaped(type)] = f"Rattle.{crate}.specs.declared.{name}.{type}"
             for good in kind.goods():
                 specs[good] = self.module("proofs", f"{camel(name)}Ranges")
 
@@ -266,13 +240,8 @@ class Made:
             for name, path in self.library.code.get(one, {}).items():
                 words.code.setdefault(name, re.sub(rf"^{crate}::", "crate::", path))
             for name, module in self.library.specs.get(one, {}).items():
-                words.specs.setdefault(name, self.local(module))
+                words.specs.setdefault(name, module)
         return words
-
-    def local(self, module):
-        """A crate writes its own modules in another way."""
-        crate = self.topic.crate
-        return re.sub(rf"^Rattle·{crate}\.(specs|proofs)\.", rf"Rattle·{crate}·\1.\1.", module)
 
     def passed_on(self):
         names = [declared.name for declared, _ in self.types]
@@ -295,8 +264,8 @@ class Made:
             files[f"{base}/proofs/{title}Ranges.antt"] = self.ranges_file(words)
         for kind in self.kinds:
             for function, proof in kind.proofs().items():
-                module = f"Rattle·{crate}·proofs.proofs.{name}.{function.replace('/', '.')}"
-                files[f"{base}/proofs/{name}/{function}/Proof.antt"] = f"-- {HEADER}{self.topic.path}\n" + proof.text(function, module, words)
+                module = f"Rattle.{crate}.proofs.{name}.{function.replace('/', '.')}"
+                files[f"{base}/proofs/{name}/{function}/{proof.file}"] = f"-- {HEADER}{self.topic.path}\n" + proof.text(function, module, words)
         return files
 
     def code_file(self, words):
@@ -307,13 +276,13 @@ class Made:
         for kind in self.kinds:
             parts += kind.code()
         text = "\n\n".join(parts)
-        contracts = " ".join(re.findall(r"⌜(.*?)⌝", text))
+        contracts = " ".join(re.findall(r"ensures \{(.*)\}$", text, re.M))
         own = set(re.findall(r"^\s*(?:pub )?(?:fn|struct|enum|type) (\w+)", text, re.M))
-        ghosts = words.spec_lines(contracts.replace("(now (", "(("), ghost=True)
+        ghosts = words.spec_lines(contracts, ghost=True)
         code = re.sub(r"ensures \{.*\}|//.*", "", text)
-        uses = words.code_lines(code, own)
+        uses = use_lines(words.code_paths(code, own))
         head = f"// {HEADER}{self.topic.path}\n// {self.topic.head}\n"
-        return head + "\n".join(ghosts + uses) + "\n\n" + text + "\n"
+        return head + "\n".join([*ghosts, "", *uses]) + "\n\n" + laid_out(text) + "\n"
 
     def meaning_parts(self):
         return [part for kind in self.kinds for part in kind.meanings()]
@@ -328,7 +297,7 @@ class Made:
         for kind in self.kinds:
             for alias, type in kind.aliased().items():
                 if re.search(rf"(?<![\w·-]){alias}\.[A-Z«a-z]", text):
-                    lines.append(f"use Rattle·{crate}·specs.specs.declared.{name}.{type}.the-variants as {alias}")
+                    lines.append(f"use Rattle.{crate}.specs.declared.{name}.{type}.TheVariants as {alias}")
         return lines
 
     def spec_file(self, words, comment, parts, part):
@@ -352,9 +321,9 @@ class Made:
             parts.append("module _ (s : List ℕ) (h : Bytes s) (k : length s ≤ most) where\n" + "\n".join(f"  {line}" if line else "" for line in inner.split("\n")))
         text = "\n\n".join(parts)
         own = {good for kind in self.kinds for good in kind.goods()}
-        lines = words.spec_lines(text, own) + self.aliases(text)
+        lines = words.spec_lines(text, own, proofs=True) + self.aliases(text)
         for kind in self.kinds:
-            if kind.known and f"{kind.dashed}·.the-row" in text:
-                lines.append(f"use Rattle·{self.topic.crate}·proofs.proofs.{self.topic.name}.{kind.code_type} as {kind.dashed}·")
+            if kind.known and f"{kind.dashed}·.the_row" in text:
+                lines.append(f"use Rattle.{self.topic.crate}.specs.contracts.{self.topic.name}.{kind.code_type} as {kind.dashed}·")
         head = "Ranges: every value of a declared type means a message in range."
         return f"-- {HEADER}{self.topic.path}\n-- {head}\n-- Assumes nothing.\n" + "\n".join(lines) + "\n\n" + text + "\n"

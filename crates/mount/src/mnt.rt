@@ -37,7 +37,7 @@ pub enum mountfail3 {
     MNT3ERR_SERVERFAULT,
 }
 
-#[derive(Drop)]
+#[derive(Clone, Copy)]
 pub enum mountstat3 {
     MNT3_OK,
     Failed(mountfail3),

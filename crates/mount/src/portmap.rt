@@ -13,7 +13,7 @@ use xdr::inner::{put_u32, u32_at};
 use xdr::order::{Opening, open_at, room};
 use xdr::{Refusal, U32Read, Wrote};
 
-#[derive(Drop)]
+#[derive(Clone, Copy)]
 pub struct mapping {
     pub prog: u32,
     pub vers: u32,

@@ -4,9 +4,9 @@
 // source that its pieces are of. A type has the RFC's name (`READ3res`), and its functions have that in small letters. The crate
 // `nfsproc` reads them by the number of a procedure.
 // Every input gets an answer. What the answers mean stands in specs/Meaning.
-// made by tools/generate: modules
 #![tactic(auto)]
 
+// made by tools/generate: modules
 pub mod read;
 pub mod write;
 // end of modules

@@ -3,9 +3,9 @@
 // (READ, WRITE), so that each is checked in short time.
 //
 // Every input gets an answer. What the answers mean stands in specs/Meaning.
-// made by tools/generate: modules
 #![tactic(auto)]
 
+// made by tools/generate: modules
 pub mod procedures;
 // end of modules
 
