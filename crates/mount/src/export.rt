@@ -368,7 +368,9 @@ fn lay_exports(src: &[u8], at: usize, next: usize, plain: bool, out: &mut [u8])
     ensures { LaysFrom node src.now at out.old out.new }
 {
     if plain {
-        out[..next - at].copy_from_slice(&src[at..next]);
+        let n = next - at;
+        let part = &src[at..next];
+        out[..n].copy_from_slice(part);
         return;
     }
     put_exports(src, at, out);

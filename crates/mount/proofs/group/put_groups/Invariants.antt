@@ -1,0 +1,10 @@
+use Rattle.std.proofs.Common.{◌≡◌, ◌-◌, ◌≤◌, length}
+use Rattle.xdr.specs.Meaning.Formats.{bytes}
+use Rattle.xdr.specs.Laws.Laying.{Partly}
+use Rattle.mount.proofs.group.put_groups.Given as goal
+
+abbrev pub invariant-loop-value : goal.invariant-loop-value
+invariant-loop-value l = Partly bytes l.src l.at l.initial.out l.here l.out × (l.at ≤ l.here) × (length l.out ≡ length l.initial.out)
+
+abbrev pub decreases-loop-value : goal.decreases-loop-value
+decreases-loop-value l = length l.src - l.here
