@@ -13,4 +13,4 @@ mod wait;
 
 pub use input::{Got, read};
 pub use output::{Out, complain, flush, number, say};
-pub use stream::Stream;
+pub use stream::{Input, Output, Stream};

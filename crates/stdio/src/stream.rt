@@ -1,6 +1,8 @@
 // A standard stream with what it needs beside it.
 ghost use Rattle.std.specs.Prelude.{◌≡◌};
 
+use std::io::{Stderr, Stdin, Stdout};
+
 // A stream, and where it is said that it failed.
 #[derive(Drop)]
 pub struct Stream<T, E> {
@@ -16,3 +18,8 @@ impl<T, E> Stream<T, E> {
         Stream { stream, errors }
     }
 }
+
+// A program's own streams.
+pub type Input = Stream<Stdin, Stderr>;
+
+pub type Output = Stream<Stdout, Stderr>;
