@@ -312,7 +312,7 @@ fn answer_all(
     flush(to, out, n);
 }
 
-// Whether the program was called with so many words behind its name.
+// Whether the program was called with so many words behind its name, or more.
 fn has_word(rt: &HostRuntime, i: usize) -> bool {
     let mut word = [0u8; 4096];
     match rt.arg(i, &mut word) {

@@ -1,4 +1,4 @@
-// The parts of a line. Each function takes the buffer for the output and where that stands, and answers where it then stands.
+// The parts of a line. Each function takes the output, the buffer for it and where that stands, and answers where it then stands.
 use crate::make;
 use stdio::{Out, Output, say};
 use xdr::Refusal;

@@ -9,6 +9,8 @@ mod fail;
 mod input;
 mod output;
 mod stream;
+#[cfg(test)]
+mod tests;
 mod wait;
 
 pub use input::{Got, read};
