@@ -4,64 +4,78 @@ use crate::kinds::{KindAt, kind_at};
 use crate::words::{NumberAt, bytes_at, is_end, number_at};
 use crate::{print, why};
 use door::Copied;
-use stdio::{Out, say};
+use stdio::{Out, Output, say};
 use xdr::{Marks, Piece, Refusal};
 
 // A refusal: its number, its place where it has one, and how many bytes it wants where it wants any.
-pub(crate) fn refusal(out: &mut [u8], at: Out, r: Refusal) -> Out {
-    let n = say(out, at, b"refused");
+pub(crate) fn refusal(to: &mut Output, out: &mut [u8], at: Out, r: Refusal) -> Out {
+    let n = say(to, out, at, b"refused");
     match r {
         Refusal::Ended { place, wanting } => {
-            let m = print::number(out, n, 1);
-            let k = print::number(out, m, place);
-            print::number(out, k, wanting)
+            let m = print::number(to, out, n, 1);
+            let k = print::number(to, out, m, place);
+            print::number(to, out, k, wanting)
         }
         Refusal::Undeclared(place) => {
-            let m = print::number(out, n, 2);
-            print::number(out, m, place)
+            let m = print::number(to, out, n, 2);
+            print::number(to, out, m, place)
         }
         Refusal::LongPath(place) => {
-            let m = print::number(out, n, 10);
-            print::number(out, m, place)
+            let m = print::number(to, out, n, 10);
+            print::number(to, out, m, place)
         }
-        _ => print::number(out, n, r.number() as usize),
+        _ => print::number(to, out, n, r.number() as usize),
     }
 }
 
 // The place after what was read, and whether that was in published form.
-fn form(out: &mut [u8], at: Out, next: usize, plain: bool) -> Out {
-    let n = say(out, at, b"took");
-    let m = print::number(out, n, next);
+fn form(to: &mut Output, out: &mut [u8], at: Out, next: usize, plain: bool) -> Out {
+    let n = say(to, out, at, b"took");
+    let m = print::number(to, out, n, next);
     if plain {
-        return say(out, m, b" plain");
+        return say(to, out, m, b" plain");
     }
-    say(out, m, b" loose")
+    say(to, out, m, b" loose")
 }
 
 // What was read, and what it is written as, which is at the front of the buffer.
-fn took(out: &mut [u8], at: Out, next: usize, plain: bool, rewriting: &[u8]) -> Out {
-    let n = form(out, at, next, plain);
-    print::hex(out, n, rewriting)
+fn took(
+    to: &mut Output,
+    out: &mut [u8],
+    at: Out,
+    next: usize,
+    plain: bool,
+    rewriting: &[u8],
+) -> Out {
+    let n = form(to, out, at, next, plain);
+    print::hex(to, out, n, rewriting)
 }
 
 // A letter for each piece: c for a clean one, d for a dirty one.
-fn letter(out: &mut [u8], at: Out, clean: bool) -> Out {
+fn letter(to: &mut Output, out: &mut [u8], at: Out, clean: bool) -> Out {
     if clean {
-        return say(out, at, b"c");
+        return say(to, out, at, b"c");
     }
-    say(out, at, b"d")
+    say(to, out, at, b"d")
 }
 
 // What was read, and the marks of its pieces in the order of the fields.
-fn took_marks(out: &mut [u8], at: Out, next: usize, plain: bool, marks: Marks) -> Out {
-    let n = form(out, at, next, plain);
-    let k = say(out, n, b" ");
+fn took_marks(
+    to: &mut Output,
+    out: &mut [u8],
+    at: Out,
+    next: usize,
+    plain: bool,
+    marks: Marks,
+) -> Out {
+    let n = form(to, out, at, next, plain);
+    let k = say(to, out, n, b" ");
     match marks {
-        Marks::None => say(out, k, b"-"),
-        Marks::One(a) => letter(out, k, a),
+        Marks::None => say(to, out, k, b"-"),
+        Marks::One(a) => letter(to, out, k, a),
         Marks::Two(a, b) => {
-            let i = letter(out, k, a);
-            letter(out, i, b)
+            let i = letter(to, out, k, a);
+            letter(to, out, i, b)
         }
     }
 }
@@ -73,12 +87,13 @@ pub(crate) fn read(
     start: usize,
     message: &mut [u8],
     room: &mut [u8],
+    to: &mut Output,
     out: &mut [u8],
     at: Out,
 ) -> Out {
     let k = kind_at(line, start);
     let KindAt::Is { kind, next: s } = k else {
-        return why::kind(line, start, out, at);
+        return why::kind(line, start, to, out, at);
     };
     let p = number_at(line, s);
     let NumberAt::Is {
@@ -86,26 +101,26 @@ pub(crate) fn read(
         next: s,
     } = p
     else {
-        return why::number(line, s, out, at);
+        return why::number(line, s, to, out, at);
     };
     let b = bytes_at(line, s, message);
     if !b.good {
-        return why::bytes(line, s, out, at);
+        return why::bytes(line, s, to, out, at);
     }
     if !is_end(line, b.next) {
-        return why::words(out, at);
+        return why::words(to, out, at);
     }
     let n = b.count;
     let c = door::copy_kind(kind, &message[0..n], place, room, 0);
     match c {
-        Copied::Unknown => why::no_kind(out, at),
-        Copied::Unread(r) => refusal(out, at, r),
+        Copied::Unknown => why::no_kind(to, out, at),
+        Copied::Unread(r) => refusal(to, out, at, r),
         Copied::Unwritten {
             refusal: r,
             next: _,
             plain: _,
             marks: _,
-        } => refusal(out, at, r),
+        } => refusal(to, out, at, r),
         Copied::Done {
             next,
             plain,
@@ -113,9 +128,10 @@ pub(crate) fn read(
             marks,
         } => {
             if for_marks {
-                return took_marks(out, at, next, plain, marks.marks());
+                return took_marks(to, out, at, next, plain, marks.marks());
             }
             took(
+                to,
                 out,
                 at,
                 next,
@@ -134,16 +150,16 @@ pub(crate) fn read(
 }
 
 // What a writing left in a buffer.
-pub(crate) fn wrote(out: &mut [u8], at: Out, next: usize, buf: &[u8]) -> Out {
-    let n = say(out, at, b"wrote");
-    let m = print::number(out, n, next);
-    print::hex(out, m, buf)
+pub(crate) fn wrote(to: &mut Output, out: &mut [u8], at: Out, next: usize, buf: &[u8]) -> Out {
+    let n = say(to, out, at, b"wrote");
+    let m = print::number(to, out, n, next);
+    print::hex(to, out, m, buf)
 }
 
 // A refusal, and the buffer as it then is.
-pub(crate) fn refused(out: &mut [u8], at: Out, r: Refusal, buf: &[u8]) -> Out {
-    let n = refusal(out, at, r);
-    print::hex(out, n, buf)
+pub(crate) fn refused(to: &mut Output, out: &mut [u8], at: Out, r: Refusal, buf: &[u8]) -> Out {
+    let n = refusal(to, out, at, r);
+    print::hex(to, out, n, buf)
 }
 
 fn write_into(
@@ -152,26 +168,27 @@ fn write_into(
     place: usize,
     buf: &mut [u8],
     start: usize,
+    to: &mut Output,
     out: &mut [u8],
     at: Out,
 ) -> Out {
     fill(buf);
     let c = door::copy_kind(kind, message, place, buf, start);
     match c {
-        Copied::Unknown => why::no_kind(out, at),
-        Copied::Unread(r) => refusal(out, at, r),
+        Copied::Unknown => why::no_kind(to, out, at),
+        Copied::Unread(r) => refusal(to, out, at, r),
         Copied::Unwritten {
             refusal: r,
             next: _,
             plain: _,
             marks: _,
-        } => refused(out, at, r, buf),
+        } => refused(to, out, at, r, buf),
         Copied::Done {
             next: _,
             plain: _,
             end,
             marks: _,
-        } => wrote(out, at, end, buf),
+        } => wrote(to, out, at, end, buf),
     }
 }
 
@@ -181,12 +198,13 @@ pub(crate) fn write(
     start: usize,
     message: &mut [u8],
     room: &mut [u8],
+    to: &mut Output,
     out: &mut [u8],
     at: Out,
 ) -> Out {
     let k = kind_at(line, start);
     let KindAt::Is { kind, next: s } = k else {
-        return why::kind(line, start, out, at);
+        return why::kind(line, start, to, out, at);
     };
     let p = number_at(line, s);
     let NumberAt::Is {
@@ -194,11 +212,11 @@ pub(crate) fn write(
         next: s,
     } = p
     else {
-        return why::number(line, s, out, at);
+        return why::number(line, s, to, out, at);
     };
     let b = bytes_at(line, s, message);
     if !b.good {
-        return why::bytes(line, s, out, at);
+        return why::bytes(line, s, to, out, at);
     }
     let l = number_at(line, b.next);
     let NumberAt::Is {
@@ -206,7 +224,7 @@ pub(crate) fn write(
         next: s,
     } = l
     else {
-        return why::number(line, b.next, out, at);
+        return why::number(line, b.next, to, out, at);
     };
     let f = number_at(line, s);
     let NumberAt::Is {
@@ -214,13 +232,13 @@ pub(crate) fn write(
         next: s,
     } = f
     else {
-        return why::number(line, s, out, at);
+        return why::number(line, s, to, out, at);
     };
     if !is_end(line, s) {
-        return why::words(out, at);
+        return why::words(to, out, at);
     }
     if room.len() < length {
-        return why::room(out, at);
+        return why::room(to, out, at);
     }
     let n = b.count;
     write_into(
@@ -229,18 +247,19 @@ pub(crate) fn write(
         place,
         &mut room[0..length],
         from,
+        to,
         out,
         at,
     )
 }
 
-fn inside(out: &mut [u8], at: Out, is_inside: bool, bytes: &[u8]) -> Out {
+fn inside(to: &mut Output, out: &mut [u8], at: Out, is_inside: bool, bytes: &[u8]) -> Out {
     if is_inside {
-        let n = say(out, at, b"inside");
-        return print::hex(out, n, bytes);
+        let n = say(to, out, at, b"inside");
+        return print::hex(to, out, n, bytes);
     }
-    let n = say(out, at, b"outside");
-    print::hex(out, n, bytes)
+    let n = say(to, out, at, b"outside");
+    print::hex(to, out, n, bytes)
 }
 
 // part HEX PLACE COUNT, and words HEX PLACE COUNT
@@ -249,12 +268,13 @@ pub(crate) fn part(
     start: usize,
     are_words: bool,
     message: &mut [u8],
+    to: &mut Output,
     out: &mut [u8],
     at: Out,
 ) -> Out {
     let b = bytes_at(line, start, message);
     if !b.good {
-        return why::bytes(line, start, out, at);
+        return why::bytes(line, start, to, out, at);
     }
     let p = number_at(line, b.next);
     let NumberAt::Is {
@@ -262,7 +282,7 @@ pub(crate) fn part(
         next: s,
     } = p
     else {
-        return why::number(line, b.next, out, at);
+        return why::number(line, b.next, to, out, at);
     };
     let c = number_at(line, s);
     let NumberAt::Is {
@@ -270,10 +290,10 @@ pub(crate) fn part(
         next: s,
     } = c
     else {
-        return why::number(line, s, out, at);
+        return why::number(line, s, to, out, at);
     };
     if !is_end(line, s) {
-        return why::words(out, at);
+        return why::words(to, out, at);
     }
     let n = b.count;
     let src = &message[0..n];
@@ -283,7 +303,13 @@ pub(crate) fn part(
         clean: true,
     };
     if are_words {
-        return inside(out, at, xdr::words_inside(src, x), xdr::words_part(src, x));
+        return inside(
+            to,
+            out,
+            at,
+            xdr::words_inside(src, x),
+            xdr::words_part(src, x),
+        );
     }
-    inside(out, at, xdr::inside(src, x), xdr::part(src, x))
+    inside(to, out, at, xdr::inside(src, x), xdr::part(src, x))
 }

@@ -1,5 +1,7 @@
 // The kinds by name. A kind's number at the door is its place in this list.
 
+use crate::words::same;
+
 #[derive(Drop)]
 pub enum KindAt {
     None,
@@ -12,7 +14,7 @@ fn find(list: &[u8], word: &[u8], next: usize) -> KindAt {
     let mut at = 0;
     while at < list.len() {
         let end = text::word_end(list, at);
-        if check::same(&list[at..end], word) {
+        if same(&list[at..end], word) {
             return KindAt::Is { kind, next };
         }
         if u32::MAX <= kind {

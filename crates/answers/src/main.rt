@@ -1,6 +1,8 @@
 // Answers lines: each names a function of the library, its input and its buffers, and gets what the function answers, as one line.
 //
 // The program reads and prints. What the answers are is the business of the crates below, which prove it.
+#![tactic(auto)]
+
 mod buffer;
 mod items;
 mod kinds;
@@ -13,50 +15,53 @@ mod usage;
 mod why;
 mod words;
 
-use stdio::{Got, Out, flush, say};
+use std::alloc::AllocError;
+use std::env::{Env, FillError};
+use stdio::{Got, Input, Out, Output, Stream, flush, say};
+use words::same;
 
 // What a line asks for, by its first word; 14 where it is none of these.
 fn verb_of(word: &[u8]) -> u32 {
-    if check::same(word, b"read") {
+    if same(word, b"read") {
         return 0;
     }
-    if check::same(word, b"write") {
+    if same(word, b"write") {
         return 1;
     }
-    if check::same(word, b"part") {
+    if same(word, b"part") {
         return 2;
     }
-    if check::same(word, b"words") {
+    if same(word, b"words") {
         return 3;
     }
-    if check::same(word, b"fragment") {
+    if same(word, b"fragment") {
         return 4;
     }
-    if check::same(word, b"feed") {
+    if same(word, b"feed") {
         return 5;
     }
-    if check::same(word, b"state") {
+    if same(word, b"state") {
         return 6;
     }
-    if check::same(word, b"choose") {
+    if same(word, b"choose") {
         return 7;
     }
-    if check::same(word, b"current_choose") {
+    if same(word, b"current_choose") {
         return 8;
     }
-    if check::same(word, b"stream") {
+    if same(word, b"stream") {
         return 9;
     }
-    if check::same(word, b"ask") {
+    if same(word, b"ask") {
         return 10;
     }
-    if check::same(word, b"path") {
+    if same(word, b"path") {
         return 11;
     }
-    if check::same(word, b"list") {
+    if same(word, b"list") {
         return 12;
     }
-    if check::same(word, b"marks") {
+    if same(word, b"marks") {
         return 13;
     }
     14
@@ -69,15 +74,16 @@ fn of_message(
     s: usize,
     message: &mut [u8],
     room: &mut [u8],
+    to: &mut Output,
     out: &mut [u8],
     at: Out,
 ) -> Out {
     match verb {
-        0 => items::read(false, line, s, message, room, out, at),
-        1 => items::write(line, s, message, room, out, at),
-        2 => items::part(line, s, false, message, out, at),
-        13 => items::read(true, line, s, message, room, out, at),
-        _ => items::part(line, s, true, message, out, at),
+        0 => items::read(false, line, s, message, room, to, out, at),
+        1 => items::write(line, s, message, room, to, out, at),
+        2 => items::part(line, s, false, message, to, out, at),
+        13 => items::read(true, line, s, message, room, to, out, at),
+        _ => items::part(line, s, true, message, to, out, at),
     }
 }
 
@@ -88,16 +94,26 @@ fn of_stream(
     s: usize,
     message: &mut [u8],
     room: &mut [u8],
+    to: &mut Output,
     out: &mut [u8],
     at: Out,
 ) -> Out {
     match verb {
-        4 => records::fragment(line, s, message, room, out, at),
-        5 => records::feed(line, s, message, room, out, at),
-        6 => records::state(line, s, message, room, out, at),
-        7 => programs::choose(programs::CHOOSE, line, s, message, room, out, at),
-        8 => programs::choose(programs::CURRENT_CHOOSE, line, s, message, room, out, at),
-        _ => streams::stream(line, s, message, room, out, at),
+        4 => records::fragment(line, s, message, room, to, out, at),
+        5 => records::feed(line, s, message, room, to, out, at),
+        6 => records::state(line, s, message, room, to, out, at),
+        7 => programs::choose(programs::CHOOSE, line, s, message, room, to, out, at),
+        8 => programs::choose(
+            programs::CURRENT_CHOOSE,
+            line,
+            s,
+            message,
+            room,
+            to,
+            out,
+            at,
+        ),
+        _ => streams::stream(line, s, message, room, to, out, at),
     }
 }
 
@@ -108,30 +124,38 @@ fn of_mount(
     s: usize,
     message: &mut [u8],
     room: &mut [u8],
+    to: &mut Output,
     out: &mut [u8],
     at: Out,
 ) -> Out {
     match verb {
-        10 => programs::choose(programs::ASK, line, s, message, room, out, at),
-        11 => mounts::write(false, line, s, message, room, out, at),
-        _ => mounts::write(true, line, s, message, room, out, at),
+        10 => programs::choose(programs::ASK, line, s, message, room, to, out, at),
+        11 => mounts::write(false, line, s, message, room, to, out, at),
+        _ => mounts::write(true, line, s, message, room, to, out, at),
     }
 }
 
 // The answer to a line, without its end.
-fn answer(line: &[u8], message: &mut [u8], room: &mut [u8], out: &mut [u8], at: Out) -> Out {
+fn answer(
+    line: &[u8],
+    message: &mut [u8],
+    room: &mut [u8],
+    to: &mut Output,
+    out: &mut [u8],
+    at: Out,
+) -> Out {
     let end = text::word_end(line, 0);
     let verb = verb_of(&line[0..end]);
     if verb < 4 || verb == 13 {
-        return of_message(verb, line, end + 1, message, room, out, at);
+        return of_message(verb, line, end + 1, message, room, to, out, at);
     }
     if verb < 10 {
-        return of_stream(verb, line, end + 1, message, room, out, at);
+        return of_stream(verb, line, end + 1, message, room, to, out, at);
     }
     if verb < 13 {
-        return of_mount(verb, line, end + 1, message, room, out, at);
+        return of_mount(verb, line, end + 1, message, room, to, out, at);
     }
-    why::question(line, out, at)
+    why::question(line, to, out, at)
 }
 
 // One character more of a line. Where there is no room for it, the line is too long, and is one longer than the room from then on.
@@ -149,15 +173,16 @@ fn answer_held(
     held: usize,
     message: &mut [u8],
     room: &mut [u8],
+    to: &mut Output,
     out: &mut [u8],
     at: Out,
 ) -> Out {
     if line.len() < held {
-        let n = why::long(out, at);
-        return say(out, n, b"\n");
+        let n = why::long(to, out, at);
+        return say(to, out, n, b"\n");
     }
-    let n = answer(&line[0..held], message, room, out, at);
-    say(out, n, b"\n")
+    let n = answer(&line[0..held], message, room, to, out, at);
+    say(to, out, n, b"\n")
 }
 
 // What is held of a line, and where the output stands.
@@ -173,13 +198,14 @@ fn take_one(
     held: usize,
     message: &mut [u8],
     room: &mut [u8],
+    to: &mut Output,
     out: &mut [u8],
     at: Out,
 ) -> Standing {
     if c == b'\n' {
         return Standing {
             held: 0,
-            at: answer_held(line, held, message, room, out, at),
+            at: answer_held(line, held, message, room, to, out, at),
         };
     }
     Standing {
@@ -195,6 +221,7 @@ fn take(
     held: usize,
     message: &mut [u8],
     room: &mut [u8],
+    to: &mut Output,
     out: &mut [u8],
     at: Out,
 ) -> Standing {
@@ -202,13 +229,13 @@ fn take(
     let mut i = 0;
     while i < input.len() {
         let w = s.at;
-        s = take_one(input[i], line, s.held, message, room, out, w);
+        s = take_one(input[i], line, s.held, message, room, to, out, w);
         i += 1;
     }
     let w = s.at;
     Standing {
         held: s.held,
-        at: flush(out, w),
+        at: flush(to, out, w),
     }
 }
 
@@ -221,15 +248,17 @@ struct Turn {
 
 // Input is read as long as its answers can be written. A line that a failure cuts off gets no answer.
 fn read_once(
+    from: &mut Input,
     input: &mut [u8],
     line: &mut [u8],
     held: usize,
     message: &mut [u8],
     room: &mut [u8],
+    to: &mut Output,
     out: &mut [u8],
     at: Out,
 ) -> Turn {
-    let got = stdio::read(input);
+    let got = stdio::read(from, input);
     match got {
         Got::End => Turn {
             goes_on: false,
@@ -242,7 +271,7 @@ fn read_once(
             at,
         },
         Got::Bytes(n) => {
-            let s = take(&input[0..n], line, held, message, room, out, at);
+            let s = take(&input[0..n], line, held, message, room, to, out, at);
             let w = s.at;
             Turn {
                 goes_on: !w.lost,
@@ -255,10 +284,12 @@ fn read_once(
 
 // A proved loop ends, and nothing says that the input does: so the turns are counted down from a number that no run uses up.
 fn answer_all(
+    from: &mut Input,
     input: &mut [u8],
     line: &mut [u8],
     message: &mut [u8],
     room: &mut [u8],
+    to: &mut Output,
     out: &mut [u8],
 ) {
     let mut turns = u64::MAX;
@@ -269,7 +300,7 @@ fn answer_all(
     };
     while turns > 0 && t.goes_on {
         let w = t.at;
-        t = read_once(input, line, t.held, message, room, out, w);
+        t = read_once(from, input, line, t.held, message, room, to, out, w);
         turns -= 1;
     }
     if t.held == 0 {
@@ -277,38 +308,60 @@ fn answer_all(
     }
     // a last line without an end
     let w = t.at;
-    let n = answer_held(line, t.held, message, room, out, w);
-    flush(out, n);
+    let n = answer_held(line, t.held, message, room, to, out, w);
+    flush(to, out, n);
+}
+
+// Whether the program was called with so many words behind its name, or more.
+fn has_word(rt: &HostRuntime, i: usize) -> bool {
+    let mut word = [0u8; 4096];
+    match rt.arg(i, &mut word) {
+        Err(FillError::NotPresent) => false,
+        _ => true,
+    }
+}
+
+// Whether the first word behind the program's name asks how to use it.
+fn asks_for_help(rt: &HostRuntime) -> bool {
+    let mut word = [0u8; 4096];
+    match rt.arg(1, &mut word) {
+        Ok(n) => same(&word[..n], b"--help") || same(&word[..n], b"-h"),
+        Err(_) => false,
+    }
 }
 
 // What stands behind the program's name: only `--help` is understood.
-fn option(out: &mut [u8]) {
-    let mut word = io::buffer();
-    let n = os::arg(1, &mut word);
-    if os::arg_count() == 2 {
-        if check::same(&word[0..n], b"--help") {
-            usage::print(out);
-            return;
-        }
-        if check::same(&word[0..n], b"-h") {
-            usage::print(out);
-            return;
-        }
+fn option(rt: &HostRuntime, to: &mut Output, out: &mut [u8]) {
+    if !has_word(rt, 2) && asks_for_help(rt) {
+        usage::print(to, out);
+        return;
     }
     stdio::complain(
+        &mut to.errors,
         b"only the option --help is understood; questions are lines of standard input\n",
     );
 }
 
-fn main() {
-    let mut out = io::large_buffer();
-    if os::arg_count() > 1 {
-        option(&mut out);
-        return;
+fn main(rt: HostRuntime) -> Result<(), AllocError> {
+    let mut to = Stream::new(rt.stdout(), rt.stderr());
+    let mut out = [0u8; 65536];
+    if has_word(&rt, 1) {
+        option(&rt, &mut to, &mut out);
+        return Ok(());
     }
-    let mut input = io::large_buffer();
-    let mut line = buffer::line();
-    let mut message = buffer::message();
-    let mut room = buffer::largest();
-    answer_all(&mut input, &mut line, &mut message, &mut room, &mut out);
+    let mut from = Stream::new(rt.stdin(), rt.stderr());
+    let mut input = [0u8; 65536];
+    let mut line = buffer::line(rt.alloc())?;
+    let mut message = buffer::message(rt.alloc())?;
+    let mut room = buffer::largest(rt.alloc())?;
+    answer_all(
+        &mut from,
+        &mut input,
+        &mut line,
+        &mut message,
+        &mut room,
+        &mut to,
+        &mut out,
+    );
+    Ok(())
 }

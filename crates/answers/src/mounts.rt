@@ -5,67 +5,67 @@ use crate::programs::{call_words, caller_words, piece};
 use crate::words::{NumberAt, bytes_at, is_end, number_at};
 use crate::{print, why};
 use mount::{Asked, mapping};
-use stdio::{Out, say};
+use stdio::{Out, Output, say};
 use xdr::{Piece, Refusal, Wrote};
 
-fn path_words(out: &mut [u8], at: Out, path: Piece, next: usize) -> Out {
-    let n = piece(out, at, path);
-    print::number(out, n, next)
+fn path_words(to: &mut Output, out: &mut [u8], at: Out, path: Piece, next: usize) -> Out {
+    let n = piece(to, out, at, path);
+    print::number(to, out, n, next)
 }
 
-fn mapping_words(out: &mut [u8], at: Out, m: mapping) -> Out {
-    let n = print::number(out, at, m.prog as usize);
-    let n = print::number(out, n, m.vers as usize);
-    let n = print::number(out, n, m.prot as usize);
-    print::number(out, n, m.port as usize)
+fn mapping_words(to: &mut Output, out: &mut [u8], at: Out, m: mapping) -> Out {
+    let n = print::number(to, out, at, m.prog as usize);
+    let n = print::number(to, out, n, m.vers as usize);
+    let n = print::number(to, out, n, m.prot as usize);
+    print::number(to, out, n, m.port as usize)
 }
 
-fn getport_words(out: &mut [u8], at: Out, m: mapping, next: usize) -> Out {
-    let n = say(out, at, b"getport");
-    let n = mapping_words(out, n, m);
-    print::number(out, n, next)
+fn getport_words(to: &mut Output, out: &mut [u8], at: Out, m: mapping, next: usize) -> Out {
+    let n = say(to, out, at, b"getport");
+    let n = mapping_words(to, out, n, m);
+    print::number(to, out, n, next)
 }
 
 // A procedure that is to answer.
-fn turn_words(out: &mut [u8], at: Out, a: Asked) -> Out {
+fn turn_words(to: &mut Output, out: &mut [u8], at: Out, a: Asked) -> Out {
     match a {
         Asked::Mnt {
             caller: _,
             path,
             next,
         } => {
-            let n = say(out, at, b"mnt");
-            path_words(out, n, path, next)
+            let n = say(to, out, at, b"mnt");
+            path_words(to, out, n, path, next)
         }
         Asked::Umnt {
             caller: _,
             path,
             next,
         } => {
-            let n = say(out, at, b"umnt");
-            path_words(out, n, path, next)
+            let n = say(to, out, at, b"umnt");
+            path_words(to, out, n, path, next)
         }
         Asked::Export { caller: _, next } => {
-            let n = say(out, at, b"export");
-            print::number(out, n, next)
+            let n = say(to, out, at, b"export");
+            print::number(to, out, n, next)
         }
         Asked::Getport {
             caller: _,
             value,
             next,
-        } => getport_words(out, at, value, next),
+        } => getport_words(to, out, at, value, next),
         _ => at,
     }
 }
 
-pub(crate) fn asked_words(out: &mut [u8], at: Out, a: Asked) -> Out {
+pub(crate) fn asked_words(to: &mut Output, out: &mut [u8], at: Out, a: Asked) -> Out {
     match a {
-        Asked::Refused(r) => refusal(out, at, r),
+        Asked::Refused(r) => refusal(to, out, at, r),
         Asked::Replied(length) => {
-            let n = say(out, at, b"reply");
-            print::number(out, n, length)
+            let n = say(to, out, at, b"reply");
+            print::number(to, out, n, length)
         }
-        Asked::Silent => say(out, at, b"silence"),
+        Asked::Silent => say(to, out, at, b"silence"),
         Asked::HandOver {
             prog,
             vers,
@@ -73,18 +73,18 @@ pub(crate) fn asked_words(out: &mut [u8], at: Out, a: Asked) -> Out {
             caller,
             arguments,
         } => {
-            let n = call_words(out, at, prog, vers, proc, arguments);
-            caller_words(out, n, caller)
+            let n = call_words(to, out, at, prog, vers, proc, arguments);
+            caller_words(to, out, n, caller)
         }
-        _ => turn_words(out, at, a),
+        _ => turn_words(to, out, at, a),
     }
 }
 
 // A refusal to write has no place, so it is its number alone.
-fn unwritten(out: &mut [u8], at: Out, r: Refusal, buf: &[u8]) -> Out {
-    let n = say(out, at, b"refused");
-    let m = print::number(out, n, r.number() as usize);
-    print::hex(out, m, buf)
+fn unwritten(to: &mut Output, out: &mut [u8], at: Out, r: Refusal, buf: &[u8]) -> Out {
+    let n = say(to, out, at, b"refused");
+    let m = print::number(to, out, n, r.number() as usize);
+    print::hex(to, out, m, buf)
 }
 
 fn write_one(list: bool, source: &[u8], x: Piece, buf: &mut [u8], from: usize) -> Wrote {
@@ -100,13 +100,14 @@ fn write_into(
     x: Piece,
     buf: &mut [u8],
     from: usize,
+    to: &mut Output,
     out: &mut [u8],
     at: Out,
 ) -> Out {
     fill(buf);
     match write_one(list, source, x, buf, from) {
-        Wrote::Refused(r) => unwritten(out, at, r, buf),
-        Wrote::Done(next) => wrote(out, at, next, buf),
+        Wrote::Refused(r) => unwritten(to, out, at, r, buf),
+        Wrote::Done(next) => wrote(to, out, at, next, buf),
     }
 }
 
@@ -118,6 +119,7 @@ fn write_with_room(
     source: &[u8],
     x: Piece,
     room: &mut [u8],
+    to: &mut Output,
     out: &mut [u8],
     at: Out,
 ) -> Out {
@@ -127,7 +129,7 @@ fn write_with_room(
         next: s,
     } = l
     else {
-        return why::number(line, start, out, at);
+        return why::number(line, start, to, out, at);
     };
     let f = number_at(line, s);
     let NumberAt::Is {
@@ -135,15 +137,15 @@ fn write_with_room(
         next: s,
     } = f
     else {
-        return why::number(line, s, out, at);
+        return why::number(line, s, to, out, at);
     };
     if !is_end(line, s) {
-        return why::words(out, at);
+        return why::words(to, out, at);
     }
     if room.len() < length {
-        return why::room(out, at);
+        return why::room(to, out, at);
     }
-    write_into(list, source, x, &mut room[0..length], from, out, at)
+    write_into(list, source, x, &mut room[0..length], from, to, out, at)
 }
 
 // PLACE COUNT ROOM START
@@ -153,6 +155,7 @@ fn write_piece(
     start: usize,
     source: &[u8],
     room: &mut [u8],
+    to: &mut Output,
     out: &mut [u8],
     at: Out,
 ) -> Out {
@@ -162,7 +165,7 @@ fn write_piece(
         next: s,
     } = p
     else {
-        return why::number(line, start, out, at);
+        return why::number(line, start, to, out, at);
     };
     let c = number_at(line, s);
     let NumberAt::Is {
@@ -170,14 +173,14 @@ fn write_piece(
         next: s,
     } = c
     else {
-        return why::number(line, s, out, at);
+        return why::number(line, s, to, out, at);
     };
     let x = Piece {
         at: place,
         count,
         clean: true,
     };
-    write_with_room(list, line, s, source, x, room, out, at)
+    write_with_room(list, line, s, source, x, room, to, out, at)
 }
 
 // path HEX PLACE COUNT ROOM START
@@ -188,13 +191,14 @@ pub(crate) fn write(
     start: usize,
     message: &mut [u8],
     room: &mut [u8],
+    to: &mut Output,
     out: &mut [u8],
     at: Out,
 ) -> Out {
     let b = bytes_at(line, start, message);
     if !b.good {
-        return why::bytes(line, start, out, at);
+        return why::bytes(line, start, to, out, at);
     }
     let n = b.count;
-    write_piece(list, line, b.next, &message[0..n], room, out, at)
+    write_piece(list, line, b.next, &message[0..n], room, to, out, at)
 }

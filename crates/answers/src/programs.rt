@@ -6,35 +6,36 @@ use crate::words::{MarkAt, NumberAt, bytes_at, is_end, mark_at, number_at};
 use crate::{print, why};
 use rpc::auth::auth_unix;
 use rpcwire::{Caller, Choice};
-use stdio::{Out, say};
+use stdio::{Out, Output, say};
 use xdr::Piece;
 
-pub(crate) fn piece(out: &mut [u8], at: Out, x: Piece) -> Out {
-    let n = print::number(out, at, x.at);
-    print::number(out, n, x.count)
+pub(crate) fn piece(to: &mut Output, out: &mut [u8], at: Out, x: Piece) -> Out {
+    let n = print::number(to, out, at, x.at);
+    print::number(to, out, n, x.count)
 }
 
-fn unix(out: &mut [u8], at: Out, a: auth_unix) -> Out {
+fn unix(to: &mut Output, out: &mut [u8], at: Out, a: auth_unix) -> Out {
     let name = a.machinename;
     let gids = a.gids;
-    let n = print::number(out, at, a.stamp as usize);
-    let n = piece(out, n, name);
-    let n = print::number(out, n, a.uid as usize);
-    let n = print::number(out, n, a.gid as usize);
-    piece(out, n, gids)
+    let n = print::number(to, out, at, a.stamp as usize);
+    let n = piece(to, out, n, name);
+    let n = print::number(to, out, n, a.uid as usize);
+    let n = print::number(to, out, n, a.gid as usize);
+    piece(to, out, n, gids)
 }
 
-pub(crate) fn caller_words(out: &mut [u8], at: Out, caller: Caller) -> Out {
+pub(crate) fn caller_words(to: &mut Output, out: &mut [u8], at: Out, caller: Caller) -> Out {
     match caller {
-        Caller::Unnamed => say(out, at, b" none"),
+        Caller::Unnamed => say(to, out, at, b" none"),
         Caller::Unix(a) => {
-            let n = say(out, at, b" unix");
-            unix(out, n, a)
+            let n = say(to, out, at, b" unix");
+            unix(to, out, n, a)
         }
     }
 }
 
 pub(crate) fn call_words(
+    to: &mut Output,
     out: &mut [u8],
     at: Out,
     prog: u32,
@@ -42,21 +43,21 @@ pub(crate) fn call_words(
     proc: u32,
     arguments: usize,
 ) -> Out {
-    let n = say(out, at, b"handover");
-    let n = print::number(out, n, prog as usize);
-    let n = print::number(out, n, vers as usize);
-    let n = print::number(out, n, proc as usize);
-    print::number(out, n, arguments)
+    let n = say(to, out, at, b"handover");
+    let n = print::number(to, out, n, prog as usize);
+    let n = print::number(to, out, n, vers as usize);
+    let n = print::number(to, out, n, proc as usize);
+    print::number(to, out, n, arguments)
 }
 
-fn choice_words(out: &mut [u8], at: Out, c: Choice) -> Out {
+fn choice_words(to: &mut Output, out: &mut [u8], at: Out, c: Choice) -> Out {
     match c {
-        Choice::Refused(r) => refusal(out, at, r),
+        Choice::Refused(r) => refusal(to, out, at, r),
         Choice::Replied(length) => {
-            let n = say(out, at, b"reply");
-            print::number(out, n, length)
+            let n = say(to, out, at, b"reply");
+            print::number(to, out, n, length)
         }
-        Choice::Silent => say(out, at, b"silence"),
+        Choice::Silent => say(to, out, at, b"silence"),
         Choice::HandOver {
             prog,
             vers,
@@ -64,8 +65,8 @@ fn choice_words(out: &mut [u8], at: Out, c: Choice) -> Out {
             caller,
             arguments,
         } => {
-            let n = call_words(out, at, prog, vers, proc, arguments);
-            caller_words(out, n, caller)
+            let n = call_words(to, out, at, prog, vers, proc, arguments);
+            caller_words(to, out, n, caller)
         }
     }
 }
@@ -82,13 +83,14 @@ fn call_into(
     seen: bool,
     message: &[u8],
     buf: &mut [u8],
+    to: &mut Output,
     out: &mut [u8],
     at: Out,
 ) -> Out {
     match which {
-        CHOOSE => choice_words(out, at, rpcwire::choose(message, seen, buf)),
-        CURRENT_CHOOSE => choice_words(out, at, rpcwire::current_choose(message, seen, buf)),
-        _ => asked_words(out, at, mount::ask(message, seen, buf)),
+        CHOOSE => choice_words(to, out, at, rpcwire::choose(message, seen, buf)),
+        CURRENT_CHOOSE => choice_words(to, out, at, rpcwire::current_choose(message, seen, buf)),
+        _ => asked_words(to, out, at, mount::ask(message, seen, buf)),
     }
 }
 
@@ -97,12 +99,13 @@ fn choose_into(
     seen: bool,
     message: &[u8],
     buf: &mut [u8],
+    to: &mut Output,
     out: &mut [u8],
     at: Out,
 ) -> Out {
     fill(buf);
-    let n = call_into(which, seen, message, buf, out, at);
-    print::hex(out, n, buf)
+    let n = call_into(which, seen, message, buf, to, out, at);
+    print::hex(to, out, n, buf)
 }
 
 // choose SEEN ROOM HEX
@@ -114,6 +117,7 @@ pub(crate) fn choose(
     start: usize,
     message: &mut [u8],
     room: &mut [u8],
+    to: &mut Output,
     out: &mut [u8],
     at: Out,
 ) -> Out {
@@ -123,7 +127,7 @@ pub(crate) fn choose(
         next: s,
     } = w
     else {
-        return why::mark(line, start, out, at);
+        return why::mark(line, start, to, out, at);
     };
     let w = number_at(line, s);
     let NumberAt::Is {
@@ -131,18 +135,26 @@ pub(crate) fn choose(
         next: s,
     } = w
     else {
-        return why::number(line, s, out, at);
+        return why::number(line, s, to, out, at);
     };
     let b = bytes_at(line, s, message);
     if !b.good {
-        return why::bytes(line, s, out, at);
+        return why::bytes(line, s, to, out, at);
     }
     if !is_end(line, b.next) {
-        return why::words(out, at);
+        return why::words(to, out, at);
     }
     if room.len() < length {
-        return why::room(out, at);
+        return why::room(to, out, at);
     }
     let n = b.count;
-    choose_into(which, seen, &message[0..n], &mut room[0..length], out, at)
+    choose_into(
+        which,
+        seen,
+        &message[0..n],
+        &mut room[0..length],
+        to,
+        out,
+        at,
+    )
 }

@@ -6,15 +6,22 @@ use crate::items::{refusal, refused, wrote};
 use crate::words::{MarkAt, NumberAt, after, bytes_at, is_end, mark_at, number_at};
 use crate::{print, why};
 use rpcwire::{Assembler, AssemblerMade, Fed};
-use stdio::{Out, say};
-use xdr::{Piece, Wrote};
+use stdio::{Out, Output, say};
+use xdr::{Piece, Refusal, Wrote};
 
-fn fragment_into(message: &[u8], buf: &mut [u8], start: usize, out: &mut [u8], at: Out) -> Out {
+fn fragment_into(
+    message: &[u8],
+    buf: &mut [u8],
+    start: usize,
+    to: &mut Output,
+    out: &mut [u8],
+    at: Out,
+) -> Out {
     fill(buf);
     let w = rpcwire::write_fragment(message, buf, start);
     match w {
-        Wrote::Refused(r) => refused(out, at, r, buf),
-        Wrote::Done(next) => wrote(out, at, next, buf),
+        Wrote::Refused(r) => refused(to, out, at, r, buf),
+        Wrote::Done(next) => wrote(to, out, at, next, buf),
     }
 }
 
@@ -24,12 +31,13 @@ pub(crate) fn fragment(
     start: usize,
     message: &mut [u8],
     room: &mut [u8],
+    to: &mut Output,
     out: &mut [u8],
     at: Out,
 ) -> Out {
     let b = bytes_at(line, start, message);
     if !b.good {
-        return why::bytes(line, start, out, at);
+        return why::bytes(line, start, to, out, at);
     }
     let l = number_at(line, b.next);
     let NumberAt::Is {
@@ -37,7 +45,7 @@ pub(crate) fn fragment(
         next: s,
     } = l
     else {
-        return why::number(line, b.next, out, at);
+        return why::number(line, b.next, to, out, at);
     };
     let f = number_at(line, s);
     let NumberAt::Is {
@@ -45,107 +53,127 @@ pub(crate) fn fragment(
         next: s,
     } = f
     else {
-        return why::number(line, s, out, at);
+        return why::number(line, s, to, out, at);
     };
     if !is_end(line, s) {
-        return why::words(out, at);
+        return why::words(to, out, at);
     }
     if room.len() < length {
-        return why::room(out, at);
+        return why::room(to, out, at);
     }
     let n = b.count;
-    fragment_into(&message[0..n], &mut room[0..length], from, out, at)
+    fragment_into(&message[0..n], &mut room[0..length], from, to, out, at)
 }
 
 // The state that an answer leaves, whatever the answer is.
-pub(crate) fn state_of(f: Fed) -> Assembler {
+pub(crate) fn state_of(f: &Fed) -> Assembler {
     match f {
         Fed::Refused {
             refusal: _,
             state,
             used: _,
-        } => state,
-        Fed::More { state, used: _ } => state,
+        } => *state,
+        Fed::More { state, used: _ } => *state,
         Fed::Complete {
             length: _,
             state,
             used: _,
-        } => state,
+        } => *state,
     }
 }
 
-pub(crate) fn used_of(f: Fed) -> usize {
+pub(crate) fn used_of(f: &Fed) -> usize {
     match f {
         Fed::Refused {
             refusal: _,
             state: _,
             used,
-        } => used,
-        Fed::More { state: _, used } => used,
+        } => *used,
+        Fed::More { state: _, used } => *used,
         Fed::Complete {
             length: _,
             state: _,
             used,
-        } => used,
+        } => *used,
     }
+}
+
+fn fed_refused(to: &mut Output, out: &mut [u8], at: Out, refusal: Refusal, used: usize) -> Out {
+    let n = say(to, out, at, b"refused");
+    let m = print::number(to, out, n, refusal.number() as usize);
+    print::number(to, out, m, used)
+}
+
+fn fed_more(to: &mut Output, out: &mut [u8], at: Out, used: usize) -> Out {
+    let n = say(to, out, at, b"more");
+    print::number(to, out, n, used)
+}
+
+fn fed_complete(to: &mut Output, out: &mut [u8], at: Out, length: usize, used: usize) -> Out {
+    let n = say(to, out, at, b"complete");
+    let m = print::number(to, out, n, length);
+    print::number(to, out, m, used)
 }
 
 // One answer of the assembler, all but a record.
-fn fed(out: &mut [u8], at: Out, f: Fed) -> Out {
+fn fed(to: &mut Output, out: &mut [u8], at: Out, f: Fed) -> Out {
     match f {
         Fed::Refused {
             refusal,
             state: _,
             used,
-        } => {
-            let n = say(out, at, b"refused");
-            let m = print::number(out, n, refusal.number() as usize);
-            print::number(out, m, used)
-        }
-        Fed::More { state: _, used } => {
-            let n = say(out, at, b"more");
-            print::number(out, n, used)
-        }
+        } => fed_refused(to, out, at, refusal, used),
+        Fed::More { state: _, used } => fed_more(to, out, at, used),
         Fed::Complete {
             length,
             state: _,
             used,
-        } => {
-            let n = say(out, at, b"complete");
-            let m = print::number(out, n, length);
-            print::number(out, m, used)
-        }
+        } => fed_complete(to, out, at, length, used),
     }
 }
 
 // The header bytes and the fragment of a state.
-fn header_and_fragment(out: &mut [u8], at: Out, s: Assembler) -> Out {
-    let n = print::number(out, at, s.header_count);
-    let n = print::number(out, n, s.header_value);
-    let n = print::number(out, n, s.left);
-    print::mark(out, n, s.last)
+fn header_and_fragment(to: &mut Output, out: &mut [u8], at: Out, s: Assembler) -> Out {
+    let n = print::number(to, out, at, s.header_count);
+    let n = print::number(to, out, n, s.header_value);
+    let n = print::number(to, out, n, s.left);
+    print::mark(to, out, n, s.last)
 }
 
-fn state_words(out: &mut [u8], at: Out, s: Assembler) -> Out {
-    let n = say(out, at, b"; state");
-    let n = print::number(out, n, s.capacity);
-    let n = print::number(out, n, s.placed);
-    let n = header_and_fragment(out, n, s);
-    print::mark(out, n, s.stopped)
+fn state_words(to: &mut Output, out: &mut [u8], at: Out, s: Assembler) -> Out {
+    let n = say(to, out, at, b"; state");
+    let n = print::number(to, out, n, s.capacity);
+    let n = print::number(to, out, n, s.placed);
+    let n = header_and_fragment(to, out, n, s);
+    print::mark(to, out, n, s.stopped)
 }
 
 // The state and the buffer, with which a line about the assembler ends.
-pub(crate) fn state_and_buffer(out: &mut [u8], at: Out, s: Assembler, buf: &[u8]) -> Out {
-    let n = state_words(out, at, s);
-    let n = say(out, n, b"; buffer");
-    print::hex(out, n, buf)
+pub(crate) fn state_and_buffer(
+    to: &mut Output,
+    out: &mut [u8],
+    at: Out,
+    s: Assembler,
+    buf: &[u8],
+) -> Out {
+    let n = state_words(to, out, at, s);
+    let n = say(to, out, n, b"; buffer");
+    print::hex(to, out, n, buf)
 }
 
-fn feed_once(state: Assembler, run: &[u8], buf: &mut [u8], out: &mut [u8], at: Out) -> Out {
+fn feed_once(
+    state: Assembler,
+    run: &[u8],
+    buf: &mut [u8],
+    to: &mut Output,
+    out: &mut [u8],
+    at: Out,
+) -> Out {
     fill(buf);
     let f = rpcwire::feed(state, run, buf);
-    let n = fed(out, at, f);
-    state_and_buffer(out, n, state_of(f), buf)
+    let s = state_of(&f);
+    let n = fed(to, out, at, f);
+    state_and_buffer(to, out, n, s, buf)
 }
 
 // state CAPACITY PLACED COUNT VALUE LEFT LAST STOPPED LENGTH RUN
@@ -154,6 +182,7 @@ pub(crate) fn state(
     start: usize,
     message: &mut [u8],
     room: &mut [u8],
+    to: &mut Output,
     out: &mut [u8],
     at: Out,
 ) -> Out {
@@ -163,7 +192,7 @@ pub(crate) fn state(
         next: s,
     } = w
     else {
-        return why::number(line, start, out, at);
+        return why::number(line, start, to, out, at);
     };
     let w = number_at(line, s);
     let NumberAt::Is {
@@ -171,7 +200,7 @@ pub(crate) fn state(
         next: s,
     } = w
     else {
-        return why::number(line, s, out, at);
+        return why::number(line, s, to, out, at);
     };
     let w = number_at(line, s);
     let NumberAt::Is {
@@ -179,7 +208,7 @@ pub(crate) fn state(
         next: s,
     } = w
     else {
-        return why::number(line, s, out, at);
+        return why::number(line, s, to, out, at);
     };
     let w = number_at(line, s);
     let NumberAt::Is {
@@ -187,7 +216,7 @@ pub(crate) fn state(
         next: s,
     } = w
     else {
-        return why::number(line, s, out, at);
+        return why::number(line, s, to, out, at);
     };
     let w = number_at(line, s);
     let NumberAt::Is {
@@ -195,7 +224,7 @@ pub(crate) fn state(
         next: s,
     } = w
     else {
-        return why::number(line, s, out, at);
+        return why::number(line, s, to, out, at);
     };
     let w = mark_at(line, s);
     let MarkAt::Is {
@@ -203,7 +232,7 @@ pub(crate) fn state(
         next: s,
     } = w
     else {
-        return why::mark(line, s, out, at);
+        return why::mark(line, s, to, out, at);
     };
     let w = mark_at(line, s);
     let MarkAt::Is {
@@ -211,7 +240,7 @@ pub(crate) fn state(
         next: s,
     } = w
     else {
-        return why::mark(line, s, out, at);
+        return why::mark(line, s, to, out, at);
     };
     let w = number_at(line, s);
     let NumberAt::Is {
@@ -219,17 +248,17 @@ pub(crate) fn state(
         next: s,
     } = w
     else {
-        return why::number(line, s, out, at);
+        return why::number(line, s, to, out, at);
     };
     let b = bytes_at(line, s, message);
     if !b.good {
-        return why::bytes(line, s, out, at);
+        return why::bytes(line, s, to, out, at);
     }
     if !is_end(line, b.next) {
-        return why::words(out, at);
+        return why::words(to, out, at);
     }
     if room.len() < length {
-        return why::room(out, at);
+        return why::room(to, out, at);
     }
     let n = b.count;
     let given = Assembler {
@@ -241,7 +270,7 @@ pub(crate) fn state(
         last,
         stopped,
     };
-    feed_once(given, &message[0..n], &mut room[0..length], out, at)
+    feed_once(given, &message[0..n], &mut room[0..length], to, out, at)
 }
 
 // Whether all words from a place on, of which there is one at least, spell bytes; and where the first starts that does not.
@@ -279,47 +308,57 @@ struct Feeding {
 }
 
 // Feeds what is left of a run.
-fn feed_part(given: Assembler, run: &[u8], buf: &mut [u8], out: &mut [u8], at: Out) -> Feeding {
+fn feed_part(
+    given: Assembler,
+    run: &[u8],
+    buf: &mut [u8],
+    to: &mut Output,
+    out: &mut [u8],
+    at: Out,
+) -> Feeding {
     let f = rpcwire::feed(given, run, buf);
-    let n = fed(out, at, f);
     match f {
         Fed::Refused {
-            refusal: _,
+            refusal,
             state,
             used,
         } => Feeding {
             state,
             used,
             goes_on: false,
-            at: n,
+            at: fed_refused(to, out, at, refusal, used),
         },
         Fed::More { state, used } => Feeding {
             state,
             used,
             goes_on: true,
-            at: n,
+            at: fed_more(to, out, at, used),
         },
         Fed::Complete {
             length,
             state,
             used,
-        } => Feeding {
-            state,
-            used,
-            goes_on: true,
-            at: print::hex(
-                out,
-                n,
-                xdr::part(
-                    buf,
-                    Piece {
-                        at: 0,
-                        count: length,
-                        clean: true,
-                    },
+        } => {
+            let n = fed_complete(to, out, at, length, used);
+            Feeding {
+                state,
+                used,
+                goes_on: true,
+                at: print::hex(
+                    to,
+                    out,
+                    n,
+                    xdr::part(
+                        buf,
+                        Piece {
+                            at: 0,
+                            count: length,
+                            clean: true,
+                        },
+                    ),
                 ),
-            ),
-        },
+            }
+        }
     }
 }
 
@@ -339,8 +378,15 @@ fn past(from: usize, used: usize, end: usize) -> usize
 }
 
 // Feeds a run: once, and then, as long as records are complete and something is left of it, what is left.
-fn feed_run(given: Assembler, run: &[u8], buf: &mut [u8], out: &mut [u8], at: Out) -> Feeding {
-    let mut f = feed_part(given, run, buf, out, at);
+fn feed_run(
+    given: Assembler,
+    run: &[u8],
+    buf: &mut [u8],
+    to: &mut Output,
+    out: &mut [u8],
+    at: Out,
+) -> Feeding {
+    let mut f = feed_part(given, run, buf, to, out, at);
     let mut i = f.used;
     while i < run.len() {
         if !f.goes_on {
@@ -348,8 +394,8 @@ fn feed_run(given: Assembler, run: &[u8], buf: &mut [u8], out: &mut [u8], at: Ou
         }
         let s = f.state;
         let w = f.at;
-        let n = print::parting(out, w);
-        f = feed_part(s, &run[i..], buf, out, n);
+        let n = print::parting(to, out, w);
+        f = feed_part(s, &run[i..], buf, to, out, n);
         i = past(i, f.used, run.len());
     }
     f
@@ -362,12 +408,13 @@ fn feed_word(
     start: usize,
     message: &mut [u8],
     buf: &mut [u8],
+    to: &mut Output,
     out: &mut [u8],
     at: Out,
 ) -> Feeding {
     let b = bytes_at(line, start, message);
     let n = b.count;
-    feed_run(given, &message[0..n], buf, out, at)
+    feed_run(given, &message[0..n], buf, to, out, at)
 }
 
 // Feeds all the runs of a line, of which there is one at least, and each spells bytes.
@@ -377,10 +424,11 @@ fn feed_runs(
     start: usize,
     message: &mut [u8],
     buf: &mut [u8],
+    to: &mut Output,
     out: &mut [u8],
     at: Out,
 ) -> Feeding {
-    let mut f = feed_word(given, line, start, message, buf, out, at);
+    let mut f = feed_word(given, line, start, message, buf, to, out, at);
     let mut s = after(line, start);
     while s <= line.len() {
         if !f.goes_on {
@@ -388,8 +436,8 @@ fn feed_runs(
         }
         let g = f.state;
         let w = f.at;
-        let n = print::parting(out, w);
-        f = feed_word(g, line, s, message, buf, out, n);
+        let n = print::parting(to, out, w);
+        f = feed_word(g, line, s, message, buf, to, out, n);
         s = after(line, s);
     }
     f
@@ -401,14 +449,15 @@ fn feed_all(
     start: usize,
     message: &mut [u8],
     buf: &mut [u8],
+    to: &mut Output,
     out: &mut [u8],
     at: Out,
 ) -> Out {
     fill(buf);
-    let f = feed_runs(given, line, start, message, buf, out, at);
+    let f = feed_runs(given, line, start, message, buf, to, out, at);
     let s = f.state;
     let w = f.at;
-    state_and_buffer(out, w, s, buf)
+    state_and_buffer(to, out, w, s, buf)
 }
 
 // feed CAPACITY RUN RUN ..
@@ -417,6 +466,7 @@ pub(crate) fn feed(
     start: usize,
     message: &mut [u8],
     room: &mut [u8],
+    to: &mut Output,
     out: &mut [u8],
     at: Out,
 ) -> Out {
@@ -426,20 +476,20 @@ pub(crate) fn feed(
         next: s,
     } = c
     else {
-        return why::number(line, start, out, at);
+        return why::number(line, start, to, out, at);
     };
     let runs = runs_at(line, s, message);
     if !runs.good {
-        return why::bytes(line, runs.at, out, at);
+        return why::bytes(line, runs.at, to, out, at);
     }
     let made = rpcwire::fresh_assembler(capacity);
     match made {
-        AssemblerMade::Refused(r) => refusal(out, at, r),
+        AssemblerMade::Refused(r) => refusal(to, out, at, r),
         AssemblerMade::Ready(state) => {
             if room.len() < capacity {
-                return why::room(out, at);
+                return why::room(to, out, at);
             }
-            feed_all(state, line, s, message, &mut room[0..capacity], out, at)
+            feed_all(state, line, s, message, &mut room[0..capacity], to, out, at)
         }
     }
 }

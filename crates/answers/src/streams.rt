@@ -5,7 +5,7 @@ use crate::records::{state_and_buffer, state_of, used_of};
 use crate::words::{NumberAt, after, bytes_at, number_at};
 use crate::{print, why};
 use rpcwire::{Assembler, AssemblerMade, Fed};
-use stdio::{Out, say};
+use stdio::{Out, Output, say};
 use xdr::{Piece, Refusal};
 
 // What a stream has given so far: the state, the bytes used in all, whether no feed was refused, and how much output waits.
@@ -39,26 +39,33 @@ fn further(end: usize, from: usize, n: usize) -> usize {
     from + n
 }
 
-fn tell_record(record: &[u8], out: &mut [u8], at: Out) -> Out {
-    let n = say(out, at, b"record");
-    let n = print::number(out, n, record.len());
-    let n = print::hex(out, n, record);
-    print::parting(out, n)
+fn tell_record(record: &[u8], to: &mut Output, out: &mut [u8], at: Out) -> Out {
+    let n = say(to, out, at, b"record");
+    let n = print::number(to, out, n, record.len());
+    let n = print::hex(to, out, n, record);
+    print::parting(to, out, n)
 }
 
-fn tell_stop(r: Refusal, after: usize, out: &mut [u8], at: Out) -> Out {
-    let n = say(out, at, b"refused");
-    let n = print::number(out, n, r.number() as usize);
-    let n = print::number(out, n, after);
-    print::parting(out, n)
+fn tell_stop(r: Refusal, after: usize, to: &mut Output, out: &mut [u8], at: Out) -> Out {
+    let n = say(to, out, at, b"refused");
+    let n = print::number(to, out, n, r.number() as usize);
+    let n = print::number(to, out, n, after);
+    print::parting(to, out, n)
 }
 
 // Feeds a run of a stream that has `end` bytes.
-fn hear(h: Heard, run: &[u8], end: usize, buf: &mut [u8], out: &mut [u8]) -> Heard {
+fn hear(
+    h: Heard,
+    run: &[u8],
+    end: usize,
+    buf: &mut [u8],
+    to: &mut Output,
+    out: &mut [u8],
+) -> Heard {
     let s = h.state;
     let w = h.at;
     let f = rpcwire::feed(s, run, buf);
-    let used = further(end, h.used, used_of(f));
+    let used = further(end, h.used, used_of(&f));
     match f {
         Fed::Refused {
             refusal: r,
@@ -68,7 +75,7 @@ fn hear(h: Heard, run: &[u8], end: usize, buf: &mut [u8], out: &mut [u8]) -> Hea
             state,
             used,
             goes_on: false,
-            at: tell_stop(r, used, out, w),
+            at: tell_stop(r, used, to, out, w),
         },
         Fed::More { state, used: _ } => Heard {
             state,
@@ -93,6 +100,7 @@ fn hear(h: Heard, run: &[u8], end: usize, buf: &mut [u8], out: &mut [u8]) -> Hea
                         clean: true,
                     },
                 ),
+                to,
                 out,
                 w,
             ),
@@ -101,7 +109,14 @@ fn hear(h: Heard, run: &[u8], end: usize, buf: &mut [u8], out: &mut [u8]) -> Hea
 }
 
 // Feeds up to `n` bytes of those that were not used yet.
-fn hear_next(h: Heard, n: usize, stream: &[u8], buf: &mut [u8], out: &mut [u8]) -> Heard {
+fn hear_next(
+    h: Heard,
+    n: usize,
+    stream: &[u8],
+    buf: &mut [u8],
+    to: &mut Output,
+    out: &mut [u8],
+) -> Heard {
     let i = h.used;
     let count = least_left(stream.len(), i, n);
     hear(
@@ -116,6 +131,7 @@ fn hear_next(h: Heard, n: usize, stream: &[u8], buf: &mut [u8], out: &mut [u8]) 
         ),
         stream.len(),
         buf,
+        to,
         out,
     )
 }
@@ -136,6 +152,7 @@ fn hear_runs(
     start: usize,
     stream: &[u8],
     buf: &mut [u8],
+    to: &mut Output,
     out: &mut [u8],
 ) -> Heard {
     let mut h = given;
@@ -144,21 +161,27 @@ fn hear_runs(
         if !h.goes_on {
             return h;
         }
-        h = hear_next(h, length_at(line, s), stream, buf, out);
+        h = hear_next(h, length_at(line, s), stream, buf, to, out);
         s = after(line, s);
     }
     h
 }
 
 // Feeds all that is left, again and again. (Each time a byte is used, so it ends; if none were, it would end too.)
-fn hear_rest(given: Heard, stream: &[u8], buf: &mut [u8], out: &mut [u8]) -> Heard {
+fn hear_rest(
+    given: Heard,
+    stream: &[u8],
+    buf: &mut [u8],
+    to: &mut Output,
+    out: &mut [u8],
+) -> Heard {
     let mut h = given;
     let mut i = h.used;
     while i < stream.len() {
         if !h.goes_on {
             return h;
         }
-        h = hear_next(h, stream.len(), stream, buf, out);
+        h = hear_next(h, stream.len(), stream, buf, to, out);
         if h.used <= i {
             return h;
         }
@@ -189,8 +212,8 @@ fn hear_after_stop(h: Heard, stream: &[u8], buf: &mut [u8]) -> Heard {
         buf,
     );
     Heard {
-        state: state_of(f),
-        used: further(stream.len(), i, used_of(f)),
+        state: state_of(&f),
+        used: further(stream.len(), i, used_of(&f)),
         goes_on: false,
         at: w,
     }
@@ -203,10 +226,11 @@ fn hear_all(
     start: usize,
     stream: &[u8],
     buf: &mut [u8],
+    to: &mut Output,
     out: &mut [u8],
 ) -> Heard {
-    let h = hear_runs(given, line, start, stream, buf, out);
-    let h = hear_rest(h, stream, buf, out);
+    let h = hear_runs(given, line, start, stream, buf, to, out);
+    let h = hear_rest(h, stream, buf, to, out);
     hear_after_stop(h, stream, buf)
 }
 
@@ -216,15 +240,16 @@ fn tell_all(
     start: usize,
     stream: &[u8],
     buf: &mut [u8],
+    to: &mut Output,
     out: &mut [u8],
 ) -> Out {
     fill(buf);
-    let h = hear_all(given, line, start, stream, buf, out);
+    let h = hear_all(given, line, start, stream, buf, to, out);
     let s = h.state;
     let w = h.at;
-    let n = say(out, w, b"used");
-    let n = print::number(out, n, h.used);
-    state_and_buffer(out, n, s, buf)
+    let n = say(to, out, w, b"used");
+    let n = print::number(to, out, n, h.used);
+    state_and_buffer(to, out, n, s, buf)
 }
 
 // Where the first word from a place on starts that is not a number, or past the line's end.
@@ -246,6 +271,7 @@ pub(crate) fn stream(
     start: usize,
     message: &mut [u8],
     room: &mut [u8],
+    to: &mut Output,
     out: &mut [u8],
     at: Out,
 ) -> Out {
@@ -255,22 +281,22 @@ pub(crate) fn stream(
         next: s,
     } = c
     else {
-        return why::number(line, start, out, at);
+        return why::number(line, start, to, out, at);
     };
     let b = bytes_at(line, s, message);
     if !b.good {
-        return why::bytes(line, s, out, at);
+        return why::bytes(line, s, to, out, at);
     }
     let end = after_numbers(line, b.next);
     if end <= line.len() {
-        return why::number(line, end, out, at);
+        return why::number(line, end, to, out, at);
     }
     let made = rpcwire::fresh_assembler(capacity);
     match made {
-        AssemblerMade::Refused(r) => refusal(out, at, r),
+        AssemblerMade::Refused(r) => refusal(to, out, at, r),
         AssemblerMade::Ready(state) => {
             if room.len() < capacity {
-                return why::room(out, at);
+                return why::room(to, out, at);
             }
             let n = b.count;
             let given = Heard {
@@ -285,6 +311,7 @@ pub(crate) fn stream(
                 b.next,
                 &message[0..n],
                 &mut room[0..capacity],
+                to,
                 out,
             )
         }

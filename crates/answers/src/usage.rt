@@ -1,9 +1,10 @@
 // How to use the program.
-use stdio::{Out, flush, say};
+use stdio::{Out, Output, flush, say};
 
 // The lines, each with an example and its answer.
-fn questions(out: &mut [u8], at: Out) -> Out {
+fn questions(to: &mut Output, out: &mut [u8], at: Out) -> Out {
     let a = say(
+        to,
         out,
         at,
         b"usage: answers < LINES
@@ -27,6 +28,7 @@ space. Bytes are hex, - for none; numbers are decimal and fit 64 bits.
 ",
     );
     say(
+        to,
         out,
         a,
         b"  feed CAPACITY RUN RUN ..     more USED, complete LENGTH USED RECORD or refused N USED of each feed, and where
@@ -46,8 +48,9 @@ space. Bytes are hex, - for none; numbers are decimal and fit 64 bits.
     )
 }
 
-fn questions_of_calls(out: &mut [u8], at: Out) -> Out {
+fn questions_of_calls(to: &mut Output, out: &mut [u8], at: Out) -> Out {
     say(
+        to,
         out,
         at,
         b"  choose SEEN ROOM HEX         handover PROGRAM VERSION PROCEDURE ARGUMENTS, then none or unix STAMP NAMEPLACE
@@ -81,8 +84,9 @@ fn questions_of_calls(out: &mut [u8], at: Out) -> Out {
     )
 }
 
-fn kinds(out: &mut [u8], at: Out) -> Out {
+fn kinds(to: &mut Output, out: &mut [u8], at: Out) -> Out {
     say(
+        to,
         out,
         at,
         // made by tools/generate: names
@@ -101,12 +105,13 @@ fn kinds(out: &mut [u8], at: Out) -> Out {
     )
 }
 
-pub(crate) fn print(out: &mut [u8]) {
+pub(crate) fn print(to: &mut Output, out: &mut [u8]) {
     let a = Out::new();
-    let a = questions(out, a);
-    let a = questions_of_calls(out, a);
-    let a = kinds(out, a);
+    let a = questions(to, out, a);
+    let a = questions_of_calls(to, out, a);
+    let a = kinds(to, out, a);
     let a = say(
+        to,
         out,
         a,
         b"
@@ -116,5 +121,5 @@ is not of this form gets ? and why, and so does one that has more than 2200000 c
 LENGTH is over 1048576.
 ",
     );
-    flush(out, a);
+    flush(to, out, a);
 }

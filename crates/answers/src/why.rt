@@ -1,9 +1,9 @@
 // Why a line is not understood: an answer of `?`, a space and the reason.
-use stdio::{Out, say};
+use stdio::{Out, Output, say};
 
-fn reason(out: &mut [u8], at: Out, text: &[u8]) -> Out {
-    let n = say(out, at, b"? ");
-    say(out, n, text)
+fn reason(to: &mut Output, out: &mut [u8], at: Out, text: &[u8]) -> Out {
+    let n = say(to, out, at, b"? ");
+    say(to, out, n, text)
 }
 
 // A character as it is shown: a dot stands for one that cannot be seen.
@@ -18,14 +18,14 @@ fn shown(c: u8) -> u8 {
 }
 
 // The first 32 characters of a word.
-fn word(out: &mut [u8], at: Out, w: &[u8]) -> Out {
+fn word(to: &mut Output, out: &mut [u8], at: Out, w: &[u8]) -> Out {
     let mut n = at;
     let mut i = 0;
     while i < w.len() {
         if 32 <= i {
             return n;
         }
-        n = say(out, n, &[shown(w[i])]);
+        n = say(to, out, n, &[shown(w[i])]);
         i += 1;
     }
     n
@@ -45,90 +45,102 @@ fn missing_or(
     start: usize,
     missing: &[u8],
     wrong: &[u8],
+    to: &mut Output,
     out: &mut [u8],
     at: Out,
 ) -> Out {
     if line.len() < start {
-        return reason(out, at, missing);
+        return reason(to, out, at, missing);
     }
     if is_missing(line, start) {
-        return reason(out, at, missing);
+        return reason(to, out, at, missing);
     }
     let end = text::word_end(line, start);
-    let n = reason(out, at, wrong);
-    word(out, n, &line[start..end])
+    let n = reason(to, out, at, wrong);
+    word(to, out, n, &line[start..end])
 }
 
-pub(crate) fn question(line: &[u8], out: &mut [u8], at: Out) -> Out {
-    missing_or(line, 0, b"an empty line", b"no question named ", out, at)
+pub(crate) fn question(line: &[u8], to: &mut Output, out: &mut [u8], at: Out) -> Out {
+    missing_or(
+        line,
+        0,
+        b"an empty line",
+        b"no question named ",
+        to,
+        out,
+        at,
+    )
 }
 
-pub(crate) fn kind(line: &[u8], start: usize, out: &mut [u8], at: Out) -> Out {
+pub(crate) fn kind(line: &[u8], start: usize, to: &mut Output, out: &mut [u8], at: Out) -> Out {
     missing_or(
         line,
         start,
         b"a kind is missing",
         b"no kind named ",
+        to,
         out,
         at,
     )
 }
 
 // No name is listed without a kind of its number.
-pub(crate) fn no_kind(out: &mut [u8], at: Out) -> Out {
-    reason(out, at, b"no such kind")
+pub(crate) fn no_kind(to: &mut Output, out: &mut [u8], at: Out) -> Out {
+    reason(to, out, at, b"no such kind")
 }
 
-pub(crate) fn number(line: &[u8], start: usize, out: &mut [u8], at: Out) -> Out {
+pub(crate) fn number(line: &[u8], start: usize, to: &mut Output, out: &mut [u8], at: Out) -> Out {
     missing_or(
         line,
         start,
         b"a number is missing",
         b"not a number: ",
+        to,
         out,
         at,
     )
 }
 
-pub(crate) fn mark(line: &[u8], start: usize, out: &mut [u8], at: Out) -> Out {
+pub(crate) fn mark(line: &[u8], start: usize, to: &mut Output, out: &mut [u8], at: Out) -> Out {
     missing_or(
         line,
         start,
         b"a mark is missing",
         b"neither 0 nor 1: ",
+        to,
         out,
         at,
     )
 }
 
 // Characters are looked at before they are counted.
-pub(crate) fn bytes(line: &[u8], start: usize, out: &mut [u8], at: Out) -> Out {
+pub(crate) fn bytes(line: &[u8], start: usize, to: &mut Output, out: &mut [u8], at: Out) -> Out {
     if line.len() < start {
-        return reason(out, at, b"bytes are missing");
+        return reason(to, out, at, b"bytes are missing");
     }
     if is_missing(line, start) {
-        return reason(out, at, b"bytes are missing");
+        return reason(to, out, at, b"bytes are missing");
     }
     let end = text::word_end(line, start);
     let w = &line[start..end];
     if !text::are_digits(w) {
-        let n = reason(out, at, b"not hex: ");
-        return word(out, n, w);
+        let n = reason(to, out, at, b"not hex: ");
+        return word(to, out, n, w);
     }
     if w.len() % 2 == 1 {
-        return reason(out, at, b"odd number of hex digits");
+        return reason(to, out, at, b"odd number of hex digits");
     }
-    reason(out, at, b"more than 1100000 bytes")
+    reason(to, out, at, b"more than 1100000 bytes")
 }
 
-pub(crate) fn words(out: &mut [u8], at: Out) -> Out {
-    reason(out, at, b"more words than the line takes")
+pub(crate) fn words(to: &mut Output, out: &mut [u8], at: Out) -> Out {
+    reason(to, out, at, b"more words than the line takes")
 }
 
-pub(crate) fn room(out: &mut [u8], at: Out) -> Out {
-    reason(out, at, b"room for more than 1048576 bytes")
+pub(crate) fn room(to: &mut Output, out: &mut [u8], at: Out) -> Out {
+    reason(to, out, at, b"room for more than 1048576 bytes")
 }
 
-pub(crate) fn long(out: &mut [u8], at: Out) -> Out {
-    reason(out, at, b"the line has more than 2200000 characters")
+pub(crate) fn long(to: &mut Output, out: &mut [u8], at: Out) -> Out {
+    reason(to, out, at, b"the line has more than 2200000 characters")
 }

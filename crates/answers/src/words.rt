@@ -25,6 +25,11 @@ pub(crate) fn number_at(line: &[u8], start: usize) -> NumberAt {
     }
 }
 
+// Whether a word is another.
+pub(crate) fn same(a: &[u8], b: &[u8]) -> bool {
+    a == b
+}
+
 #[derive(Drop)]
 pub enum MarkAt {
     None,
@@ -38,13 +43,13 @@ pub(crate) fn mark_at(line: &[u8], start: usize) -> MarkAt {
     }
     let end = text::word_end(line, start);
     let word = &line[start..end];
-    if check::same(word, b"0") {
+    if same(word, b"0") {
         return MarkAt::Is {
             value: false,
             next: end + 1,
         };
     }
-    if check::same(word, b"1") {
+    if same(word, b"1") {
         return MarkAt::Is {
             value: true,
             next: end + 1,

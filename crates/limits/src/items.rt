@@ -3,18 +3,18 @@ use crate::cases::{BOOL, OPAQUE, READ3RES, RPC_MSG, WORDS, WRITE3ARGS};
 use crate::{make, print};
 use door::Copied;
 use rpcwire::{Caller, Choice};
-use stdio::{Out, say};
+use stdio::{Out, Output, say};
 use xdr::{Piece, Wrote};
 
-fn kind_word(out: &mut [u8], at: Out, kind: u32) -> Out {
+fn kind_word(to: &mut Output, out: &mut [u8], at: Out, kind: u32) -> Out {
     match kind {
-        BOOL => say(out, at, b" bool"),
-        OPAQUE => say(out, at, b" opaque"),
-        WORDS => say(out, at, b" words"),
-        RPC_MSG => say(out, at, b" rpc_msg"),
-        READ3RES => say(out, at, b" read3res"),
-        WRITE3ARGS => say(out, at, b" write3args"),
-        _ => say(out, at, b" ?"),
+        BOOL => say(to, out, at, b" bool"),
+        OPAQUE => say(to, out, at, b" opaque"),
+        WORDS => say(to, out, at, b" words"),
+        RPC_MSG => say(to, out, at, b" rpc_msg"),
+        READ3RES => say(to, out, at, b" read3res"),
+        WRITE3ARGS => say(to, out, at, b" write3args"),
+        _ => say(to, out, at, b" ?"),
     }
 }
 
@@ -30,33 +30,33 @@ fn front(buf: &[u8], length: usize) -> &[u8] {
     )
 }
 
-fn took(out: &mut [u8], at: Out, next: usize, plain: bool, end: usize) -> Out {
-    let n = say(out, at, b" took");
-    let n = print::number(out, n, next);
+fn took(to: &mut Output, out: &mut [u8], at: Out, next: usize, plain: bool, end: usize) -> Out {
+    let n = say(to, out, at, b" took");
+    let n = print::number(to, out, n, next);
     if plain {
-        let n = say(out, n, b" plain");
-        return print::number(out, n, end);
+        let n = say(to, out, n, b" plain");
+        return print::number(to, out, n, end);
     }
-    let n = say(out, n, b" loose");
-    print::number(out, n, end)
+    let n = say(to, out, n, b" loose");
+    print::number(to, out, n, end)
 }
 
-fn copied(out: &mut [u8], at: Out, c: Copied) -> Out {
+fn copied(to: &mut Output, out: &mut [u8], at: Out, c: Copied) -> Out {
     match c {
-        Copied::Unknown => say(out, at, b" ?"),
-        Copied::Unread(r) => print::refusal(out, at, r),
+        Copied::Unknown => say(to, out, at, b" ?"),
+        Copied::Unread(r) => print::refusal(to, out, at, r),
         Copied::Unwritten {
             refusal: r,
             next: _,
             plain: _,
             marks: _,
-        } => print::refusal(out, at, r),
+        } => print::refusal(to, out, at, r),
         Copied::Done {
             next,
             plain,
             end,
             marks: _,
-        } => took(out, at, next, plain, end),
+        } => took(to, out, at, next, plain, end),
     }
 }
 
@@ -78,11 +78,19 @@ fn prepare(kind: u32, first: u32, message: &mut [u8]) {
     make::word(message, 0, first);
 }
 
-fn read_words(out: &mut [u8], at: Out, kind: u32, first: u32, place: usize, length: usize) -> Out {
-    let n = say(out, at, b"read");
-    let n = kind_word(out, n, kind);
-    let n = print::three(out, n, first as usize, place, length);
-    say(out, n, b":")
+fn read_words(
+    to: &mut Output,
+    out: &mut [u8],
+    at: Out,
+    kind: u32,
+    first: u32,
+    place: usize,
+    length: usize,
+) -> Out {
+    let n = say(to, out, at, b"read");
+    let n = kind_word(to, out, n, kind);
+    let n = print::three(to, out, n, first as usize, place, length);
+    say(to, out, n, b":")
 }
 
 // Such a message, read and rewritten.
@@ -93,23 +101,24 @@ pub(crate) fn read(
     length: usize,
     message: &mut [u8],
     room: &mut [u8],
+    to: &mut Output,
     out: &mut [u8],
     at: Out,
 ) -> Out {
-    let n = read_words(out, at, kind, first, place, length);
+    let n = read_words(to, out, at, kind, first, place, length);
     prepare(kind, first, message);
     make::empty(room);
     let c = door::copy_kind(kind, front(message, length), place, room, 0);
-    let n = copied(out, n, c);
-    print::end(out, n, room)
+    let n = copied(to, out, n, c);
+    print::end(to, out, n, room)
 }
 
-pub(crate) fn wrote(out: &mut [u8], at: Out, w: Wrote) -> Out {
+pub(crate) fn wrote(to: &mut Output, out: &mut [u8], at: Out, w: Wrote) -> Out {
     match w {
-        Wrote::Refused(r) => print::refusal(out, at, r),
+        Wrote::Refused(r) => print::refusal(to, out, at, r),
         Wrote::Done(next) => {
-            let n = say(out, at, b" wrote");
-            print::number(out, n, next)
+            let n = say(to, out, at, b" wrote");
+            print::number(to, out, n, next)
         }
     }
 }
@@ -127,16 +136,18 @@ fn write_into(
     x: Piece,
     buf: &mut [u8],
     start: usize,
+    to: &mut Output,
     out: &mut [u8],
     at: Out,
 ) -> Out {
     make::empty(buf);
     let w = write_piece(kind, source, x, buf, start);
-    let n = wrote(out, at, w);
-    print::end(out, n, buf)
+    let n = wrote(to, out, at, w);
+    print::end(to, out, n, buf)
 }
 
 fn write_words(
+    to: &mut Output,
     out: &mut [u8],
     at: Out,
     kind: u32,
@@ -145,11 +156,11 @@ fn write_words(
     n: usize,
     start: usize,
 ) -> Out {
-    let m = say(out, at, b"write");
-    let m = kind_word(out, m, kind);
-    let m = print::three(out, m, length, x.at, x.count);
-    let m = print::two(out, m, n, start);
-    say(out, m, b":")
+    let m = say(to, out, at, b"write");
+    let m = kind_word(to, out, m, kind);
+    let m = print::three(to, out, m, length, x.at, x.count);
+    let m = print::two(to, out, m, n, start);
+    say(to, out, m, b":")
 }
 
 // A piece of a source, written into a buffer of `n` bytes.
@@ -162,6 +173,7 @@ pub(crate) fn write(
     start: usize,
     message: &mut [u8],
     room: &mut [u8],
+    to: &mut Output,
     out: &mut [u8],
     at: Out,
 ) -> Out {
@@ -170,7 +182,7 @@ pub(crate) fn write(
         count,
         clean: true,
     };
-    let m = write_words(out, at, kind, length, x, n, start);
+    let m = write_words(to, out, at, kind, length, x, n, start);
     if room.len() < n {
         return m;
     }
@@ -181,33 +193,42 @@ pub(crate) fn write(
         x,
         &mut room[0..n],
         start,
+        to,
         out,
         m,
     )
 }
 
-fn caller(out: &mut [u8], at: Out, c: Caller) -> Out {
+fn caller(to: &mut Output, out: &mut [u8], at: Out, c: Caller) -> Out {
     match c {
-        Caller::Unnamed => say(out, at, b" none"),
+        Caller::Unnamed => say(to, out, at, b" none"),
         Caller::Unix(a) => {
             let gids = a.gids;
-            let n = print::number(out, at, gids.at);
-            print::number(out, n, gids.count)
+            let n = print::number(to, out, at, gids.at);
+            print::number(to, out, n, gids.count)
         }
     }
 }
 
-fn call_words(out: &mut [u8], at: Out, prog: u32, vers: u32, proc: u32, arguments: usize) -> Out {
-    let n = say(out, at, b" handover");
-    let n = print::three(out, n, prog as usize, vers as usize, proc as usize);
-    print::number(out, n, arguments)
+fn call_words(
+    to: &mut Output,
+    out: &mut [u8],
+    at: Out,
+    prog: u32,
+    vers: u32,
+    proc: u32,
+    arguments: usize,
+) -> Out {
+    let n = say(to, out, at, b" handover");
+    let n = print::three(to, out, n, prog as usize, vers as usize, proc as usize);
+    print::number(to, out, n, arguments)
 }
 
-fn chosen(out: &mut [u8], at: Out, c: Choice) -> Out {
+fn chosen(to: &mut Output, out: &mut [u8], at: Out, c: Choice) -> Out {
     match c {
-        Choice::Refused(r) => print::refusal(out, at, r),
-        Choice::Replied(_) => say(out, at, b" reply"),
-        Choice::Silent => say(out, at, b" silence"),
+        Choice::Refused(r) => print::refusal(to, out, at, r),
+        Choice::Replied(_) => say(to, out, at, b" reply"),
+        Choice::Silent => say(to, out, at, b" silence"),
         Choice::HandOver {
             prog,
             vers,
@@ -215,23 +236,23 @@ fn chosen(out: &mut [u8], at: Out, c: Choice) -> Out {
             caller: who,
             arguments,
         } => {
-            let n = call_words(out, at, prog, vers, proc, arguments);
-            caller(out, n, who)
+            let n = call_words(to, out, at, prog, vers, proc, arguments);
+            caller(to, out, n, who)
         }
     }
 }
 
-fn choose_into(message: &[u8], buf: &mut [u8], out: &mut [u8], at: Out) -> Out {
+fn choose_into(message: &[u8], buf: &mut [u8], to: &mut Output, out: &mut [u8], at: Out) -> Out {
     make::empty(buf);
     let c = rpcwire::choose(message, false, buf);
-    let n = chosen(out, at, c);
-    print::end(out, n, buf)
+    let n = chosen(to, out, at, c);
+    print::end(to, out, n, buf)
 }
 
-fn choose_words(out: &mut [u8], at: Out, flavor: u32, length: usize) -> Out {
-    let n = say(out, at, b"choose");
-    let n = print::two(out, n, flavor as usize, length);
-    say(out, n, b":")
+fn choose_words(to: &mut Output, out: &mut [u8], at: Out, flavor: u32, length: usize) -> Out {
+    let n = say(to, out, at, b"choose");
+    let n = print::two(to, out, n, flavor as usize, length);
+    say(to, out, n, b":")
 }
 
 // A call with a credential of a flavor, for its program.
@@ -240,13 +261,14 @@ pub(crate) fn choose(
     length: usize,
     message: &mut [u8],
     room: &mut [u8],
+    to: &mut Output,
     out: &mut [u8],
     at: Out,
 ) -> Out {
-    let n = choose_words(out, at, flavor, length);
+    let n = choose_words(to, out, at, flavor, length);
     if room.len() < 24 {
         return n;
     }
     make::call(message, flavor);
-    choose_into(front(message, length), &mut room[0..24], out, n)
+    choose_into(front(message, length), &mut room[0..24], to, out, n)
 }

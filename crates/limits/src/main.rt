@@ -2,6 +2,8 @@
 //
 // Each line it prints has a question, which names bytes by their length, and the answer, which ends in a digest of what the buffer then
 // holds. `oracle/limits` makes the same lines from the Rust.
+#![tactic(auto)]
+
 mod cases;
 mod items;
 mod make;
@@ -9,16 +11,24 @@ mod print;
 mod records;
 
 use cases::Case;
-use stdio::Out;
+use std::alloc::AllocError;
+use stdio::{Out, Output, Stream};
 
-fn ask(c: Case, message: &mut [u8], room: &mut [u8], out: &mut [u8], at: Out) -> Out {
+fn ask(
+    c: Case,
+    message: &mut [u8],
+    room: &mut [u8],
+    to: &mut Output,
+    out: &mut [u8],
+    at: Out,
+) -> Out {
     match c {
         Case::Read {
             kind,
             first,
             at: place,
             length,
-        } => items::read(kind, first, place, length, message, room, out, at),
+        } => items::read(kind, first, place, length, message, room, to, out, at),
         Case::Write {
             kind,
             length,
@@ -26,9 +36,13 @@ fn ask(c: Case, message: &mut [u8], room: &mut [u8], out: &mut [u8], at: Out) ->
             count,
             room: n,
             start,
-        } => items::write(kind, length, piece, count, n, start, message, room, out, at),
-        Case::Choose { flavor, length } => items::choose(flavor, length, message, room, out, at),
-        Case::Fresh { capacity } => records::fresh(capacity, out, at),
+        } => items::write(
+            kind, length, piece, count, n, start, message, room, to, out, at,
+        ),
+        Case::Choose { flavor, length } => items::choose(
+            flavor, length, message, room, to, out, at,
+        ),
+        Case::Fresh { capacity } => records::fresh(capacity, to, out, at),
         Case::Feed {
             capacity,
             first,
@@ -36,29 +50,31 @@ fn ask(c: Case, message: &mut [u8], room: &mut [u8], out: &mut [u8], at: Out) ->
             a,
             b,
             c,
-        } => records::feed(capacity, first, second, a, b, c, message, room, out, at),
-        Case::State { capacity } => records::state(capacity, message, room, out, at),
+        } => records::feed(capacity, first, second, a, b, c, message, room, to, out, at),
+        Case::State { capacity } => records::state(capacity, message, room, to, out, at),
         Case::Fragment {
             length,
             room: n,
             start,
-        } => records::fragment(length, n, start, message, room, out, at),
+        } => records::fragment(length, n, start, message, room, to, out, at),
     }
 }
 
-fn ask_all(message: &mut [u8], room: &mut [u8], out: &mut [u8]) {
+fn ask_all(message: &mut [u8], room: &mut [u8], to: &mut Output, out: &mut [u8]) {
     let mut at = Out::new();
     let mut i = 0;
     while i < cases::COUNT {
-        at = ask(cases::question(i), message, room, out, at);
+        at = ask(cases::question(i), message, room, to, out, at);
         i += 1;
     }
-    stdio::flush(out, at);
+    stdio::flush(to, out, at);
 }
 
-fn main() {
-    let mut message = make::largest();
-    let mut room = make::largest();
-    let mut out = io::buffer();
-    ask_all(&mut message, &mut room, &mut out);
+fn main(rt: HostRuntime) -> Result<(), AllocError> {
+    let mut message = make::largest(rt.alloc())?;
+    let mut room = make::largest(rt.alloc())?;
+    let mut to = Stream::new(rt.stdout(), rt.stderr());
+    let mut out = [0u8; 4096];
+    ask_all(&mut message, &mut room, &mut to, &mut out);
+    Ok(())
 }

@@ -1,38 +1,37 @@
-// The parts of a line. Each function takes the buffer for the output and where that stands, and answers where it then stands.
+// The parts of a line. Each function takes the output, the buffer for it and where that stands, and answers where it then stands.
 use crate::make;
-use stdio::{Out, say};
+use stdio::{Out, Output, say};
 use xdr::Refusal;
 
 // A number, with a space in front.
-pub(crate) fn number(out: &mut [u8], at: Out, n: usize) -> Out {
-    let m = say(out, at, b" ");
-    stdio::number(out, m, n as u64)
+pub(crate) fn number(to: &mut Output, out: &mut [u8], at: Out, n: usize) -> Out {
+    let m = say(to, out, at, b" ");
+    stdio::number(to, out, m, n as u64)
 }
 
-pub(crate) fn two(out: &mut [u8], at: Out, a: usize, b: usize) -> Out {
-    let n = number(out, at, a);
-    number(out, n, b)
+pub(crate) fn two(to: &mut Output, out: &mut [u8], at: Out, a: usize, b: usize) -> Out {
+    let n = number(to, out, at, a);
+    number(to, out, n, b)
 }
 
-pub(crate) fn three(out: &mut [u8], at: Out, a: usize, b: usize, c: usize) -> Out {
-    let n = two(out, at, a, b);
-    number(out, n, c)
+pub(crate) fn three(to: &mut Output, out: &mut [u8], at: Out, a: usize, b: usize, c: usize) -> Out {
+    let n = two(to, out, at, a, b);
+    number(to, out, n, c)
 }
 
 // A refusal: its number, its place where it has one, and how many bytes it wants where it wants any.
-pub(crate) fn refusal(out: &mut [u8], at: Out, r: Refusal) -> Out {
-    let n = say(out, at, b" refused");
-    let m = number(out, n, r.number() as usize);
+pub(crate) fn refusal(to: &mut Output, out: &mut [u8], at: Out, r: Refusal) -> Out {
+    let n = say(to, out, at, b" refused");
     match r {
-        Refusal::Ended { place, wanting } => two(out, m, place, wanting),
-        Refusal::Undeclared(place) => number(out, m, place),
-        _ => m,
+        Refusal::Ended { place, wanting } => three(to, out, n, 1, place, wanting),
+        Refusal::Undeclared(place) => two(to, out, n, 2, place),
+        _ => number(to, out, n, r.number() as usize),
     }
 }
 
 // The end of a line: the digest of what a buffer then holds.
-pub(crate) fn end(out: &mut [u8], at: Out, buf: &[u8]) -> Out {
-    let n = say(out, at, b" ");
-    let m = stdio::number(out, n, make::digest(buf));
-    say(out, m, b"\n")
+pub(crate) fn end(to: &mut Output, out: &mut [u8], at: Out, buf: &[u8]) -> Out {
+    let n = say(to, out, at, b" ");
+    let m = stdio::number(to, out, n, make::digest(buf));
+    say(to, out, m, b"\n")
 }

@@ -1,23 +1,23 @@
 // The questions about records of a stream: `fresh`, `feed`, `state` and `fragment`.
 use crate::{items, make, print};
 use rpcwire::{Assembler, AssemblerMade, Fed};
-use stdio::{Out, say};
+use stdio::{Out, Output, say};
 use xdr::Piece;
 
-fn made(out: &mut [u8], at: Out, m: AssemblerMade) -> Out {
+fn made(to: &mut Output, out: &mut [u8], at: Out, m: AssemblerMade) -> Out {
     match m {
-        AssemblerMade::Refused(r) => print::refusal(out, at, r),
-        AssemblerMade::Ready(_) => say(out, at, b" ready"),
+        AssemblerMade::Refused(r) => print::refusal(to, out, at, r),
+        AssemblerMade::Ready(_) => say(to, out, at, b" ready"),
     }
 }
 
 // A state of some capacity.
-pub(crate) fn fresh(capacity: usize, out: &mut [u8], at: Out) -> Out {
-    let n = say(out, at, b"fresh");
-    let n = print::number(out, n, capacity);
-    let n = say(out, n, b":");
-    let n = made(out, n, rpcwire::fresh_assembler(capacity));
-    say(out, n, b"\n")
+pub(crate) fn fresh(capacity: usize, to: &mut Output, out: &mut [u8], at: Out) -> Out {
+    let n = say(to, out, at, b"fresh");
+    let n = print::number(to, out, n, capacity);
+    let n = say(to, out, n, b":");
+    let n = made(to, out, n, rpcwire::fresh_assembler(capacity));
+    say(to, out, n, b"\n")
 }
 
 fn of_capacity(capacity: usize) -> Assembler {
@@ -40,25 +40,25 @@ struct Feeding {
 }
 
 // What a feed answers.
-fn fed(out: &mut [u8], at: Out, f: Fed) -> Feeding {
+fn fed(to: &mut Output, out: &mut [u8], at: Out, f: Fed) -> Feeding {
     match f {
         Fed::Refused {
             refusal,
             state,
             used,
         } => {
-            let n = say(out, at, b" refused");
-            let n = print::number(out, n, refusal.number() as usize);
+            let n = say(to, out, at, b" refused");
+            let n = print::number(to, out, n, refusal.number() as usize);
             Feeding {
                 state,
-                at: print::number(out, n, used),
+                at: print::number(to, out, n, used),
             }
         }
         Fed::More { state, used } => {
-            let n = say(out, at, b" more");
+            let n = say(to, out, at, b" more");
             Feeding {
                 state,
-                at: print::number(out, n, used),
+                at: print::number(to, out, n, used),
             }
         }
         Fed::Complete {
@@ -66,11 +66,11 @@ fn fed(out: &mut [u8], at: Out, f: Fed) -> Feeding {
             state,
             used,
         } => {
-            let n = say(out, at, b" complete");
-            let n = print::number(out, n, length);
+            let n = say(to, out, at, b" complete");
+            let n = print::number(to, out, n, length);
             Feeding {
                 state,
-                at: print::number(out, n, used),
+                at: print::number(to, out, n, used),
             }
         }
     }
@@ -83,6 +83,7 @@ fn run(
     from: usize,
     length: usize,
     buf: &mut [u8],
+    to: &mut Output,
     out: &mut [u8],
 ) -> Feeding {
     if length == 0 {
@@ -96,7 +97,7 @@ fn run(
         clean: true,
     };
     let r = rpcwire::feed(s, xdr::part(stream, x), buf);
-    fed(out, w, r)
+    fed(to, out, w, r)
 }
 
 fn last_run(
@@ -105,11 +106,12 @@ fn last_run(
     from: usize,
     length: usize,
     buf: &mut [u8],
+    to: &mut Output,
     out: &mut [u8],
 ) -> Out {
-    let g = run(f, stream, from, length, buf, out);
+    let g = run(f, stream, from, length, buf, to, out);
     let w = g.at;
-    print::end(out, w, buf)
+    print::end(to, out, w, buf)
 }
 
 // The runs of a stream of which the first, of `a` bytes, is fed.
@@ -120,6 +122,7 @@ fn more_runs(
     b: usize,
     c: usize,
     buf: &mut [u8],
+    to: &mut Output,
     out: &mut [u8],
 ) -> Out {
     if stream.len() < a {
@@ -128,8 +131,8 @@ fn more_runs(
     if stream.len() - a < b {
         return f.at;
     }
-    let g = run(f, stream, a, b, buf, out);
-    last_run(g, stream, a + b, c, buf, out)
+    let g = run(f, stream, a, b, buf, to, out);
+    last_run(g, stream, a + b, c, buf, to, out)
 }
 
 fn runs(
@@ -138,6 +141,7 @@ fn runs(
     b: usize,
     c: usize,
     buf: &mut [u8],
+    to: &mut Output,
     out: &mut [u8],
     at: Out,
 ) -> Out {
@@ -146,8 +150,8 @@ fn runs(
         state: of_capacity(buf.len()),
         at,
     };
-    let g = run(f, stream, 0, a, buf, out);
-    more_runs(g, stream, a, b, c, buf, out)
+    let g = run(f, stream, 0, a, buf, to, out);
+    more_runs(g, stream, a, b, c, buf, to, out)
 }
 
 // The header of a last fragment.
@@ -166,14 +170,15 @@ fn headers(stream: &mut [u8], first: u32, second: u32) {
     make::word(stream, 4 + first as usize, last(second));
 }
 
-fn length_word(out: &mut [u8], at: Out, n: usize) -> Out {
+fn length_word(to: &mut Output, out: &mut [u8], at: Out, n: usize) -> Out {
     if n == 0 {
         return at;
     }
-    print::number(out, at, n)
+    print::number(to, out, at, n)
 }
 
 fn feed_words(
+    to: &mut Output,
     out: &mut [u8],
     at: Out,
     capacity: usize,
@@ -183,12 +188,12 @@ fn feed_words(
     b: usize,
     c: usize,
 ) -> Out {
-    let n = say(out, at, b"feed");
-    let n = print::three(out, n, capacity, first as usize, second as usize);
-    let n = length_word(out, n, a);
-    let n = length_word(out, n, b);
-    let n = length_word(out, n, c);
-    say(out, n, b":")
+    let n = say(to, out, at, b"feed");
+    let n = print::three(to, out, n, capacity, first as usize, second as usize);
+    let n = length_word(to, out, n, a);
+    let n = length_word(to, out, n, b);
+    let n = length_word(to, out, n, c);
+    say(to, out, n, b":")
 }
 
 // A stream in three runs, of which the last two may be empty, fed into a buffer of that capacity.
@@ -201,31 +206,32 @@ pub(crate) fn feed(
     c: usize,
     stream: &mut [u8],
     room: &mut [u8],
+    to: &mut Output,
     out: &mut [u8],
     at: Out,
 ) -> Out {
-    let n = feed_words(out, at, capacity, first, second, a, b, c);
+    let n = feed_words(to, out, at, capacity, first, second, a, b, c);
     if room.len() < capacity {
         return n;
     }
     headers(stream, first, second);
-    runs(stream, a, b, c, &mut room[0..capacity], out, n)
+    runs(stream, a, b, c, &mut room[0..capacity], to, out, n)
 }
 
-fn state_words(out: &mut [u8], at: Out, capacity: usize) -> Out {
-    let n = say(out, at, b"state");
-    let n = print::number(out, n, capacity);
-    say(out, n, b":")
+fn state_words(to: &mut Output, out: &mut [u8], at: Out, capacity: usize) -> Out {
+    let n = say(to, out, at, b"state");
+    let n = print::number(to, out, n, capacity);
+    say(to, out, n, b":")
 }
 
-fn state_into(stream: &[u8], buf: &mut [u8], out: &mut [u8], at: Out) -> Out {
+fn state_into(stream: &[u8], buf: &mut [u8], to: &mut Output, out: &mut [u8], at: Out) -> Out {
     let f = Feeding {
         state: of_capacity(buf.len()),
         at,
     };
-    let g = run(f, stream, 0, 4, buf, out);
+    let g = run(f, stream, 0, 4, buf, to, out);
     let w = g.at;
-    say(out, w, b"\n")
+    say(to, out, w, b"\n")
 }
 
 // A state of some capacity, with a buffer of as many bytes.
@@ -233,28 +239,43 @@ pub(crate) fn state(
     capacity: usize,
     stream: &mut [u8],
     room: &mut [u8],
+    to: &mut Output,
     out: &mut [u8],
     at: Out,
 ) -> Out {
-    let n = state_words(out, at, capacity);
+    let n = state_words(to, out, at, capacity);
     if room.len() < capacity {
         return n;
     }
     make::rule(stream);
-    state_into(stream, &mut room[0..capacity], out, n)
+    state_into(stream, &mut room[0..capacity], to, out, n)
 }
 
-fn fragment_into(message: &[u8], buf: &mut [u8], start: usize, out: &mut [u8], at: Out) -> Out {
+fn fragment_into(
+    message: &[u8],
+    buf: &mut [u8],
+    start: usize,
+    to: &mut Output,
+    out: &mut [u8],
+    at: Out,
+) -> Out {
     make::empty(buf);
     let w = rpcwire::write_fragment(message, buf, start);
-    let n = items::wrote(out, at, w);
-    print::end(out, n, buf)
+    let n = items::wrote(to, out, at, w);
+    print::end(to, out, n, buf)
 }
 
-fn fragment_words(out: &mut [u8], at: Out, length: usize, n: usize, start: usize) -> Out {
-    let m = say(out, at, b"fragment");
-    let m = print::three(out, m, length, n, start);
-    say(out, m, b":")
+fn fragment_words(
+    to: &mut Output,
+    out: &mut [u8],
+    at: Out,
+    length: usize,
+    n: usize,
+    start: usize,
+) -> Out {
+    let m = say(to, out, at, b"fragment");
+    let m = print::three(to, out, m, length, n, start);
+    say(to, out, m, b":")
 }
 
 // A message written as one fragment into a buffer of `n` bytes.
@@ -264,10 +285,11 @@ pub(crate) fn fragment(
     start: usize,
     message: &mut [u8],
     room: &mut [u8],
+    to: &mut Output,
     out: &mut [u8],
     at: Out,
 ) -> Out {
-    let m = fragment_words(out, at, length, n, start);
+    let m = fragment_words(to, out, at, length, n, start);
     if room.len() < n {
         return m;
     }
@@ -277,5 +299,5 @@ pub(crate) fn fragment(
         count: length,
         clean: true,
     };
-    fragment_into(xdr::part(message, x), &mut room[0..n], start, out, m)
+    fragment_into(xdr::part(message, x), &mut room[0..n], start, to, out, m)
 }

@@ -1,7 +1,8 @@
 -- What is known of text on its way out: all but whether a write fails, which is not in a program's hands.
 -- Assumes nothing.
-use Rattle.std.specs.Prelude.{◌≡◌, List, Bool, true, false, cond, ℕ, ◌+◌, leb, length}
+use Rattle.std.specs.Prelude.{◌≡◌, List, ◌++◌, Bool, ⊤, None, Some, true, false, cond, ℕ, ◌+◌, leb, length}
 use Rattle.std.proofs.lemmas.List.Edits.{sets}
+use Rattle.std.specs.declared.option.Option.{Option}
 use Rattle.io.specs.Digits.{last_digits, IsDigitCount}
 use Rattle.stdio.specs.declared.output.Out.{Out}
 
@@ -45,3 +46,16 @@ pub record Numbered (buf : List ℕ) (at : Out) (n : ℕ) (r : Out) (after : Lis
   pub places : ℕ
   pub fewest : IsDigitCount 10 1 n places
   pub said : Said buf at (last_digits 10 places n) r after
+
+-- what the writer holds and what waits is what it held and what waited, and then the text: nothing is lost on the way, where the bytes that a
+-- writer holds are known
+abbrev pub Kept : Option (List ℕ) → Option (List ℕ) → List ℕ → List ℕ → List ℕ → Type 0
+Kept None new waited text waits = ⊤
+Kept (Some xs) None waited text waits = ⊥
+Kept (Some xs) (Some ys) waited text waits = ys ++ waits ≡ (xs ++ waited) ++ text
+
+-- the same of a number in decimal
+pub record KeptNumber (old new : Option (List ℕ)) (waited : List ℕ) (n : ℕ) (waits : List ℕ) : Type 0 where
+  pub places : ℕ
+  pub fewest : IsDigitCount 10 1 n places
+  pub kept : Kept old new waited (last_digits 10 places n) waits

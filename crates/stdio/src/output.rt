@@ -1,13 +1,17 @@
 // Standard output. Text waits in a buffer that the caller lends, and is written out where the buffer is full or flushed.
-ghost use Rattle.std.specs.Prelude.{true, false, ◌≡◌, ◌+◌, ◌≤◌, leb, length};
+ghost use Rattle.std.specs.Prelude.{true, false, ◌≡◌, ◌+◌, ◌≤◌, leb, length, take};
 ghost use Rattle.std.proofs.lemmas.List.Edits.{sets};
-ghost use Rattle.stdio.specs.Output.{Said, Flushed, Numbered};
+ghost use Rattle.std.specs.Io.KnownBytes.{Appends};
+ghost use Rattle.stdio.specs.Output.{Said, Flushed, Numbered, Kept, KeptNumber};
 
+use crate::fail::fail;
+use crate::stream::Stream;
 use crate::wait::{Try, pause};
+use std::io::{Error, ErrorKind, Write};
 
 // How much text waits at the front of the buffer; and if some was lost because a write failed, which was said on standard error. Then no more
 // is taken.
-#[derive(Drop)]
+#[derive(Clone, Copy)]
 pub struct Out {
     pub count: usize,
     pub lost: bool,
@@ -25,65 +29,78 @@ impl Out {
     }
 }
 
-fn try_write(bytes: &[u8]) -> Try
-    ensures { result.count ≤ length bytes.now }
+fn try_write<W: Write>(to: &mut W, bytes: &[u8]) -> Try
+    ensures bound { result.count ≤ length bytes.now }
+    ensures sent { Appends (W.contents to.old) (W.contents to.new) (take result.count bytes.now) }
+    ensures again { result.again ≡ true → result.count ≡ 0 }
 {
-    let got = libc::write(libc::STDOUT_FILENO, bytes);
-    if got < 0 {
-        return Try::failed();
+    match to.write(bytes) {
+        Ok(n) => Try::moved(n),
+        Err(e) => Try::failed(e),
     }
-    Try::moved(io::count(got, bytes))
 }
 
 // Writes some of the bytes, from the first on, once there is room for them; 0 says that it failed. (A proved loop ends: its turns are counted
 // down from a number that no run uses up.)
-fn write_some(bytes: &[u8]) -> usize
-    ensures { result ≤ length bytes.now }
+fn write_some<W: Write>(to: &mut W, bytes: &[u8]) -> Try
+    ensures bound { result.count ≤ length bytes.now }
+    ensures sent { Appends (W.contents to.old) (W.contents to.new) (take result.count bytes.now) }
 {
     let mut turns = u64::MAX;
-    let mut t = try_write(bytes);
+    let mut t = try_write(to, bytes);
     while turns > 0 && t.again {
         pause();
-        t = try_write(bytes);
+        t = try_write(to, bytes);
         turns -= 1;
     }
-    t.count
+    t
+}
+
+// Why nothing was written. A write that takes nothing and does not fail has no error of its own.
+fn why_none(t: Try) -> Error {
+    match t.failed {
+        Some(why) => why,
+        None => Error::from(ErrorKind::WriteZero),
+    }
 }
 
 // Writes all of the bytes, and answers true; or says on standard error that it cannot.
-fn write_all(bytes: &[u8]) -> bool
-    ensures { length bytes.now ≡ 0 → result ≡ true }
+fn write_all<W: Write, E: Write>(to: &mut Stream<W, E>, bytes: &[u8]) -> bool
+    ensures none { length bytes.now ≡ 0 → result ≡ true }
+    ensures sent { result ≡ true → Appends (W.contents to.old.stream) (W.contents to.new.stream) bytes.now }
 {
     let mut done = 0;
     while done < bytes.len() {
-        let n = write_some(&bytes[done..]);
-        if n == 0 {
-            os::fail(b"standard output");
+        let t = write_some(&mut to.stream, &bytes[done..]);
+        if t.count == 0 {
+            fail(&mut to.errors, "standard output", &why_none(t));
             return false;
         }
-        done += n;
+        done += t.count;
     }
     true
 }
 
 // Writes what waits at the front of a buffer.
-fn write_front(buf: &[u8], count: usize) -> bool
-    ensures { count ≡ 0 → result ≡ true }
+fn write_front<W: Write, E: Write>(to: &mut Stream<W, E>, buf: &[u8], count: usize) -> bool
+    ensures none { count ≡ 0 → result ≡ true }
+    ensures sent { result ≡ true → Appends (W.contents to.old.stream) (W.contents to.new.stream) (take count buf.now) }
 {
     if count < buf.len() {
-        return write_all(&buf[0..count]);
+        return write_all(to, &buf[..count]);
     }
-    write_all(buf)
+    write_all(to, buf)
 }
 
 // Writes out what waits.
-pub fn flush(buf: &[u8], at: Out) -> Out
-    ensures { Flushed at result }
+pub fn flush<W: Write, E: Write>(to: &mut Stream<W, E>, buf: &[u8], at: Out) -> Out
+    ensures flushed { Flushed at result }
+    ensures sent { result.lost ≡ false → Appends (W.contents to.old.stream) (W.contents to.new.stream) (take at.count buf.now) }
 {
     if at.lost {
         return at;
     }
-    if write_front(buf, at.count) {
+    if write_front(to, buf, at.count) {
         return Out::new();
     }
     Out {
@@ -109,13 +126,14 @@ fn lay(buf: &mut [u8], at: usize, text: &[u8])
     requires { at + length text.now ≤ length buf.old }
     ensures { buf.new ≡ sets buf.old at text.now }
 {
-    bytes::copy(text, &mut buf[at..]);
+    buf[at..at + text.len()].copy_from_slice(text);
 }
 
 // Takes text: lays it behind what waits, or, where there is no room for it, writes out what waits first. Text that is longer than the buffer
 // is written at once.
-pub fn say(buf: &mut [u8], at: Out, text: &[u8]) -> Out
-    ensures { Said buf.old at text.now result buf.new }
+pub fn say<W: Write, E: Write>(to: &mut Stream<W, E>, buf: &mut [u8], at: Out, text: &[u8]) -> Out
+    ensures said { Said buf.old at text.now result buf.new }
+    ensures kept { result.lost ≡ false → Kept (W.contents to.old.stream) (W.contents to.new.stream) (take at.count buf.old) text.now (take result.count buf.new) }
 {
     if at.lost {
         return at;
@@ -128,7 +146,7 @@ pub fn say(buf: &mut [u8], at: Out, text: &[u8]) -> Out
             lost: false,
         };
     }
-    let f = flush(buf, at);
+    let f = flush(to, buf, at);
     if f.lost {
         return f;
     }
@@ -141,20 +159,24 @@ pub fn say(buf: &mut [u8], at: Out, text: &[u8]) -> Out
     }
     Out {
         count: 0,
-        lost: !write_all(text),
+        lost: !write_all(to, text),
     }
 }
 
 // Takes a number, in decimal.
-pub fn number(buf: &mut [u8], at: Out, n: u64) -> Out
-    ensures { Numbered buf.old at n result buf.new }
+pub fn number<W: Write, E: Write>(to: &mut Stream<W, E>, buf: &mut [u8], at: Out, n: u64) -> Out
+    ensures numbered { Numbered buf.old at n result buf.new }
+    ensures kept { result.lost ≡ false → KeptNumber (W.contents to.old.stream) (W.contents to.new.stream) (take at.count buf.old) n (take result.count buf.new) }
 {
     let mut digits = [0u8; 20];
     let k = io::decimal(n, &mut digits);
-    say(buf, at, &digits[0..k])
+    say(to, buf, at, &digits[..k])
 }
 
 // Says something on standard error, at once. What cannot be said there is lost: there is nowhere else to say it.
-pub fn complain(text: &[u8]) {
-    io::write_all(libc::STDERR_FILENO, text);
+pub fn complain<E: Write>(errors: &mut E, text: &[u8]) {
+    match errors.write_all(text) {
+        Ok(()) => {}
+        Err(_) => {}
+    }
 }

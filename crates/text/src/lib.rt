@@ -1,4 +1,6 @@
 // Words of text, each way: what a line of words holds, numbers in decimal, and bytes in hex.
+#![tactic(auto)]
+
 pub mod hex;
 pub mod numeral;
 pub mod word;

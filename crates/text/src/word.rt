@@ -1,16 +1,23 @@
 // The words of a line are parted by one space each. The first starts at 0, and the next where the one before it ended, plus one: so a line
 // has no more words where that is past its end.
-ghost use Rattle.std.specs.Prelude.{◌≡◌, ◌+◌, ◌-◌, ◌≤◌, length};
-ghost use Rattle.bytes.specs.Bytes.{index_of, slice};
+ghost use Rattle.std.specs.Prelude.{◌≡◌, ◌==◌, ◌+◌, ◌-◌, ◌≤◌, length, drop};
+ghost use Rattle.std.specs.List.{position_or_len};
 
 // Where the word that starts at a place ends: at the first space from there on, or at the line's end. A word that starts past the end is
 // empty.
 pub fn word_end(line: &[u8], start: usize) -> usize
-    ensures value { result ≡ start + index_of 32 (slice start (length line.now) line.now) }
+    ensures value { result ≡ start + position_or_len (λ c. c == 32) (drop start line.now) }
     ensures lower_bound { (start ≤ result) × (result ≤ length line.now + (start - length line.now)) }
 {
     if line.len() < start {
         return start;
     }
-    bytes::scan::find(line, start, line.len(), b' ')
+    let mut end = start;
+    while end < line.len() {
+        if line[end] == b' ' {
+            return end;
+        }
+        end += 1;
+    }
+    end
 }
