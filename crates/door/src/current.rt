@@ -135,8 +135,7 @@ fn put_message(m: rpc_msg, next: usize, plain: bool, info: &mut [u64])
 }
 
 // The figures of a message in the current reading, as `yugerzat_read_rpc_msg` gives them.
-#[unsafe(no_mangle)]
-pub extern "C" fn yugerzat_read_current_rpc_msg(message: &[u8], at: usize, info: &mut [u64]) -> u32
+pub fn yugerzat_read_current_rpc_msg(message: &[u8], at: usize, info: &mut [u64]) -> u32
     ensures { RpcMsgCalled current message.now at info.old result info.new }
 {
     if info.len() < 14 {
@@ -329,8 +328,7 @@ fn given_reply(fields: &[u64]) -> GivenReply
 }
 
 // The figures of a reply in the current reading, as `yugerzat_write_reply` takes them.
-#[unsafe(no_mangle)]
-pub extern "C" fn yugerzat_write_current_reply(
+pub fn yugerzat_write_current_reply(
     source: &[u8],
     fields: &[u64],
     out: &mut [u8],

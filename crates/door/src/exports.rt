@@ -1,4 +1,4 @@
-// What C and Rust programs call. A slice passes as a pointer and a length. Every call gets an answer: a number, 0 or from 100 on where
+// What C and Rust programs call, by the crate door_c, which exports it. Every call gets an answer: a number, 0 or from 100 on where
 // something is handed over, 1 to 10 for a refusal (docs/SCOPE.md, Refusals), and these two.
 ghost use Rattle.std.specs.Prelude.{◌≤◌, length};
 ghost use Rattle.xdr.specs.Meaning.Views.{view_wrote};
@@ -138,13 +138,7 @@ pub(crate) fn tell_wrote(w: Wrote, info: &mut [u64]) -> u32
 
 // Writes a message as a record's only fragment, from place `start` of out. 0: info holds the place after it. After
 // refusal 5 it holds how many bytes are needed, after the others 0.
-#[unsafe(no_mangle)]
-pub extern "C" fn yugerzat_fragment(
-    message: &[u8],
-    out: &mut [u8],
-    start: usize,
-    info: &mut [u64],
-) -> u32
+pub fn yugerzat_fragment(message: &[u8], out: &mut [u8], start: usize, info: &mut [u64]) -> u32
     ensures { FragmentCalled message.now start out.old info.old result out.new info.new }
 {
     if info.len() < 1 {
@@ -232,13 +226,7 @@ fn tell_hand_over(
 // procedure, the place of the arguments, then 1 with stamp, place and count of the name, uid, gid, place and count of the gids, or 0 with
 // zeros. 101: a reply of info[0] bytes stands at the start of out. 102: silence. A refusal: info holds its place and how many bytes it
 // wants.
-#[unsafe(no_mangle)]
-pub extern "C" fn yugerzat_choose(
-    message: &[u8],
-    seen: u32,
-    out: &mut [u8],
-    info: &mut [u64],
-) -> u32
+pub fn yugerzat_choose(message: &[u8], seen: u32, out: &mut [u8], info: &mut [u64]) -> u32
     ensures { ChooseCalled crate message.now seen out.old info.old result out.new info.new }
 {
     if info.len() < 12 {
@@ -249,13 +237,7 @@ pub extern "C" fn yugerzat_choose(
 }
 
 // The same in the current reading, whose server names 2 and 2 in the reply to another version of RPC.
-#[unsafe(no_mangle)]
-pub extern "C" fn yugerzat_current_choose(
-    message: &[u8],
-    seen: u32,
-    out: &mut [u8],
-    info: &mut [u64],
-) -> u32
+pub fn yugerzat_current_choose(message: &[u8], seen: u32, out: &mut [u8], info: &mut [u64]) -> u32
     ensures { ChooseCalled current message.now seen out.old info.old result out.new info.new }
 {
     if info.len() < 12 {
@@ -320,13 +302,7 @@ fn tell_fed(f: Fed, list: &mut [u64], info: &mut [u64]) -> u32
 // Feeds a run of bytes to an assembler, whose state is seven numbers: capacity, bytes placed, header bytes so far and their value, bytes
 // left, last and stopped (0 or not). 103: more. 104: complete. Or refusal 6 or 7. info holds the bytes used, and the length of a complete
 // record; the state is the one to go on with.
-#[unsafe(no_mangle)]
-pub extern "C" fn yugerzat_feed(
-    state: &mut [u64],
-    run: &[u8],
-    buf: &mut [u8],
-    info: &mut [u64],
-) -> u32
+pub fn yugerzat_feed(state: &mut [u64], run: &[u8], buf: &mut [u8], info: &mut [u64]) -> u32
     ensures { FeedCalled state.old run.now buf.old info.old result state.new buf.new info.new }
 {
     if state.len() < 7 {

@@ -29,8 +29,7 @@ use crate::procedures::{
 
 // Reads a message of a kind from place `at` of src, and writes nothing. 0: info holds the place after what was read, 1 if that was in
 // published form and else 0, and how many bytes its rewriting has. A refusal: its place, how many bytes it wants, and 0.
-#[unsafe(no_mangle)]
-pub extern "C" fn yugerzat_judge(kind: u32, src: &[u8], at: usize, info: &mut [u64]) -> u32
+pub fn yugerzat_judge(kind: u32, src: &[u8], at: usize, info: &mut [u64]) -> u32
     ensures { JudgeCalled kind src.now at info.old result info.new }
 {
     match kind {
@@ -126,8 +125,7 @@ fn judge_rest(kind: u32, src: &[u8], at: usize, info: &mut [u64]) -> u32
     }
 }
 
-#[unsafe(no_mangle)]
-pub extern "C" fn yugerzat_judge_bool(src: &[u8], at: usize, info: &mut [u64]) -> u32
+pub fn yugerzat_judge_bool(src: &[u8], at: usize, info: &mut [u64]) -> u32
     ensures { JudgeCalled 0 src.now at info.old result info.new }
 {
     if info.len() < 3 {
@@ -137,8 +135,7 @@ pub extern "C" fn yugerzat_judge_bool(src: &[u8], at: usize, info: &mut [u64]) -
     tell_judged(c, info)
 }
 
-#[unsafe(no_mangle)]
-pub extern "C" fn yugerzat_judge_i32(src: &[u8], at: usize, info: &mut [u64]) -> u32
+pub fn yugerzat_judge_i32(src: &[u8], at: usize, info: &mut [u64]) -> u32
     ensures { JudgeCalled 1 src.now at info.old result info.new }
 {
     if info.len() < 3 {
@@ -148,8 +145,7 @@ pub extern "C" fn yugerzat_judge_i32(src: &[u8], at: usize, info: &mut [u64]) ->
     tell_judged(c, info)
 }
 
-#[unsafe(no_mangle)]
-pub extern "C" fn yugerzat_judge_i64(src: &[u8], at: usize, info: &mut [u64]) -> u32
+pub fn yugerzat_judge_i64(src: &[u8], at: usize, info: &mut [u64]) -> u32
     ensures { JudgeCalled 2 src.now at info.old result info.new }
 {
     if info.len() < 3 {
@@ -159,8 +155,7 @@ pub extern "C" fn yugerzat_judge_i64(src: &[u8], at: usize, info: &mut [u64]) ->
     tell_judged(c, info)
 }
 
-#[unsafe(no_mangle)]
-pub extern "C" fn yugerzat_judge_u32(src: &[u8], at: usize, info: &mut [u64]) -> u32
+pub fn yugerzat_judge_u32(src: &[u8], at: usize, info: &mut [u64]) -> u32
     ensures { JudgeCalled 3 src.now at info.old result info.new }
 {
     if info.len() < 3 {
@@ -170,8 +165,7 @@ pub extern "C" fn yugerzat_judge_u32(src: &[u8], at: usize, info: &mut [u64]) ->
     tell_judged(c, info)
 }
 
-#[unsafe(no_mangle)]
-pub extern "C" fn yugerzat_judge_u64(src: &[u8], at: usize, info: &mut [u64]) -> u32
+pub fn yugerzat_judge_u64(src: &[u8], at: usize, info: &mut [u64]) -> u32
     ensures { JudgeCalled 4 src.now at info.old result info.new }
 {
     if info.len() < 3 {
@@ -181,8 +175,7 @@ pub extern "C" fn yugerzat_judge_u64(src: &[u8], at: usize, info: &mut [u64]) ->
     tell_judged(c, info)
 }
 
-#[unsafe(no_mangle)]
-pub extern "C" fn yugerzat_judge_eight(src: &[u8], at: usize, info: &mut [u64]) -> u32
+pub fn yugerzat_judge_eight(src: &[u8], at: usize, info: &mut [u64]) -> u32
     ensures { JudgeCalled 5 src.now at info.old result info.new }
 {
     if info.len() < 3 {
@@ -192,8 +185,7 @@ pub extern "C" fn yugerzat_judge_eight(src: &[u8], at: usize, info: &mut [u64]) 
     tell_judged(c, info)
 }
 
-#[unsafe(no_mangle)]
-pub extern "C" fn yugerzat_judge_opaque(src: &[u8], at: usize, info: &mut [u64]) -> u32
+pub fn yugerzat_judge_opaque(src: &[u8], at: usize, info: &mut [u64]) -> u32
     ensures { JudgeCalled 6 src.now at info.old result info.new }
 {
     if info.len() < 3 {
@@ -203,8 +195,7 @@ pub extern "C" fn yugerzat_judge_opaque(src: &[u8], at: usize, info: &mut [u64])
     tell_judged(c, info)
 }
 
-#[unsafe(no_mangle)]
-pub extern "C" fn yugerzat_judge_nfsstring(src: &[u8], at: usize, info: &mut [u64]) -> u32
+pub fn yugerzat_judge_nfsstring(src: &[u8], at: usize, info: &mut [u64]) -> u32
     ensures { JudgeCalled 7 src.now at info.old result info.new }
 {
     if info.len() < 3 {
@@ -214,8 +205,7 @@ pub extern "C" fn yugerzat_judge_nfsstring(src: &[u8], at: usize, info: &mut [u6
     tell_judged(c, info)
 }
 
-#[unsafe(no_mangle)]
-pub extern "C" fn yugerzat_judge_words(src: &[u8], at: usize, info: &mut [u64]) -> u32
+pub fn yugerzat_judge_words(src: &[u8], at: usize, info: &mut [u64]) -> u32
     ensures { JudgeCalled 8 src.now at info.old result info.new }
 {
     if info.len() < 3 {
@@ -225,8 +215,7 @@ pub extern "C" fn yugerzat_judge_words(src: &[u8], at: usize, info: &mut [u64]) 
     tell_judged(c, info)
 }
 
-#[unsafe(no_mangle)]
-pub extern "C" fn yugerzat_judge_msg_type(src: &[u8], at: usize, info: &mut [u64]) -> u32
+pub fn yugerzat_judge_msg_type(src: &[u8], at: usize, info: &mut [u64]) -> u32
     ensures { JudgeCalled 9 src.now at info.old result info.new }
 {
     if info.len() < 3 {
@@ -236,8 +225,7 @@ pub extern "C" fn yugerzat_judge_msg_type(src: &[u8], at: usize, info: &mut [u64
     tell_judged(c, info)
 }
 
-#[unsafe(no_mangle)]
-pub extern "C" fn yugerzat_judge_reply_stat(src: &[u8], at: usize, info: &mut [u64]) -> u32
+pub fn yugerzat_judge_reply_stat(src: &[u8], at: usize, info: &mut [u64]) -> u32
     ensures { JudgeCalled 10 src.now at info.old result info.new }
 {
     if info.len() < 3 {
@@ -247,8 +235,7 @@ pub extern "C" fn yugerzat_judge_reply_stat(src: &[u8], at: usize, info: &mut [u
     tell_judged(c, info)
 }
 
-#[unsafe(no_mangle)]
-pub extern "C" fn yugerzat_judge_accept_stat(src: &[u8], at: usize, info: &mut [u64]) -> u32
+pub fn yugerzat_judge_accept_stat(src: &[u8], at: usize, info: &mut [u64]) -> u32
     ensures { JudgeCalled 11 src.now at info.old result info.new }
 {
     if info.len() < 3 {
@@ -258,8 +245,7 @@ pub extern "C" fn yugerzat_judge_accept_stat(src: &[u8], at: usize, info: &mut [
     tell_judged(c, info)
 }
 
-#[unsafe(no_mangle)]
-pub extern "C" fn yugerzat_judge_reject_stat(src: &[u8], at: usize, info: &mut [u64]) -> u32
+pub fn yugerzat_judge_reject_stat(src: &[u8], at: usize, info: &mut [u64]) -> u32
     ensures { JudgeCalled 12 src.now at info.old result info.new }
 {
     if info.len() < 3 {
@@ -269,8 +255,7 @@ pub extern "C" fn yugerzat_judge_reject_stat(src: &[u8], at: usize, info: &mut [
     tell_judged(c, info)
 }
 
-#[unsafe(no_mangle)]
-pub extern "C" fn yugerzat_judge_auth_stat(src: &[u8], at: usize, info: &mut [u64]) -> u32
+pub fn yugerzat_judge_auth_stat(src: &[u8], at: usize, info: &mut [u64]) -> u32
     ensures { JudgeCalled 13 src.now at info.old result info.new }
 {
     if info.len() < 3 {
@@ -280,8 +265,7 @@ pub extern "C" fn yugerzat_judge_auth_stat(src: &[u8], at: usize, info: &mut [u6
     tell_judged(c, info)
 }
 
-#[unsafe(no_mangle)]
-pub extern "C" fn yugerzat_judge_auth_flavor(src: &[u8], at: usize, info: &mut [u64]) -> u32
+pub fn yugerzat_judge_auth_flavor(src: &[u8], at: usize, info: &mut [u64]) -> u32
     ensures { JudgeCalled 14 src.now at info.old result info.new }
 {
     if info.len() < 3 {
@@ -291,8 +275,7 @@ pub extern "C" fn yugerzat_judge_auth_flavor(src: &[u8], at: usize, info: &mut [
     tell_judged(c, info)
 }
 
-#[unsafe(no_mangle)]
-pub extern "C" fn yugerzat_judge_time_how(src: &[u8], at: usize, info: &mut [u64]) -> u32
+pub fn yugerzat_judge_time_how(src: &[u8], at: usize, info: &mut [u64]) -> u32
     ensures { JudgeCalled 15 src.now at info.old result info.new }
 {
     if info.len() < 3 {
@@ -302,8 +285,7 @@ pub extern "C" fn yugerzat_judge_time_how(src: &[u8], at: usize, info: &mut [u64
     tell_judged(c, info)
 }
 
-#[unsafe(no_mangle)]
-pub extern "C" fn yugerzat_judge_nfsstat3(src: &[u8], at: usize, info: &mut [u64]) -> u32
+pub fn yugerzat_judge_nfsstat3(src: &[u8], at: usize, info: &mut [u64]) -> u32
     ensures { JudgeCalled 16 src.now at info.old result info.new }
 {
     if info.len() < 3 {
@@ -313,8 +295,7 @@ pub extern "C" fn yugerzat_judge_nfsstat3(src: &[u8], at: usize, info: &mut [u64
     tell_judged(c, info)
 }
 
-#[unsafe(no_mangle)]
-pub extern "C" fn yugerzat_judge_ftype3(src: &[u8], at: usize, info: &mut [u64]) -> u32
+pub fn yugerzat_judge_ftype3(src: &[u8], at: usize, info: &mut [u64]) -> u32
     ensures { JudgeCalled 17 src.now at info.old result info.new }
 {
     if info.len() < 3 {
@@ -324,8 +305,7 @@ pub extern "C" fn yugerzat_judge_ftype3(src: &[u8], at: usize, info: &mut [u64])
     tell_judged(c, info)
 }
 
-#[unsafe(no_mangle)]
-pub extern "C" fn yugerzat_judge_auth_unix(src: &[u8], at: usize, info: &mut [u64]) -> u32
+pub fn yugerzat_judge_auth_unix(src: &[u8], at: usize, info: &mut [u64]) -> u32
     ensures { JudgeCalled 18 src.now at info.old result info.new }
 {
     if info.len() < 3 {
@@ -335,8 +315,7 @@ pub extern "C" fn yugerzat_judge_auth_unix(src: &[u8], at: usize, info: &mut [u6
     tell_judged(c, info)
 }
 
-#[unsafe(no_mangle)]
-pub extern "C" fn yugerzat_judge_opaque_auth(src: &[u8], at: usize, info: &mut [u64]) -> u32
+pub fn yugerzat_judge_opaque_auth(src: &[u8], at: usize, info: &mut [u64]) -> u32
     ensures { JudgeCalled 19 src.now at info.old result info.new }
 {
     if info.len() < 3 {
@@ -346,8 +325,7 @@ pub extern "C" fn yugerzat_judge_opaque_auth(src: &[u8], at: usize, info: &mut [
     tell_judged(c, info)
 }
 
-#[unsafe(no_mangle)]
-pub extern "C" fn yugerzat_judge_rpc_msg(src: &[u8], at: usize, info: &mut [u64]) -> u32
+pub fn yugerzat_judge_rpc_msg(src: &[u8], at: usize, info: &mut [u64]) -> u32
     ensures { JudgeCalled 20 src.now at info.old result info.new }
 {
     if info.len() < 3 {
@@ -357,8 +335,7 @@ pub extern "C" fn yugerzat_judge_rpc_msg(src: &[u8], at: usize, info: &mut [u64]
     tell_judged(c, info)
 }
 
-#[unsafe(no_mangle)]
-pub extern "C" fn yugerzat_judge_rpc_body(src: &[u8], at: usize, info: &mut [u64]) -> u32
+pub fn yugerzat_judge_rpc_body(src: &[u8], at: usize, info: &mut [u64]) -> u32
     ensures { JudgeCalled 21 src.now at info.old result info.new }
 {
     if info.len() < 3 {
@@ -368,8 +345,7 @@ pub extern "C" fn yugerzat_judge_rpc_body(src: &[u8], at: usize, info: &mut [u64
     tell_judged(c, info)
 }
 
-#[unsafe(no_mangle)]
-pub extern "C" fn yugerzat_judge_call_body(src: &[u8], at: usize, info: &mut [u64]) -> u32
+pub fn yugerzat_judge_call_body(src: &[u8], at: usize, info: &mut [u64]) -> u32
     ensures { JudgeCalled 22 src.now at info.old result info.new }
 {
     if info.len() < 3 {
@@ -379,8 +355,7 @@ pub extern "C" fn yugerzat_judge_call_body(src: &[u8], at: usize, info: &mut [u6
     tell_judged(c, info)
 }
 
-#[unsafe(no_mangle)]
-pub extern "C" fn yugerzat_judge_reply_body(src: &[u8], at: usize, info: &mut [u64]) -> u32
+pub fn yugerzat_judge_reply_body(src: &[u8], at: usize, info: &mut [u64]) -> u32
     ensures { JudgeCalled 23 src.now at info.old result info.new }
 {
     if info.len() < 3 {
@@ -390,8 +365,7 @@ pub extern "C" fn yugerzat_judge_reply_body(src: &[u8], at: usize, info: &mut [u
     tell_judged(c, info)
 }
 
-#[unsafe(no_mangle)]
-pub extern "C" fn yugerzat_judge_accepted_reply(src: &[u8], at: usize, info: &mut [u64]) -> u32
+pub fn yugerzat_judge_accepted_reply(src: &[u8], at: usize, info: &mut [u64]) -> u32
     ensures { JudgeCalled 24 src.now at info.old result info.new }
 {
     if info.len() < 3 {
@@ -401,8 +375,7 @@ pub extern "C" fn yugerzat_judge_accepted_reply(src: &[u8], at: usize, info: &mu
     tell_judged(c, info)
 }
 
-#[unsafe(no_mangle)]
-pub extern "C" fn yugerzat_judge_accept_body(src: &[u8], at: usize, info: &mut [u64]) -> u32
+pub fn yugerzat_judge_accept_body(src: &[u8], at: usize, info: &mut [u64]) -> u32
     ensures { JudgeCalled 25 src.now at info.old result info.new }
 {
     if info.len() < 3 {
@@ -412,8 +385,7 @@ pub extern "C" fn yugerzat_judge_accept_body(src: &[u8], at: usize, info: &mut [
     tell_judged(c, info)
 }
 
-#[unsafe(no_mangle)]
-pub extern "C" fn yugerzat_judge_rejected_reply(src: &[u8], at: usize, info: &mut [u64]) -> u32
+pub fn yugerzat_judge_rejected_reply(src: &[u8], at: usize, info: &mut [u64]) -> u32
     ensures { JudgeCalled 26 src.now at info.old result info.new }
 {
     if info.len() < 3 {
@@ -423,8 +395,7 @@ pub extern "C" fn yugerzat_judge_rejected_reply(src: &[u8], at: usize, info: &mu
     tell_judged(c, info)
 }
 
-#[unsafe(no_mangle)]
-pub extern "C" fn yugerzat_judge_mismatch_info(src: &[u8], at: usize, info: &mut [u64]) -> u32
+pub fn yugerzat_judge_mismatch_info(src: &[u8], at: usize, info: &mut [u64]) -> u32
     ensures { JudgeCalled 27 src.now at info.old result info.new }
 {
     if info.len() < 3 {
@@ -434,8 +405,7 @@ pub extern "C" fn yugerzat_judge_mismatch_info(src: &[u8], at: usize, info: &mut
     tell_judged(c, info)
 }
 
-#[unsafe(no_mangle)]
-pub extern "C" fn yugerzat_judge_specdata3(src: &[u8], at: usize, info: &mut [u64]) -> u32
+pub fn yugerzat_judge_specdata3(src: &[u8], at: usize, info: &mut [u64]) -> u32
     ensures { JudgeCalled 28 src.now at info.old result info.new }
 {
     if info.len() < 3 {
@@ -445,8 +415,7 @@ pub extern "C" fn yugerzat_judge_specdata3(src: &[u8], at: usize, info: &mut [u6
     tell_judged(c, info)
 }
 
-#[unsafe(no_mangle)]
-pub extern "C" fn yugerzat_judge_nfs_fh3(src: &[u8], at: usize, info: &mut [u64]) -> u32
+pub fn yugerzat_judge_nfs_fh3(src: &[u8], at: usize, info: &mut [u64]) -> u32
     ensures { JudgeCalled 29 src.now at info.old result info.new }
 {
     if info.len() < 3 {
@@ -456,8 +425,7 @@ pub extern "C" fn yugerzat_judge_nfs_fh3(src: &[u8], at: usize, info: &mut [u64]
     tell_judged(c, info)
 }
 
-#[unsafe(no_mangle)]
-pub extern "C" fn yugerzat_judge_nfstime3(src: &[u8], at: usize, info: &mut [u64]) -> u32
+pub fn yugerzat_judge_nfstime3(src: &[u8], at: usize, info: &mut [u64]) -> u32
     ensures { JudgeCalled 30 src.now at info.old result info.new }
 {
     if info.len() < 3 {
@@ -467,8 +435,7 @@ pub extern "C" fn yugerzat_judge_nfstime3(src: &[u8], at: usize, info: &mut [u64
     tell_judged(c, info)
 }
 
-#[unsafe(no_mangle)]
-pub extern "C" fn yugerzat_judge_fattr3(src: &[u8], at: usize, info: &mut [u64]) -> u32
+pub fn yugerzat_judge_fattr3(src: &[u8], at: usize, info: &mut [u64]) -> u32
     ensures { JudgeCalled 31 src.now at info.old result info.new }
 {
     if info.len() < 3 {
@@ -478,8 +445,7 @@ pub extern "C" fn yugerzat_judge_fattr3(src: &[u8], at: usize, info: &mut [u64])
     tell_judged(c, info)
 }
 
-#[unsafe(no_mangle)]
-pub extern "C" fn yugerzat_judge_fsinfo3(src: &[u8], at: usize, info: &mut [u64]) -> u32
+pub fn yugerzat_judge_fsinfo3(src: &[u8], at: usize, info: &mut [u64]) -> u32
     ensures { JudgeCalled 32 src.now at info.old result info.new }
 {
     if info.len() < 3 {
@@ -489,8 +455,7 @@ pub extern "C" fn yugerzat_judge_fsinfo3(src: &[u8], at: usize, info: &mut [u64]
     tell_judged(c, info)
 }
 
-#[unsafe(no_mangle)]
-pub extern "C" fn yugerzat_judge_wcc_attr(src: &[u8], at: usize, info: &mut [u64]) -> u32
+pub fn yugerzat_judge_wcc_attr(src: &[u8], at: usize, info: &mut [u64]) -> u32
     ensures { JudgeCalled 33 src.now at info.old result info.new }
 {
     if info.len() < 3 {
@@ -500,8 +465,7 @@ pub extern "C" fn yugerzat_judge_wcc_attr(src: &[u8], at: usize, info: &mut [u64
     tell_judged(c, info)
 }
 
-#[unsafe(no_mangle)]
-pub extern "C" fn yugerzat_judge_pre_op_attr(src: &[u8], at: usize, info: &mut [u64]) -> u32
+pub fn yugerzat_judge_pre_op_attr(src: &[u8], at: usize, info: &mut [u64]) -> u32
     ensures { JudgeCalled 34 src.now at info.old result info.new }
 {
     if info.len() < 3 {
@@ -511,8 +475,7 @@ pub extern "C" fn yugerzat_judge_pre_op_attr(src: &[u8], at: usize, info: &mut [
     tell_judged(c, info)
 }
 
-#[unsafe(no_mangle)]
-pub extern "C" fn yugerzat_judge_post_op_attr(src: &[u8], at: usize, info: &mut [u64]) -> u32
+pub fn yugerzat_judge_post_op_attr(src: &[u8], at: usize, info: &mut [u64]) -> u32
     ensures { JudgeCalled 35 src.now at info.old result info.new }
 {
     if info.len() < 3 {
@@ -522,8 +485,7 @@ pub extern "C" fn yugerzat_judge_post_op_attr(src: &[u8], at: usize, info: &mut 
     tell_judged(c, info)
 }
 
-#[unsafe(no_mangle)]
-pub extern "C" fn yugerzat_judge_wcc_data(src: &[u8], at: usize, info: &mut [u64]) -> u32
+pub fn yugerzat_judge_wcc_data(src: &[u8], at: usize, info: &mut [u64]) -> u32
     ensures { JudgeCalled 36 src.now at info.old result info.new }
 {
     if info.len() < 3 {
@@ -533,8 +495,7 @@ pub extern "C" fn yugerzat_judge_wcc_data(src: &[u8], at: usize, info: &mut [u64
     tell_judged(c, info)
 }
 
-#[unsafe(no_mangle)]
-pub extern "C" fn yugerzat_judge_post_op_fh3(src: &[u8], at: usize, info: &mut [u64]) -> u32
+pub fn yugerzat_judge_post_op_fh3(src: &[u8], at: usize, info: &mut [u64]) -> u32
     ensures { JudgeCalled 37 src.now at info.old result info.new }
 {
     if info.len() < 3 {
@@ -544,8 +505,7 @@ pub extern "C" fn yugerzat_judge_post_op_fh3(src: &[u8], at: usize, info: &mut [
     tell_judged(c, info)
 }
 
-#[unsafe(no_mangle)]
-pub extern "C" fn yugerzat_judge_set_mode3(src: &[u8], at: usize, info: &mut [u64]) -> u32
+pub fn yugerzat_judge_set_mode3(src: &[u8], at: usize, info: &mut [u64]) -> u32
     ensures { JudgeCalled 38 src.now at info.old result info.new }
 {
     if info.len() < 3 {
@@ -555,8 +515,7 @@ pub extern "C" fn yugerzat_judge_set_mode3(src: &[u8], at: usize, info: &mut [u6
     tell_judged(c, info)
 }
 
-#[unsafe(no_mangle)]
-pub extern "C" fn yugerzat_judge_set_uid3(src: &[u8], at: usize, info: &mut [u64]) -> u32
+pub fn yugerzat_judge_set_uid3(src: &[u8], at: usize, info: &mut [u64]) -> u32
     ensures { JudgeCalled 39 src.now at info.old result info.new }
 {
     if info.len() < 3 {
@@ -566,8 +525,7 @@ pub extern "C" fn yugerzat_judge_set_uid3(src: &[u8], at: usize, info: &mut [u64
     tell_judged(c, info)
 }
 
-#[unsafe(no_mangle)]
-pub extern "C" fn yugerzat_judge_set_gid3(src: &[u8], at: usize, info: &mut [u64]) -> u32
+pub fn yugerzat_judge_set_gid3(src: &[u8], at: usize, info: &mut [u64]) -> u32
     ensures { JudgeCalled 40 src.now at info.old result info.new }
 {
     if info.len() < 3 {
@@ -577,8 +535,7 @@ pub extern "C" fn yugerzat_judge_set_gid3(src: &[u8], at: usize, info: &mut [u64
     tell_judged(c, info)
 }
 
-#[unsafe(no_mangle)]
-pub extern "C" fn yugerzat_judge_set_size3(src: &[u8], at: usize, info: &mut [u64]) -> u32
+pub fn yugerzat_judge_set_size3(src: &[u8], at: usize, info: &mut [u64]) -> u32
     ensures { JudgeCalled 41 src.now at info.old result info.new }
 {
     if info.len() < 3 {
@@ -588,8 +545,7 @@ pub extern "C" fn yugerzat_judge_set_size3(src: &[u8], at: usize, info: &mut [u6
     tell_judged(c, info)
 }
 
-#[unsafe(no_mangle)]
-pub extern "C" fn yugerzat_judge_set_atime(src: &[u8], at: usize, info: &mut [u64]) -> u32
+pub fn yugerzat_judge_set_atime(src: &[u8], at: usize, info: &mut [u64]) -> u32
     ensures { JudgeCalled 42 src.now at info.old result info.new }
 {
     if info.len() < 3 {
@@ -599,8 +555,7 @@ pub extern "C" fn yugerzat_judge_set_atime(src: &[u8], at: usize, info: &mut [u6
     tell_judged(c, info)
 }
 
-#[unsafe(no_mangle)]
-pub extern "C" fn yugerzat_judge_set_mtime(src: &[u8], at: usize, info: &mut [u64]) -> u32
+pub fn yugerzat_judge_set_mtime(src: &[u8], at: usize, info: &mut [u64]) -> u32
     ensures { JudgeCalled 43 src.now at info.old result info.new }
 {
     if info.len() < 3 {
@@ -610,8 +565,7 @@ pub extern "C" fn yugerzat_judge_set_mtime(src: &[u8], at: usize, info: &mut [u6
     tell_judged(c, info)
 }
 
-#[unsafe(no_mangle)]
-pub extern "C" fn yugerzat_judge_sattr3(src: &[u8], at: usize, info: &mut [u64]) -> u32
+pub fn yugerzat_judge_sattr3(src: &[u8], at: usize, info: &mut [u64]) -> u32
     ensures { JudgeCalled 44 src.now at info.old result info.new }
 {
     if info.len() < 3 {
@@ -621,8 +575,7 @@ pub extern "C" fn yugerzat_judge_sattr3(src: &[u8], at: usize, info: &mut [u64])
     tell_judged(c, info)
 }
 
-#[unsafe(no_mangle)]
-pub extern "C" fn yugerzat_judge_diropargs3(src: &[u8], at: usize, info: &mut [u64]) -> u32
+pub fn yugerzat_judge_diropargs3(src: &[u8], at: usize, info: &mut [u64]) -> u32
     ensures { JudgeCalled 45 src.now at info.old result info.new }
 {
     if info.len() < 3 {
@@ -632,8 +585,7 @@ pub extern "C" fn yugerzat_judge_diropargs3(src: &[u8], at: usize, info: &mut [u
     tell_judged(c, info)
 }
 
-#[unsafe(no_mangle)]
-pub extern "C" fn yugerzat_judge_symlinkdata3(src: &[u8], at: usize, info: &mut [u64]) -> u32
+pub fn yugerzat_judge_symlinkdata3(src: &[u8], at: usize, info: &mut [u64]) -> u32
     ensures { JudgeCalled 46 src.now at info.old result info.new }
 {
     if info.len() < 3 {
@@ -643,8 +595,7 @@ pub extern "C" fn yugerzat_judge_symlinkdata3(src: &[u8], at: usize, info: &mut 
     tell_judged(c, info)
 }
 
-#[unsafe(no_mangle)]
-pub extern "C" fn yugerzat_judge_stable_how(src: &[u8], at: usize, info: &mut [u64]) -> u32
+pub fn yugerzat_judge_stable_how(src: &[u8], at: usize, info: &mut [u64]) -> u32
     ensures { JudgeCalled 47 src.now at info.old result info.new }
 {
     if info.len() < 3 {
@@ -654,8 +605,7 @@ pub extern "C" fn yugerzat_judge_stable_how(src: &[u8], at: usize, info: &mut [u
     tell_judged(c, info)
 }
 
-#[unsafe(no_mangle)]
-pub extern "C" fn yugerzat_judge_sattrguard3(src: &[u8], at: usize, info: &mut [u64]) -> u32
+pub fn yugerzat_judge_sattrguard3(src: &[u8], at: usize, info: &mut [u64]) -> u32
     ensures { JudgeCalled 48 src.now at info.old result info.new }
 {
     if info.len() < 3 {
@@ -665,8 +615,7 @@ pub extern "C" fn yugerzat_judge_sattrguard3(src: &[u8], at: usize, info: &mut [
     tell_judged(c, info)
 }
 
-#[unsafe(no_mangle)]
-pub extern "C" fn yugerzat_judge_getattr3args(src: &[u8], at: usize, info: &mut [u64]) -> u32
+pub fn yugerzat_judge_getattr3args(src: &[u8], at: usize, info: &mut [u64]) -> u32
     ensures { JudgeCalled 49 src.now at info.old result info.new }
 {
     if info.len() < 3 {
@@ -676,8 +625,7 @@ pub extern "C" fn yugerzat_judge_getattr3args(src: &[u8], at: usize, info: &mut 
     tell_judged(c, info)
 }
 
-#[unsafe(no_mangle)]
-pub extern "C" fn yugerzat_judge_getattr3res(src: &[u8], at: usize, info: &mut [u64]) -> u32
+pub fn yugerzat_judge_getattr3res(src: &[u8], at: usize, info: &mut [u64]) -> u32
     ensures { JudgeCalled 50 src.now at info.old result info.new }
 {
     if info.len() < 3 {
@@ -687,8 +635,7 @@ pub extern "C" fn yugerzat_judge_getattr3res(src: &[u8], at: usize, info: &mut [
     tell_judged(c, info)
 }
 
-#[unsafe(no_mangle)]
-pub extern "C" fn yugerzat_judge_setattr3args(src: &[u8], at: usize, info: &mut [u64]) -> u32
+pub fn yugerzat_judge_setattr3args(src: &[u8], at: usize, info: &mut [u64]) -> u32
     ensures { JudgeCalled 51 src.now at info.old result info.new }
 {
     if info.len() < 3 {
@@ -698,8 +645,7 @@ pub extern "C" fn yugerzat_judge_setattr3args(src: &[u8], at: usize, info: &mut 
     tell_judged(c, info)
 }
 
-#[unsafe(no_mangle)]
-pub extern "C" fn yugerzat_judge_setattr3res(src: &[u8], at: usize, info: &mut [u64]) -> u32
+pub fn yugerzat_judge_setattr3res(src: &[u8], at: usize, info: &mut [u64]) -> u32
     ensures { JudgeCalled 52 src.now at info.old result info.new }
 {
     if info.len() < 3 {
@@ -709,8 +655,7 @@ pub extern "C" fn yugerzat_judge_setattr3res(src: &[u8], at: usize, info: &mut [
     tell_judged(c, info)
 }
 
-#[unsafe(no_mangle)]
-pub extern "C" fn yugerzat_judge_lookup3args(src: &[u8], at: usize, info: &mut [u64]) -> u32
+pub fn yugerzat_judge_lookup3args(src: &[u8], at: usize, info: &mut [u64]) -> u32
     ensures { JudgeCalled 53 src.now at info.old result info.new }
 {
     if info.len() < 3 {
@@ -720,8 +665,7 @@ pub extern "C" fn yugerzat_judge_lookup3args(src: &[u8], at: usize, info: &mut [
     tell_judged(c, info)
 }
 
-#[unsafe(no_mangle)]
-pub extern "C" fn yugerzat_judge_lookup3res(src: &[u8], at: usize, info: &mut [u64]) -> u32
+pub fn yugerzat_judge_lookup3res(src: &[u8], at: usize, info: &mut [u64]) -> u32
     ensures { JudgeCalled 54 src.now at info.old result info.new }
 {
     if info.len() < 3 {
@@ -731,8 +675,7 @@ pub extern "C" fn yugerzat_judge_lookup3res(src: &[u8], at: usize, info: &mut [u
     tell_judged(c, info)
 }
 
-#[unsafe(no_mangle)]
-pub extern "C" fn yugerzat_judge_read3args(src: &[u8], at: usize, info: &mut [u64]) -> u32
+pub fn yugerzat_judge_read3args(src: &[u8], at: usize, info: &mut [u64]) -> u32
     ensures { JudgeCalled 55 src.now at info.old result info.new }
 {
     if info.len() < 3 {
@@ -742,8 +685,7 @@ pub extern "C" fn yugerzat_judge_read3args(src: &[u8], at: usize, info: &mut [u6
     tell_judged(c, info)
 }
 
-#[unsafe(no_mangle)]
-pub extern "C" fn yugerzat_judge_read3res(src: &[u8], at: usize, info: &mut [u64]) -> u32
+pub fn yugerzat_judge_read3res(src: &[u8], at: usize, info: &mut [u64]) -> u32
     ensures { JudgeCalled 56 src.now at info.old result info.new }
 {
     if info.len() < 3 {
@@ -753,8 +695,7 @@ pub extern "C" fn yugerzat_judge_read3res(src: &[u8], at: usize, info: &mut [u64
     tell_judged(c, info)
 }
 
-#[unsafe(no_mangle)]
-pub extern "C" fn yugerzat_judge_write3args(src: &[u8], at: usize, info: &mut [u64]) -> u32
+pub fn yugerzat_judge_write3args(src: &[u8], at: usize, info: &mut [u64]) -> u32
     ensures { JudgeCalled 57 src.now at info.old result info.new }
 {
     if info.len() < 3 {
@@ -764,8 +705,7 @@ pub extern "C" fn yugerzat_judge_write3args(src: &[u8], at: usize, info: &mut [u
     tell_judged(c, info)
 }
 
-#[unsafe(no_mangle)]
-pub extern "C" fn yugerzat_judge_write3res(src: &[u8], at: usize, info: &mut [u64]) -> u32
+pub fn yugerzat_judge_write3res(src: &[u8], at: usize, info: &mut [u64]) -> u32
     ensures { JudgeCalled 58 src.now at info.old result info.new }
 {
     if info.len() < 3 {
@@ -775,8 +715,7 @@ pub extern "C" fn yugerzat_judge_write3res(src: &[u8], at: usize, info: &mut [u6
     tell_judged(c, info)
 }
 
-#[unsafe(no_mangle)]
-pub extern "C" fn yugerzat_judge_current_accept_stat(src: &[u8], at: usize, info: &mut [u64]) -> u32
+pub fn yugerzat_judge_current_accept_stat(src: &[u8], at: usize, info: &mut [u64]) -> u32
     ensures { JudgeCalled 59 src.now at info.old result info.new }
 {
     if info.len() < 3 {
@@ -786,8 +725,7 @@ pub extern "C" fn yugerzat_judge_current_accept_stat(src: &[u8], at: usize, info
     tell_judged(c, info)
 }
 
-#[unsafe(no_mangle)]
-pub extern "C" fn yugerzat_judge_current_auth_stat(src: &[u8], at: usize, info: &mut [u64]) -> u32
+pub fn yugerzat_judge_current_auth_stat(src: &[u8], at: usize, info: &mut [u64]) -> u32
     ensures { JudgeCalled 60 src.now at info.old result info.new }
 {
     if info.len() < 3 {
@@ -797,8 +735,7 @@ pub extern "C" fn yugerzat_judge_current_auth_stat(src: &[u8], at: usize, info: 
     tell_judged(c, info)
 }
 
-#[unsafe(no_mangle)]
-pub extern "C" fn yugerzat_judge_current_accept_body(src: &[u8], at: usize, info: &mut [u64]) -> u32
+pub fn yugerzat_judge_current_accept_body(src: &[u8], at: usize, info: &mut [u64]) -> u32
     ensures { JudgeCalled 61 src.now at info.old result info.new }
 {
     if info.len() < 3 {
@@ -808,12 +745,7 @@ pub extern "C" fn yugerzat_judge_current_accept_body(src: &[u8], at: usize, info
     tell_judged(c, info)
 }
 
-#[unsafe(no_mangle)]
-pub extern "C" fn yugerzat_judge_current_accepted_reply(
-    src: &[u8],
-    at: usize,
-    info: &mut [u64],
-) -> u32
+pub fn yugerzat_judge_current_accepted_reply(src: &[u8], at: usize, info: &mut [u64]) -> u32
     ensures { JudgeCalled 62 src.now at info.old result info.new }
 {
     if info.len() < 3 {
@@ -823,12 +755,7 @@ pub extern "C" fn yugerzat_judge_current_accepted_reply(
     tell_judged(c, info)
 }
 
-#[unsafe(no_mangle)]
-pub extern "C" fn yugerzat_judge_current_rejected_reply(
-    src: &[u8],
-    at: usize,
-    info: &mut [u64],
-) -> u32
+pub fn yugerzat_judge_current_rejected_reply(src: &[u8], at: usize, info: &mut [u64]) -> u32
     ensures { JudgeCalled 63 src.now at info.old result info.new }
 {
     if info.len() < 3 {
@@ -838,8 +765,7 @@ pub extern "C" fn yugerzat_judge_current_rejected_reply(
     tell_judged(c, info)
 }
 
-#[unsafe(no_mangle)]
-pub extern "C" fn yugerzat_judge_current_reply_body(src: &[u8], at: usize, info: &mut [u64]) -> u32
+pub fn yugerzat_judge_current_reply_body(src: &[u8], at: usize, info: &mut [u64]) -> u32
     ensures { JudgeCalled 64 src.now at info.old result info.new }
 {
     if info.len() < 3 {
@@ -849,8 +775,7 @@ pub extern "C" fn yugerzat_judge_current_reply_body(src: &[u8], at: usize, info:
     tell_judged(c, info)
 }
 
-#[unsafe(no_mangle)]
-pub extern "C" fn yugerzat_judge_current_rpc_body(src: &[u8], at: usize, info: &mut [u64]) -> u32
+pub fn yugerzat_judge_current_rpc_body(src: &[u8], at: usize, info: &mut [u64]) -> u32
     ensures { JudgeCalled 65 src.now at info.old result info.new }
 {
     if info.len() < 3 {
@@ -860,8 +785,7 @@ pub extern "C" fn yugerzat_judge_current_rpc_body(src: &[u8], at: usize, info: &
     tell_judged(c, info)
 }
 
-#[unsafe(no_mangle)]
-pub extern "C" fn yugerzat_judge_current_rpc_msg(src: &[u8], at: usize, info: &mut [u64]) -> u32
+pub fn yugerzat_judge_current_rpc_msg(src: &[u8], at: usize, info: &mut [u64]) -> u32
     ensures { JudgeCalled 66 src.now at info.old result info.new }
 {
     if info.len() < 3 {
@@ -871,8 +795,7 @@ pub extern "C" fn yugerzat_judge_current_rpc_msg(src: &[u8], at: usize, info: &m
     tell_judged(c, info)
 }
 
-#[unsafe(no_mangle)]
-pub extern "C" fn yugerzat_judge_dirpath(src: &[u8], at: usize, info: &mut [u64]) -> u32
+pub fn yugerzat_judge_dirpath(src: &[u8], at: usize, info: &mut [u64]) -> u32
     ensures { JudgeCalled 67 src.now at info.old result info.new }
 {
     if info.len() < 3 {
@@ -882,8 +805,7 @@ pub extern "C" fn yugerzat_judge_dirpath(src: &[u8], at: usize, info: &mut [u64]
     tell_judged(c, info)
 }
 
-#[unsafe(no_mangle)]
-pub extern "C" fn yugerzat_judge_mountstat3(src: &[u8], at: usize, info: &mut [u64]) -> u32
+pub fn yugerzat_judge_mountstat3(src: &[u8], at: usize, info: &mut [u64]) -> u32
     ensures { JudgeCalled 68 src.now at info.old result info.new }
 {
     if info.len() < 3 {
@@ -893,8 +815,7 @@ pub extern "C" fn yugerzat_judge_mountstat3(src: &[u8], at: usize, info: &mut [u
     tell_judged(c, info)
 }
 
-#[unsafe(no_mangle)]
-pub extern "C" fn yugerzat_judge_mountres3(src: &[u8], at: usize, info: &mut [u64]) -> u32
+pub fn yugerzat_judge_mountres3(src: &[u8], at: usize, info: &mut [u64]) -> u32
     ensures { JudgeCalled 69 src.now at info.old result info.new }
 {
     if info.len() < 3 {
@@ -904,8 +825,7 @@ pub extern "C" fn yugerzat_judge_mountres3(src: &[u8], at: usize, info: &mut [u6
     tell_judged(c, info)
 }
 
-#[unsafe(no_mangle)]
-pub extern "C" fn yugerzat_judge_exports(src: &[u8], at: usize, info: &mut [u64]) -> u32
+pub fn yugerzat_judge_exports(src: &[u8], at: usize, info: &mut [u64]) -> u32
     ensures { JudgeCalled 70 src.now at info.old result info.new }
 {
     if info.len() < 3 {
@@ -915,8 +835,7 @@ pub extern "C" fn yugerzat_judge_exports(src: &[u8], at: usize, info: &mut [u64]
     tell_judged(c, info)
 }
 
-#[unsafe(no_mangle)]
-pub extern "C" fn yugerzat_judge_mapping(src: &[u8], at: usize, info: &mut [u64]) -> u32
+pub fn yugerzat_judge_mapping(src: &[u8], at: usize, info: &mut [u64]) -> u32
     ensures { JudgeCalled 71 src.now at info.old result info.new }
 {
     if info.len() < 3 {

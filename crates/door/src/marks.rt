@@ -72,8 +72,7 @@ fn tell_marks(c: Copied, info: &mut [u64]) -> u32
 
 // Reads a message of a kind from place `at` of src, as judging does. 0: info holds the place after what was read, 1 if that was in published
 // form and else 0, how many pieces it has, and their marks. A refusal: its place, how many bytes it wants, and zeros.
-#[unsafe(no_mangle)]
-pub extern "C" fn yugerzat_marks(kind: u32, src: &[u8], at: usize, info: &mut [u64]) -> u32
+pub fn yugerzat_marks(kind: u32, src: &[u8], at: usize, info: &mut [u64]) -> u32
     ensures { MarksCalled kind src.now at info.old result info.new }
 {
     if info.len() < 5 {

@@ -124,8 +124,7 @@ fn tell_asked(c: Asked, info: &mut [u64]) -> u32
 // zeros and the place behind it. 107 EXPORT: four zeros and the place of the arguments. 108 GETPORT: program, version, protocol, port and the
 // place behind them. Then, in these, 1 with stamp, place and count of the name, uid, gid, place and count of the gids, or 0 with zeros.
 // 101: a reply of info[0] bytes stands at the start of out. 102: silence. A refusal: info holds its place and how many bytes it wants.
-#[unsafe(no_mangle)]
-pub extern "C" fn yugerzat_ask(message: &[u8], seen: u32, out: &mut [u8], info: &mut [u64]) -> u32
+pub fn yugerzat_ask(message: &[u8], seen: u32, out: &mut [u8], info: &mut [u64]) -> u32
     ensures { AskCalled message.now seen out.old info.old result out.new info.new }
 {
     if info.len() < 13 {
@@ -147,8 +146,7 @@ fn put_list(v: Piece, next: usize, plain: bool, info: &mut [u64])
 }
 
 // The figures of an export list: the place of its first flag, and the count of its entries.
-#[unsafe(no_mangle)]
-pub extern "C" fn yugerzat_read_exports(src: &[u8], at: usize, info: &mut [u64]) -> u32
+pub fn yugerzat_read_exports(src: &[u8], at: usize, info: &mut [u64]) -> u32
     ensures { ExportsCalled src.now at info.old result info.new }
 {
     if info.len() < 4 {
@@ -192,8 +190,7 @@ fn put_next_export(v: NextExport, next: usize, plain: bool, info: &mut [u64])
 
 // The figures of what stands at a place of an export list: 1 with place and count of the path, and the place of the first flag and the count
 // of the names of its groups; or zeros at its end.
-#[unsafe(no_mangle)]
-pub extern "C" fn yugerzat_next_export(src: &[u8], at: usize, info: &mut [u64]) -> u32
+pub fn yugerzat_next_export(src: &[u8], at: usize, info: &mut [u64]) -> u32
     ensures { NextExportCalled src.now at info.old result info.new }
 {
     if info.len() < 7 {
@@ -224,8 +221,7 @@ fn put_next_group(v: NextGroup, next: usize, plain: bool, info: &mut [u64])
 }
 
 // The figures of what stands at a place of a list of names: 1 with place and count of the name, or zeros at its end.
-#[unsafe(no_mangle)]
-pub extern "C" fn yugerzat_next_group(src: &[u8], at: usize, info: &mut [u64]) -> u32
+pub fn yugerzat_next_group(src: &[u8], at: usize, info: &mut [u64]) -> u32
     ensures { NextGroupCalled src.now at info.old result info.new }
 {
     if info.len() < 5 {
@@ -243,8 +239,7 @@ pub extern "C" fn yugerzat_next_group(src: &[u8], at: usize, info: &mut [u64]) -
 
 // Writes a path, which is a piece of src, from place `start` of out. 0: info holds the place after it. After refusal 5 it holds how many
 // bytes are needed, after the others 0.
-#[unsafe(no_mangle)]
-pub extern "C" fn yugerzat_write_dirpath(
+pub fn yugerzat_write_dirpath(
     src: &[u8],
     place: usize,
     count: usize,
@@ -271,8 +266,7 @@ pub extern "C" fn yugerzat_write_dirpath(
 }
 
 // Writes an export list, whose first flag stands at a place of src and which has so many entries, in the same way.
-#[unsafe(no_mangle)]
-pub extern "C" fn yugerzat_write_exports(
+pub fn yugerzat_write_exports(
     src: &[u8],
     place: usize,
     count: usize,
@@ -320,8 +314,7 @@ fn tell_compared(c: Compared, info: &mut [u64]) -> u32
 
 // Compares two export lists, each of so many entries behind a place of its own buffer. 0: info holds 1 if both mean the same list, whatever
 // their flags and padding, and else 0. 3, 4, 10: one of them is no list that could be written.
-#[unsafe(no_mangle)]
-pub extern "C" fn yugerzat_same_exports(
+pub fn yugerzat_same_exports(
     a: &[u8],
     a_place: usize,
     a_count: usize,

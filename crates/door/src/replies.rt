@@ -202,8 +202,7 @@ fn given_reply(fields: &[u64]) -> GivenReply
 // The figures of a reply: xid, a tag and six more. 1, accepted: flavor, place and count of the verifier, a piece of source, the number of the
 // accept_stat and the two versions of PROG_MISMATCH. 2, denied by the version: the two versions. 3, denied by authentication: the number of
 // the auth_stat. What the tag has no use for is passed over.
-#[unsafe(no_mangle)]
-pub extern "C" fn yugerzat_write_reply(
+pub fn yugerzat_write_reply(
     source: &[u8],
     fields: &[u64],
     out: &mut [u8],

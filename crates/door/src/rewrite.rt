@@ -31,14 +31,7 @@ use crate::settle::rewrite_sattr3;
 // Reads a message of a kind from place `at` of src, and writes it in published form from the start of out. 0: info holds the place after
 // what was read, 1 if that was in published form and else 0, and the count of bytes written. A refusal of the reading: info holds its
 // place, how many bytes it wants, and 0. A refusal of the writing: two zeros, and how many bytes are needed (5), or 0.
-#[unsafe(no_mangle)]
-pub extern "C" fn yugerzat_rewrite(
-    kind: u32,
-    src: &[u8],
-    at: usize,
-    out: &mut [u8],
-    info: &mut [u64],
-) -> u32
+pub fn yugerzat_rewrite(kind: u32, src: &[u8], at: usize, out: &mut [u8], info: &mut [u64]) -> u32
     ensures { RewriteCalled kind src.now at out.old info.old result out.new info.new }
 {
     match kind {
@@ -134,13 +127,7 @@ fn rewrite_rest(kind: u32, src: &[u8], at: usize, out: &mut [u8], info: &mut [u6
     }
 }
 
-#[unsafe(no_mangle)]
-pub extern "C" fn yugerzat_rewrite_bool(
-    src: &[u8],
-    at: usize,
-    out: &mut [u8],
-    info: &mut [u64],
-) -> u32
+pub fn yugerzat_rewrite_bool(src: &[u8], at: usize, out: &mut [u8], info: &mut [u64]) -> u32
     ensures { RewriteCalled 0 src.now at out.old info.old result out.new info.new }
 {
     if info.len() < 3 {
@@ -150,13 +137,7 @@ pub extern "C" fn yugerzat_rewrite_bool(
     tell_copied(c, info)
 }
 
-#[unsafe(no_mangle)]
-pub extern "C" fn yugerzat_rewrite_i32(
-    src: &[u8],
-    at: usize,
-    out: &mut [u8],
-    info: &mut [u64],
-) -> u32
+pub fn yugerzat_rewrite_i32(src: &[u8], at: usize, out: &mut [u8], info: &mut [u64]) -> u32
     ensures { RewriteCalled 1 src.now at out.old info.old result out.new info.new }
 {
     if info.len() < 3 {
@@ -166,13 +147,7 @@ pub extern "C" fn yugerzat_rewrite_i32(
     tell_copied(c, info)
 }
 
-#[unsafe(no_mangle)]
-pub extern "C" fn yugerzat_rewrite_i64(
-    src: &[u8],
-    at: usize,
-    out: &mut [u8],
-    info: &mut [u64],
-) -> u32
+pub fn yugerzat_rewrite_i64(src: &[u8], at: usize, out: &mut [u8], info: &mut [u64]) -> u32
     ensures { RewriteCalled 2 src.now at out.old info.old result out.new info.new }
 {
     if info.len() < 3 {
@@ -182,13 +157,7 @@ pub extern "C" fn yugerzat_rewrite_i64(
     tell_copied(c, info)
 }
 
-#[unsafe(no_mangle)]
-pub extern "C" fn yugerzat_rewrite_u32(
-    src: &[u8],
-    at: usize,
-    out: &mut [u8],
-    info: &mut [u64],
-) -> u32
+pub fn yugerzat_rewrite_u32(src: &[u8], at: usize, out: &mut [u8], info: &mut [u64]) -> u32
     ensures { RewriteCalled 3 src.now at out.old info.old result out.new info.new }
 {
     if info.len() < 3 {
@@ -198,13 +167,7 @@ pub extern "C" fn yugerzat_rewrite_u32(
     tell_copied(c, info)
 }
 
-#[unsafe(no_mangle)]
-pub extern "C" fn yugerzat_rewrite_u64(
-    src: &[u8],
-    at: usize,
-    out: &mut [u8],
-    info: &mut [u64],
-) -> u32
+pub fn yugerzat_rewrite_u64(src: &[u8], at: usize, out: &mut [u8], info: &mut [u64]) -> u32
     ensures { RewriteCalled 4 src.now at out.old info.old result out.new info.new }
 {
     if info.len() < 3 {
@@ -214,13 +177,7 @@ pub extern "C" fn yugerzat_rewrite_u64(
     tell_copied(c, info)
 }
 
-#[unsafe(no_mangle)]
-pub extern "C" fn yugerzat_rewrite_eight(
-    src: &[u8],
-    at: usize,
-    out: &mut [u8],
-    info: &mut [u64],
-) -> u32
+pub fn yugerzat_rewrite_eight(src: &[u8], at: usize, out: &mut [u8], info: &mut [u64]) -> u32
     ensures { RewriteCalled 5 src.now at out.old info.old result out.new info.new }
 {
     if info.len() < 3 {
@@ -230,13 +187,7 @@ pub extern "C" fn yugerzat_rewrite_eight(
     tell_copied(c, info)
 }
 
-#[unsafe(no_mangle)]
-pub extern "C" fn yugerzat_rewrite_opaque(
-    src: &[u8],
-    at: usize,
-    out: &mut [u8],
-    info: &mut [u64],
-) -> u32
+pub fn yugerzat_rewrite_opaque(src: &[u8], at: usize, out: &mut [u8], info: &mut [u64]) -> u32
     ensures { RewriteCalled 6 src.now at out.old info.old result out.new info.new }
 {
     if info.len() < 3 {
@@ -246,13 +197,7 @@ pub extern "C" fn yugerzat_rewrite_opaque(
     tell_copied(c, info)
 }
 
-#[unsafe(no_mangle)]
-pub extern "C" fn yugerzat_rewrite_nfsstring(
-    src: &[u8],
-    at: usize,
-    out: &mut [u8],
-    info: &mut [u64],
-) -> u32
+pub fn yugerzat_rewrite_nfsstring(src: &[u8], at: usize, out: &mut [u8], info: &mut [u64]) -> u32
     ensures { RewriteCalled 7 src.now at out.old info.old result out.new info.new }
 {
     if info.len() < 3 {
@@ -262,13 +207,7 @@ pub extern "C" fn yugerzat_rewrite_nfsstring(
     tell_copied(c, info)
 }
 
-#[unsafe(no_mangle)]
-pub extern "C" fn yugerzat_rewrite_words(
-    src: &[u8],
-    at: usize,
-    out: &mut [u8],
-    info: &mut [u64],
-) -> u32
+pub fn yugerzat_rewrite_words(src: &[u8], at: usize, out: &mut [u8], info: &mut [u64]) -> u32
     ensures { RewriteCalled 8 src.now at out.old info.old result out.new info.new }
 {
     if info.len() < 3 {
@@ -278,13 +217,7 @@ pub extern "C" fn yugerzat_rewrite_words(
     tell_copied(c, info)
 }
 
-#[unsafe(no_mangle)]
-pub extern "C" fn yugerzat_rewrite_msg_type(
-    src: &[u8],
-    at: usize,
-    out: &mut [u8],
-    info: &mut [u64],
-) -> u32
+pub fn yugerzat_rewrite_msg_type(src: &[u8], at: usize, out: &mut [u8], info: &mut [u64]) -> u32
     ensures { RewriteCalled 9 src.now at out.old info.old result out.new info.new }
 {
     if info.len() < 3 {
@@ -294,13 +227,7 @@ pub extern "C" fn yugerzat_rewrite_msg_type(
     tell_copied(c, info)
 }
 
-#[unsafe(no_mangle)]
-pub extern "C" fn yugerzat_rewrite_reply_stat(
-    src: &[u8],
-    at: usize,
-    out: &mut [u8],
-    info: &mut [u64],
-) -> u32
+pub fn yugerzat_rewrite_reply_stat(src: &[u8], at: usize, out: &mut [u8], info: &mut [u64]) -> u32
     ensures { RewriteCalled 10 src.now at out.old info.old result out.new info.new }
 {
     if info.len() < 3 {
@@ -310,13 +237,7 @@ pub extern "C" fn yugerzat_rewrite_reply_stat(
     tell_copied(c, info)
 }
 
-#[unsafe(no_mangle)]
-pub extern "C" fn yugerzat_rewrite_accept_stat(
-    src: &[u8],
-    at: usize,
-    out: &mut [u8],
-    info: &mut [u64],
-) -> u32
+pub fn yugerzat_rewrite_accept_stat(src: &[u8], at: usize, out: &mut [u8], info: &mut [u64]) -> u32
     ensures { RewriteCalled 11 src.now at out.old info.old result out.new info.new }
 {
     if info.len() < 3 {
@@ -326,13 +247,7 @@ pub extern "C" fn yugerzat_rewrite_accept_stat(
     tell_copied(c, info)
 }
 
-#[unsafe(no_mangle)]
-pub extern "C" fn yugerzat_rewrite_reject_stat(
-    src: &[u8],
-    at: usize,
-    out: &mut [u8],
-    info: &mut [u64],
-) -> u32
+pub fn yugerzat_rewrite_reject_stat(src: &[u8], at: usize, out: &mut [u8], info: &mut [u64]) -> u32
     ensures { RewriteCalled 12 src.now at out.old info.old result out.new info.new }
 {
     if info.len() < 3 {
@@ -342,13 +257,7 @@ pub extern "C" fn yugerzat_rewrite_reject_stat(
     tell_copied(c, info)
 }
 
-#[unsafe(no_mangle)]
-pub extern "C" fn yugerzat_rewrite_auth_stat(
-    src: &[u8],
-    at: usize,
-    out: &mut [u8],
-    info: &mut [u64],
-) -> u32
+pub fn yugerzat_rewrite_auth_stat(src: &[u8], at: usize, out: &mut [u8], info: &mut [u64]) -> u32
     ensures { RewriteCalled 13 src.now at out.old info.old result out.new info.new }
 {
     if info.len() < 3 {
@@ -358,13 +267,7 @@ pub extern "C" fn yugerzat_rewrite_auth_stat(
     tell_copied(c, info)
 }
 
-#[unsafe(no_mangle)]
-pub extern "C" fn yugerzat_rewrite_auth_flavor(
-    src: &[u8],
-    at: usize,
-    out: &mut [u8],
-    info: &mut [u64],
-) -> u32
+pub fn yugerzat_rewrite_auth_flavor(src: &[u8], at: usize, out: &mut [u8], info: &mut [u64]) -> u32
     ensures { RewriteCalled 14 src.now at out.old info.old result out.new info.new }
 {
     if info.len() < 3 {
@@ -374,13 +277,7 @@ pub extern "C" fn yugerzat_rewrite_auth_flavor(
     tell_copied(c, info)
 }
 
-#[unsafe(no_mangle)]
-pub extern "C" fn yugerzat_rewrite_time_how(
-    src: &[u8],
-    at: usize,
-    out: &mut [u8],
-    info: &mut [u64],
-) -> u32
+pub fn yugerzat_rewrite_time_how(src: &[u8], at: usize, out: &mut [u8], info: &mut [u64]) -> u32
     ensures { RewriteCalled 15 src.now at out.old info.old result out.new info.new }
 {
     if info.len() < 3 {
@@ -390,13 +287,7 @@ pub extern "C" fn yugerzat_rewrite_time_how(
     tell_copied(c, info)
 }
 
-#[unsafe(no_mangle)]
-pub extern "C" fn yugerzat_rewrite_nfsstat3(
-    src: &[u8],
-    at: usize,
-    out: &mut [u8],
-    info: &mut [u64],
-) -> u32
+pub fn yugerzat_rewrite_nfsstat3(src: &[u8], at: usize, out: &mut [u8], info: &mut [u64]) -> u32
     ensures { RewriteCalled 16 src.now at out.old info.old result out.new info.new }
 {
     if info.len() < 3 {
@@ -406,13 +297,7 @@ pub extern "C" fn yugerzat_rewrite_nfsstat3(
     tell_copied(c, info)
 }
 
-#[unsafe(no_mangle)]
-pub extern "C" fn yugerzat_rewrite_ftype3(
-    src: &[u8],
-    at: usize,
-    out: &mut [u8],
-    info: &mut [u64],
-) -> u32
+pub fn yugerzat_rewrite_ftype3(src: &[u8], at: usize, out: &mut [u8], info: &mut [u64]) -> u32
     ensures { RewriteCalled 17 src.now at out.old info.old result out.new info.new }
 {
     if info.len() < 3 {
@@ -422,13 +307,7 @@ pub extern "C" fn yugerzat_rewrite_ftype3(
     tell_copied(c, info)
 }
 
-#[unsafe(no_mangle)]
-pub extern "C" fn yugerzat_rewrite_auth_unix(
-    src: &[u8],
-    at: usize,
-    out: &mut [u8],
-    info: &mut [u64],
-) -> u32
+pub fn yugerzat_rewrite_auth_unix(src: &[u8], at: usize, out: &mut [u8], info: &mut [u64]) -> u32
     ensures { RewriteCalled 18 src.now at out.old info.old result out.new info.new }
 {
     if info.len() < 3 {
@@ -438,13 +317,7 @@ pub extern "C" fn yugerzat_rewrite_auth_unix(
     tell_copied(c, info)
 }
 
-#[unsafe(no_mangle)]
-pub extern "C" fn yugerzat_rewrite_opaque_auth(
-    src: &[u8],
-    at: usize,
-    out: &mut [u8],
-    info: &mut [u64],
-) -> u32
+pub fn yugerzat_rewrite_opaque_auth(src: &[u8], at: usize, out: &mut [u8], info: &mut [u64]) -> u32
     ensures { RewriteCalled 19 src.now at out.old info.old result out.new info.new }
 {
     if info.len() < 3 {
@@ -454,13 +327,7 @@ pub extern "C" fn yugerzat_rewrite_opaque_auth(
     tell_copied(c, info)
 }
 
-#[unsafe(no_mangle)]
-pub extern "C" fn yugerzat_rewrite_rpc_msg(
-    src: &[u8],
-    at: usize,
-    out: &mut [u8],
-    info: &mut [u64],
-) -> u32
+pub fn yugerzat_rewrite_rpc_msg(src: &[u8], at: usize, out: &mut [u8], info: &mut [u64]) -> u32
     ensures { RewriteCalled 20 src.now at out.old info.old result out.new info.new }
 {
     if info.len() < 3 {
@@ -470,13 +337,7 @@ pub extern "C" fn yugerzat_rewrite_rpc_msg(
     tell_copied(c, info)
 }
 
-#[unsafe(no_mangle)]
-pub extern "C" fn yugerzat_rewrite_rpc_body(
-    src: &[u8],
-    at: usize,
-    out: &mut [u8],
-    info: &mut [u64],
-) -> u32
+pub fn yugerzat_rewrite_rpc_body(src: &[u8], at: usize, out: &mut [u8], info: &mut [u64]) -> u32
     ensures { RewriteCalled 21 src.now at out.old info.old result out.new info.new }
 {
     if info.len() < 3 {
@@ -486,13 +347,7 @@ pub extern "C" fn yugerzat_rewrite_rpc_body(
     tell_copied(c, info)
 }
 
-#[unsafe(no_mangle)]
-pub extern "C" fn yugerzat_rewrite_call_body(
-    src: &[u8],
-    at: usize,
-    out: &mut [u8],
-    info: &mut [u64],
-) -> u32
+pub fn yugerzat_rewrite_call_body(src: &[u8], at: usize, out: &mut [u8], info: &mut [u64]) -> u32
     ensures { RewriteCalled 22 src.now at out.old info.old result out.new info.new }
 {
     if info.len() < 3 {
@@ -502,13 +357,7 @@ pub extern "C" fn yugerzat_rewrite_call_body(
     tell_copied(c, info)
 }
 
-#[unsafe(no_mangle)]
-pub extern "C" fn yugerzat_rewrite_reply_body(
-    src: &[u8],
-    at: usize,
-    out: &mut [u8],
-    info: &mut [u64],
-) -> u32
+pub fn yugerzat_rewrite_reply_body(src: &[u8], at: usize, out: &mut [u8], info: &mut [u64]) -> u32
     ensures { RewriteCalled 23 src.now at out.old info.old result out.new info.new }
 {
     if info.len() < 3 {
@@ -518,8 +367,7 @@ pub extern "C" fn yugerzat_rewrite_reply_body(
     tell_copied(c, info)
 }
 
-#[unsafe(no_mangle)]
-pub extern "C" fn yugerzat_rewrite_accepted_reply(
+pub fn yugerzat_rewrite_accepted_reply(
     src: &[u8],
     at: usize,
     out: &mut [u8],
@@ -534,13 +382,7 @@ pub extern "C" fn yugerzat_rewrite_accepted_reply(
     tell_copied(c, info)
 }
 
-#[unsafe(no_mangle)]
-pub extern "C" fn yugerzat_rewrite_accept_body(
-    src: &[u8],
-    at: usize,
-    out: &mut [u8],
-    info: &mut [u64],
-) -> u32
+pub fn yugerzat_rewrite_accept_body(src: &[u8], at: usize, out: &mut [u8], info: &mut [u64]) -> u32
     ensures { RewriteCalled 25 src.now at out.old info.old result out.new info.new }
 {
     if info.len() < 3 {
@@ -550,8 +392,7 @@ pub extern "C" fn yugerzat_rewrite_accept_body(
     tell_copied(c, info)
 }
 
-#[unsafe(no_mangle)]
-pub extern "C" fn yugerzat_rewrite_rejected_reply(
+pub fn yugerzat_rewrite_rejected_reply(
     src: &[u8],
     at: usize,
     out: &mut [u8],
@@ -566,8 +407,7 @@ pub extern "C" fn yugerzat_rewrite_rejected_reply(
     tell_copied(c, info)
 }
 
-#[unsafe(no_mangle)]
-pub extern "C" fn yugerzat_rewrite_mismatch_info(
+pub fn yugerzat_rewrite_mismatch_info(
     src: &[u8],
     at: usize,
     out: &mut [u8],
@@ -582,13 +422,7 @@ pub extern "C" fn yugerzat_rewrite_mismatch_info(
     tell_copied(c, info)
 }
 
-#[unsafe(no_mangle)]
-pub extern "C" fn yugerzat_rewrite_specdata3(
-    src: &[u8],
-    at: usize,
-    out: &mut [u8],
-    info: &mut [u64],
-) -> u32
+pub fn yugerzat_rewrite_specdata3(src: &[u8], at: usize, out: &mut [u8], info: &mut [u64]) -> u32
     ensures { RewriteCalled 28 src.now at out.old info.old result out.new info.new }
 {
     if info.len() < 3 {
@@ -598,13 +432,7 @@ pub extern "C" fn yugerzat_rewrite_specdata3(
     tell_copied(c, info)
 }
 
-#[unsafe(no_mangle)]
-pub extern "C" fn yugerzat_rewrite_nfs_fh3(
-    src: &[u8],
-    at: usize,
-    out: &mut [u8],
-    info: &mut [u64],
-) -> u32
+pub fn yugerzat_rewrite_nfs_fh3(src: &[u8], at: usize, out: &mut [u8], info: &mut [u64]) -> u32
     ensures { RewriteCalled 29 src.now at out.old info.old result out.new info.new }
 {
     if info.len() < 3 {
@@ -614,13 +442,7 @@ pub extern "C" fn yugerzat_rewrite_nfs_fh3(
     tell_copied(c, info)
 }
 
-#[unsafe(no_mangle)]
-pub extern "C" fn yugerzat_rewrite_nfstime3(
-    src: &[u8],
-    at: usize,
-    out: &mut [u8],
-    info: &mut [u64],
-) -> u32
+pub fn yugerzat_rewrite_nfstime3(src: &[u8], at: usize, out: &mut [u8], info: &mut [u64]) -> u32
     ensures { RewriteCalled 30 src.now at out.old info.old result out.new info.new }
 {
     if info.len() < 3 {
@@ -630,13 +452,7 @@ pub extern "C" fn yugerzat_rewrite_nfstime3(
     tell_copied(c, info)
 }
 
-#[unsafe(no_mangle)]
-pub extern "C" fn yugerzat_rewrite_fattr3(
-    src: &[u8],
-    at: usize,
-    out: &mut [u8],
-    info: &mut [u64],
-) -> u32
+pub fn yugerzat_rewrite_fattr3(src: &[u8], at: usize, out: &mut [u8], info: &mut [u64]) -> u32
     ensures { RewriteCalled 31 src.now at out.old info.old result out.new info.new }
 {
     if info.len() < 3 {
@@ -646,13 +462,7 @@ pub extern "C" fn yugerzat_rewrite_fattr3(
     tell_copied(c, info)
 }
 
-#[unsafe(no_mangle)]
-pub extern "C" fn yugerzat_rewrite_fsinfo3(
-    src: &[u8],
-    at: usize,
-    out: &mut [u8],
-    info: &mut [u64],
-) -> u32
+pub fn yugerzat_rewrite_fsinfo3(src: &[u8], at: usize, out: &mut [u8], info: &mut [u64]) -> u32
     ensures { RewriteCalled 32 src.now at out.old info.old result out.new info.new }
 {
     if info.len() < 3 {
@@ -662,13 +472,7 @@ pub extern "C" fn yugerzat_rewrite_fsinfo3(
     tell_copied(c, info)
 }
 
-#[unsafe(no_mangle)]
-pub extern "C" fn yugerzat_rewrite_wcc_attr(
-    src: &[u8],
-    at: usize,
-    out: &mut [u8],
-    info: &mut [u64],
-) -> u32
+pub fn yugerzat_rewrite_wcc_attr(src: &[u8], at: usize, out: &mut [u8], info: &mut [u64]) -> u32
     ensures { RewriteCalled 33 src.now at out.old info.old result out.new info.new }
 {
     if info.len() < 3 {
@@ -678,13 +482,7 @@ pub extern "C" fn yugerzat_rewrite_wcc_attr(
     tell_copied(c, info)
 }
 
-#[unsafe(no_mangle)]
-pub extern "C" fn yugerzat_rewrite_pre_op_attr(
-    src: &[u8],
-    at: usize,
-    out: &mut [u8],
-    info: &mut [u64],
-) -> u32
+pub fn yugerzat_rewrite_pre_op_attr(src: &[u8], at: usize, out: &mut [u8], info: &mut [u64]) -> u32
     ensures { RewriteCalled 34 src.now at out.old info.old result out.new info.new }
 {
     if info.len() < 3 {
@@ -694,13 +492,7 @@ pub extern "C" fn yugerzat_rewrite_pre_op_attr(
     tell_copied(c, info)
 }
 
-#[unsafe(no_mangle)]
-pub extern "C" fn yugerzat_rewrite_post_op_attr(
-    src: &[u8],
-    at: usize,
-    out: &mut [u8],
-    info: &mut [u64],
-) -> u32
+pub fn yugerzat_rewrite_post_op_attr(src: &[u8], at: usize, out: &mut [u8], info: &mut [u64]) -> u32
     ensures { RewriteCalled 35 src.now at out.old info.old result out.new info.new }
 {
     if info.len() < 3 {
@@ -710,13 +502,7 @@ pub extern "C" fn yugerzat_rewrite_post_op_attr(
     tell_copied(c, info)
 }
 
-#[unsafe(no_mangle)]
-pub extern "C" fn yugerzat_rewrite_wcc_data(
-    src: &[u8],
-    at: usize,
-    out: &mut [u8],
-    info: &mut [u64],
-) -> u32
+pub fn yugerzat_rewrite_wcc_data(src: &[u8], at: usize, out: &mut [u8], info: &mut [u64]) -> u32
     ensures { RewriteCalled 36 src.now at out.old info.old result out.new info.new }
 {
     if info.len() < 3 {
@@ -726,13 +512,7 @@ pub extern "C" fn yugerzat_rewrite_wcc_data(
     tell_copied(c, info)
 }
 
-#[unsafe(no_mangle)]
-pub extern "C" fn yugerzat_rewrite_post_op_fh3(
-    src: &[u8],
-    at: usize,
-    out: &mut [u8],
-    info: &mut [u64],
-) -> u32
+pub fn yugerzat_rewrite_post_op_fh3(src: &[u8], at: usize, out: &mut [u8], info: &mut [u64]) -> u32
     ensures { RewriteCalled 37 src.now at out.old info.old result out.new info.new }
 {
     if info.len() < 3 {
@@ -742,13 +522,7 @@ pub extern "C" fn yugerzat_rewrite_post_op_fh3(
     tell_copied(c, info)
 }
 
-#[unsafe(no_mangle)]
-pub extern "C" fn yugerzat_rewrite_set_mode3(
-    src: &[u8],
-    at: usize,
-    out: &mut [u8],
-    info: &mut [u64],
-) -> u32
+pub fn yugerzat_rewrite_set_mode3(src: &[u8], at: usize, out: &mut [u8], info: &mut [u64]) -> u32
     ensures { RewriteCalled 38 src.now at out.old info.old result out.new info.new }
 {
     if info.len() < 3 {
@@ -758,13 +532,7 @@ pub extern "C" fn yugerzat_rewrite_set_mode3(
     tell_copied(c, info)
 }
 
-#[unsafe(no_mangle)]
-pub extern "C" fn yugerzat_rewrite_set_uid3(
-    src: &[u8],
-    at: usize,
-    out: &mut [u8],
-    info: &mut [u64],
-) -> u32
+pub fn yugerzat_rewrite_set_uid3(src: &[u8], at: usize, out: &mut [u8], info: &mut [u64]) -> u32
     ensures { RewriteCalled 39 src.now at out.old info.old result out.new info.new }
 {
     if info.len() < 3 {
@@ -774,13 +542,7 @@ pub extern "C" fn yugerzat_rewrite_set_uid3(
     tell_copied(c, info)
 }
 
-#[unsafe(no_mangle)]
-pub extern "C" fn yugerzat_rewrite_set_gid3(
-    src: &[u8],
-    at: usize,
-    out: &mut [u8],
-    info: &mut [u64],
-) -> u32
+pub fn yugerzat_rewrite_set_gid3(src: &[u8], at: usize, out: &mut [u8], info: &mut [u64]) -> u32
     ensures { RewriteCalled 40 src.now at out.old info.old result out.new info.new }
 {
     if info.len() < 3 {
@@ -790,13 +552,7 @@ pub extern "C" fn yugerzat_rewrite_set_gid3(
     tell_copied(c, info)
 }
 
-#[unsafe(no_mangle)]
-pub extern "C" fn yugerzat_rewrite_set_size3(
-    src: &[u8],
-    at: usize,
-    out: &mut [u8],
-    info: &mut [u64],
-) -> u32
+pub fn yugerzat_rewrite_set_size3(src: &[u8], at: usize, out: &mut [u8], info: &mut [u64]) -> u32
     ensures { RewriteCalled 41 src.now at out.old info.old result out.new info.new }
 {
     if info.len() < 3 {
@@ -806,13 +562,7 @@ pub extern "C" fn yugerzat_rewrite_set_size3(
     tell_copied(c, info)
 }
 
-#[unsafe(no_mangle)]
-pub extern "C" fn yugerzat_rewrite_set_atime(
-    src: &[u8],
-    at: usize,
-    out: &mut [u8],
-    info: &mut [u64],
-) -> u32
+pub fn yugerzat_rewrite_set_atime(src: &[u8], at: usize, out: &mut [u8], info: &mut [u64]) -> u32
     ensures { RewriteCalled 42 src.now at out.old info.old result out.new info.new }
 {
     if info.len() < 3 {
@@ -822,13 +572,7 @@ pub extern "C" fn yugerzat_rewrite_set_atime(
     tell_copied(c, info)
 }
 
-#[unsafe(no_mangle)]
-pub extern "C" fn yugerzat_rewrite_set_mtime(
-    src: &[u8],
-    at: usize,
-    out: &mut [u8],
-    info: &mut [u64],
-) -> u32
+pub fn yugerzat_rewrite_set_mtime(src: &[u8], at: usize, out: &mut [u8], info: &mut [u64]) -> u32
     ensures { RewriteCalled 43 src.now at out.old info.old result out.new info.new }
 {
     if info.len() < 3 {
@@ -838,25 +582,13 @@ pub extern "C" fn yugerzat_rewrite_set_mtime(
     tell_copied(c, info)
 }
 
-#[unsafe(no_mangle)]
-pub extern "C" fn yugerzat_rewrite_sattr3(
-    src: &[u8],
-    at: usize,
-    out: &mut [u8],
-    info: &mut [u64],
-) -> u32
+pub fn yugerzat_rewrite_sattr3(src: &[u8], at: usize, out: &mut [u8], info: &mut [u64]) -> u32
     ensures { RewriteCalled 44 src.now at out.old info.old result out.new info.new }
 {
     rewrite_sattr3(src, at, out, info)
 }
 
-#[unsafe(no_mangle)]
-pub extern "C" fn yugerzat_rewrite_diropargs3(
-    src: &[u8],
-    at: usize,
-    out: &mut [u8],
-    info: &mut [u64],
-) -> u32
+pub fn yugerzat_rewrite_diropargs3(src: &[u8], at: usize, out: &mut [u8], info: &mut [u64]) -> u32
     ensures { RewriteCalled 45 src.now at out.old info.old result out.new info.new }
 {
     if info.len() < 3 {
@@ -866,13 +598,7 @@ pub extern "C" fn yugerzat_rewrite_diropargs3(
     tell_copied(c, info)
 }
 
-#[unsafe(no_mangle)]
-pub extern "C" fn yugerzat_rewrite_symlinkdata3(
-    src: &[u8],
-    at: usize,
-    out: &mut [u8],
-    info: &mut [u64],
-) -> u32
+pub fn yugerzat_rewrite_symlinkdata3(src: &[u8], at: usize, out: &mut [u8], info: &mut [u64]) -> u32
     ensures { RewriteCalled 46 src.now at out.old info.old result out.new info.new }
 {
     if info.len() < 3 {
@@ -882,13 +608,7 @@ pub extern "C" fn yugerzat_rewrite_symlinkdata3(
     tell_copied(c, info)
 }
 
-#[unsafe(no_mangle)]
-pub extern "C" fn yugerzat_rewrite_stable_how(
-    src: &[u8],
-    at: usize,
-    out: &mut [u8],
-    info: &mut [u64],
-) -> u32
+pub fn yugerzat_rewrite_stable_how(src: &[u8], at: usize, out: &mut [u8], info: &mut [u64]) -> u32
     ensures { RewriteCalled 47 src.now at out.old info.old result out.new info.new }
 {
     if info.len() < 3 {
@@ -898,13 +618,7 @@ pub extern "C" fn yugerzat_rewrite_stable_how(
     tell_copied(c, info)
 }
 
-#[unsafe(no_mangle)]
-pub extern "C" fn yugerzat_rewrite_sattrguard3(
-    src: &[u8],
-    at: usize,
-    out: &mut [u8],
-    info: &mut [u64],
-) -> u32
+pub fn yugerzat_rewrite_sattrguard3(src: &[u8], at: usize, out: &mut [u8], info: &mut [u64]) -> u32
     ensures { RewriteCalled 48 src.now at out.old info.old result out.new info.new }
 {
     if info.len() < 3 {
@@ -914,13 +628,7 @@ pub extern "C" fn yugerzat_rewrite_sattrguard3(
     tell_copied(c, info)
 }
 
-#[unsafe(no_mangle)]
-pub extern "C" fn yugerzat_rewrite_getattr3args(
-    src: &[u8],
-    at: usize,
-    out: &mut [u8],
-    info: &mut [u64],
-) -> u32
+pub fn yugerzat_rewrite_getattr3args(src: &[u8], at: usize, out: &mut [u8], info: &mut [u64]) -> u32
     ensures { RewriteCalled 49 src.now at out.old info.old result out.new info.new }
 {
     if info.len() < 3 {
@@ -930,13 +638,7 @@ pub extern "C" fn yugerzat_rewrite_getattr3args(
     tell_copied(c, info)
 }
 
-#[unsafe(no_mangle)]
-pub extern "C" fn yugerzat_rewrite_getattr3res(
-    src: &[u8],
-    at: usize,
-    out: &mut [u8],
-    info: &mut [u64],
-) -> u32
+pub fn yugerzat_rewrite_getattr3res(src: &[u8], at: usize, out: &mut [u8], info: &mut [u64]) -> u32
     ensures { RewriteCalled 50 src.now at out.old info.old result out.new info.new }
 {
     if info.len() < 3 {
@@ -946,13 +648,7 @@ pub extern "C" fn yugerzat_rewrite_getattr3res(
     tell_copied(c, info)
 }
 
-#[unsafe(no_mangle)]
-pub extern "C" fn yugerzat_rewrite_setattr3args(
-    src: &[u8],
-    at: usize,
-    out: &mut [u8],
-    info: &mut [u64],
-) -> u32
+pub fn yugerzat_rewrite_setattr3args(src: &[u8], at: usize, out: &mut [u8], info: &mut [u64]) -> u32
     ensures { RewriteCalled 51 src.now at out.old info.old result out.new info.new }
 {
     if info.len() < 3 {
@@ -962,13 +658,7 @@ pub extern "C" fn yugerzat_rewrite_setattr3args(
     tell_copied(c, info)
 }
 
-#[unsafe(no_mangle)]
-pub extern "C" fn yugerzat_rewrite_setattr3res(
-    src: &[u8],
-    at: usize,
-    out: &mut [u8],
-    info: &mut [u64],
-) -> u32
+pub fn yugerzat_rewrite_setattr3res(src: &[u8], at: usize, out: &mut [u8], info: &mut [u64]) -> u32
     ensures { RewriteCalled 52 src.now at out.old info.old result out.new info.new }
 {
     if info.len() < 3 {
@@ -978,13 +668,7 @@ pub extern "C" fn yugerzat_rewrite_setattr3res(
     tell_copied(c, info)
 }
 
-#[unsafe(no_mangle)]
-pub extern "C" fn yugerzat_rewrite_lookup3args(
-    src: &[u8],
-    at: usize,
-    out: &mut [u8],
-    info: &mut [u64],
-) -> u32
+pub fn yugerzat_rewrite_lookup3args(src: &[u8], at: usize, out: &mut [u8], info: &mut [u64]) -> u32
     ensures { RewriteCalled 53 src.now at out.old info.old result out.new info.new }
 {
     if info.len() < 3 {
@@ -994,13 +678,7 @@ pub extern "C" fn yugerzat_rewrite_lookup3args(
     tell_copied(c, info)
 }
 
-#[unsafe(no_mangle)]
-pub extern "C" fn yugerzat_rewrite_lookup3res(
-    src: &[u8],
-    at: usize,
-    out: &mut [u8],
-    info: &mut [u64],
-) -> u32
+pub fn yugerzat_rewrite_lookup3res(src: &[u8], at: usize, out: &mut [u8], info: &mut [u64]) -> u32
     ensures { RewriteCalled 54 src.now at out.old info.old result out.new info.new }
 {
     if info.len() < 3 {
@@ -1010,13 +688,7 @@ pub extern "C" fn yugerzat_rewrite_lookup3res(
     tell_copied(c, info)
 }
 
-#[unsafe(no_mangle)]
-pub extern "C" fn yugerzat_rewrite_read3args(
-    src: &[u8],
-    at: usize,
-    out: &mut [u8],
-    info: &mut [u64],
-) -> u32
+pub fn yugerzat_rewrite_read3args(src: &[u8], at: usize, out: &mut [u8], info: &mut [u64]) -> u32
     ensures { RewriteCalled 55 src.now at out.old info.old result out.new info.new }
 {
     if info.len() < 3 {
@@ -1026,13 +698,7 @@ pub extern "C" fn yugerzat_rewrite_read3args(
     tell_copied(c, info)
 }
 
-#[unsafe(no_mangle)]
-pub extern "C" fn yugerzat_rewrite_read3res(
-    src: &[u8],
-    at: usize,
-    out: &mut [u8],
-    info: &mut [u64],
-) -> u32
+pub fn yugerzat_rewrite_read3res(src: &[u8], at: usize, out: &mut [u8], info: &mut [u64]) -> u32
     ensures { RewriteCalled 56 src.now at out.old info.old result out.new info.new }
 {
     if info.len() < 3 {
@@ -1042,13 +708,7 @@ pub extern "C" fn yugerzat_rewrite_read3res(
     tell_copied(c, info)
 }
 
-#[unsafe(no_mangle)]
-pub extern "C" fn yugerzat_rewrite_write3args(
-    src: &[u8],
-    at: usize,
-    out: &mut [u8],
-    info: &mut [u64],
-) -> u32
+pub fn yugerzat_rewrite_write3args(src: &[u8], at: usize, out: &mut [u8], info: &mut [u64]) -> u32
     ensures { RewriteCalled 57 src.now at out.old info.old result out.new info.new }
 {
     if info.len() < 3 {
@@ -1058,13 +718,7 @@ pub extern "C" fn yugerzat_rewrite_write3args(
     tell_copied(c, info)
 }
 
-#[unsafe(no_mangle)]
-pub extern "C" fn yugerzat_rewrite_write3res(
-    src: &[u8],
-    at: usize,
-    out: &mut [u8],
-    info: &mut [u64],
-) -> u32
+pub fn yugerzat_rewrite_write3res(src: &[u8], at: usize, out: &mut [u8], info: &mut [u64]) -> u32
     ensures { RewriteCalled 58 src.now at out.old info.old result out.new info.new }
 {
     if info.len() < 3 {
@@ -1074,8 +728,7 @@ pub extern "C" fn yugerzat_rewrite_write3res(
     tell_copied(c, info)
 }
 
-#[unsafe(no_mangle)]
-pub extern "C" fn yugerzat_rewrite_current_accept_stat(
+pub fn yugerzat_rewrite_current_accept_stat(
     src: &[u8],
     at: usize,
     out: &mut [u8],
@@ -1090,8 +743,7 @@ pub extern "C" fn yugerzat_rewrite_current_accept_stat(
     tell_copied(c, info)
 }
 
-#[unsafe(no_mangle)]
-pub extern "C" fn yugerzat_rewrite_current_auth_stat(
+pub fn yugerzat_rewrite_current_auth_stat(
     src: &[u8],
     at: usize,
     out: &mut [u8],
@@ -1106,8 +758,7 @@ pub extern "C" fn yugerzat_rewrite_current_auth_stat(
     tell_copied(c, info)
 }
 
-#[unsafe(no_mangle)]
-pub extern "C" fn yugerzat_rewrite_current_accept_body(
+pub fn yugerzat_rewrite_current_accept_body(
     src: &[u8],
     at: usize,
     out: &mut [u8],
@@ -1122,8 +773,7 @@ pub extern "C" fn yugerzat_rewrite_current_accept_body(
     tell_copied(c, info)
 }
 
-#[unsafe(no_mangle)]
-pub extern "C" fn yugerzat_rewrite_current_accepted_reply(
+pub fn yugerzat_rewrite_current_accepted_reply(
     src: &[u8],
     at: usize,
     out: &mut [u8],
@@ -1138,8 +788,7 @@ pub extern "C" fn yugerzat_rewrite_current_accepted_reply(
     tell_copied(c, info)
 }
 
-#[unsafe(no_mangle)]
-pub extern "C" fn yugerzat_rewrite_current_rejected_reply(
+pub fn yugerzat_rewrite_current_rejected_reply(
     src: &[u8],
     at: usize,
     out: &mut [u8],
@@ -1154,8 +803,7 @@ pub extern "C" fn yugerzat_rewrite_current_rejected_reply(
     tell_copied(c, info)
 }
 
-#[unsafe(no_mangle)]
-pub extern "C" fn yugerzat_rewrite_current_reply_body(
+pub fn yugerzat_rewrite_current_reply_body(
     src: &[u8],
     at: usize,
     out: &mut [u8],
@@ -1170,8 +818,7 @@ pub extern "C" fn yugerzat_rewrite_current_reply_body(
     tell_copied(c, info)
 }
 
-#[unsafe(no_mangle)]
-pub extern "C" fn yugerzat_rewrite_current_rpc_body(
+pub fn yugerzat_rewrite_current_rpc_body(
     src: &[u8],
     at: usize,
     out: &mut [u8],
@@ -1186,8 +833,7 @@ pub extern "C" fn yugerzat_rewrite_current_rpc_body(
     tell_copied(c, info)
 }
 
-#[unsafe(no_mangle)]
-pub extern "C" fn yugerzat_rewrite_current_rpc_msg(
+pub fn yugerzat_rewrite_current_rpc_msg(
     src: &[u8],
     at: usize,
     out: &mut [u8],
@@ -1202,13 +848,7 @@ pub extern "C" fn yugerzat_rewrite_current_rpc_msg(
     tell_copied(c, info)
 }
 
-#[unsafe(no_mangle)]
-pub extern "C" fn yugerzat_rewrite_dirpath(
-    src: &[u8],
-    at: usize,
-    out: &mut [u8],
-    info: &mut [u64],
-) -> u32
+pub fn yugerzat_rewrite_dirpath(src: &[u8], at: usize, out: &mut [u8], info: &mut [u64]) -> u32
     ensures { RewriteCalled 67 src.now at out.old info.old result out.new info.new }
 {
     if info.len() < 3 {
@@ -1218,13 +858,7 @@ pub extern "C" fn yugerzat_rewrite_dirpath(
     tell_copied(c, info)
 }
 
-#[unsafe(no_mangle)]
-pub extern "C" fn yugerzat_rewrite_mountstat3(
-    src: &[u8],
-    at: usize,
-    out: &mut [u8],
-    info: &mut [u64],
-) -> u32
+pub fn yugerzat_rewrite_mountstat3(src: &[u8], at: usize, out: &mut [u8], info: &mut [u64]) -> u32
     ensures { RewriteCalled 68 src.now at out.old info.old result out.new info.new }
 {
     if info.len() < 3 {
@@ -1234,13 +868,7 @@ pub extern "C" fn yugerzat_rewrite_mountstat3(
     tell_copied(c, info)
 }
 
-#[unsafe(no_mangle)]
-pub extern "C" fn yugerzat_rewrite_mountres3(
-    src: &[u8],
-    at: usize,
-    out: &mut [u8],
-    info: &mut [u64],
-) -> u32
+pub fn yugerzat_rewrite_mountres3(src: &[u8], at: usize, out: &mut [u8], info: &mut [u64]) -> u32
     ensures { RewriteCalled 69 src.now at out.old info.old result out.new info.new }
 {
     if info.len() < 3 {
@@ -1250,13 +878,7 @@ pub extern "C" fn yugerzat_rewrite_mountres3(
     tell_copied(c, info)
 }
 
-#[unsafe(no_mangle)]
-pub extern "C" fn yugerzat_rewrite_exports(
-    src: &[u8],
-    at: usize,
-    out: &mut [u8],
-    info: &mut [u64],
-) -> u32
+pub fn yugerzat_rewrite_exports(src: &[u8], at: usize, out: &mut [u8], info: &mut [u64]) -> u32
     ensures { RewriteCalled 70 src.now at out.old info.old result out.new info.new }
 {
     if info.len() < 3 {
@@ -1266,13 +888,7 @@ pub extern "C" fn yugerzat_rewrite_exports(
     tell_copied(c, info)
 }
 
-#[unsafe(no_mangle)]
-pub extern "C" fn yugerzat_rewrite_mapping(
-    src: &[u8],
-    at: usize,
-    out: &mut [u8],
-    info: &mut [u64],
-) -> u32
+pub fn yugerzat_rewrite_mapping(src: &[u8], at: usize, out: &mut [u8], info: &mut [u64]) -> u32
     ensures { RewriteCalled 71 src.now at out.old info.old result out.new info.new }
 {
     if info.len() < 3 {

@@ -26,8 +26,7 @@ use rpc::{
 use xdr::{Piece, Refusal, inside};
 
 // Whether a piece lies inside a message: 0 and the piece, or 4 and the empty piece at the start.
-#[unsafe(no_mangle)]
-pub extern "C" fn yugerzat_part(message: &[u8], at: usize, count: usize, info: &mut [u64]) -> u32
+pub fn yugerzat_part(message: &[u8], at: usize, count: usize, info: &mut [u64]) -> u32
     ensures { PartCalled message.now (record { at = at; count = count; clean = true }) info.old result info.new }
 {
     if info.len() < 2 {
@@ -79,8 +78,7 @@ fn put_diropargs3(v: diropargs3, next: usize, plain: bool, info: &mut [u64])
 }
 
 // The figures of a diropargs3: place and count of the handle, place and count of the name.
-#[unsafe(no_mangle)]
-pub extern "C" fn yugerzat_read_diropargs3(src: &[u8], at: usize, info: &mut [u64]) -> u32
+pub fn yugerzat_read_diropargs3(src: &[u8], at: usize, info: &mut [u64]) -> u32
     ensures { Diropargs3Called src.now at info.old result info.new }
 {
     if info.len() < 6 {
@@ -151,8 +149,7 @@ fn read_fattr3_carefully(src: &[u8], at: usize, info: &mut [u64]) -> u32
 
 // The figures of a fattr3, which is always in published form: the number of its type, mode, nlink, uid, gid, size, used, the two numbers of
 // rdev, fsid, fileid, then seconds and nanoseconds of atime, mtime and ctime.
-#[unsafe(no_mangle)]
-pub extern "C" fn yugerzat_read_fattr3(src: &[u8], at: usize, info: &mut [u64]) -> u32
+pub fn yugerzat_read_fattr3(src: &[u8], at: usize, info: &mut [u64]) -> u32
     ensures { Fattr3Called src.now at info.old result info.new }
 {
     if info.len() < 19 {
@@ -320,8 +317,7 @@ fn put_message(m: rpc_msg, next: usize, plain: bool, info: &mut [u64])
 // The figures of a message: xid, a tag and ten more, zeros where there are fewer. 0, a call: rpcvers, prog, vers, proc, then flavor, place and
 // count of the credential and of the verifier. 1, an accepted reply: the verifier's three, the number of its accept_stat and the two versions of
 // PROG_MISMATCH. 2, denied by the version: the two versions. 3, denied by authentication: the number of its auth_stat.
-#[unsafe(no_mangle)]
-pub extern "C" fn yugerzat_read_rpc_msg(message: &[u8], at: usize, info: &mut [u64]) -> u32
+pub fn yugerzat_read_rpc_msg(message: &[u8], at: usize, info: &mut [u64]) -> u32
     ensures { RpcMsgCalled crate message.now at info.old result info.new }
 {
     if info.len() < 14 {
@@ -362,13 +358,7 @@ fn put_unix(v: auth_unix, next: usize, plain: bool, info: &mut [u64])
 
 // The figures of the auth_unix in a credential's body, which is given by place and count: stamp, place and count of the name, uid, gid, place
 // and count of the gids.
-#[unsafe(no_mangle)]
-pub extern "C" fn yugerzat_read_auth_unix(
-    message: &[u8],
-    at: usize,
-    count: usize,
-    info: &mut [u64],
-) -> u32
+pub fn yugerzat_read_auth_unix(message: &[u8], at: usize, count: usize, info: &mut [u64]) -> u32
     ensures { UnixCalled message.now at count info.old result info.new }
 {
     if info.len() < 9 {
@@ -566,8 +556,7 @@ fn read_sattr3_carefully(src: &[u8], at: usize, info: &mut [u64]) -> u32
 
 // The figures of a sattr3: for mode, uid, gid and size 1 and the number that is set, or zeros; for atime and mtime the tag, then seconds and
 // nanoseconds where the client sets them.
-#[unsafe(no_mangle)]
-pub extern "C" fn yugerzat_read_sattr3(src: &[u8], at: usize, info: &mut [u64]) -> u32
+pub fn yugerzat_read_sattr3(src: &[u8], at: usize, info: &mut [u64]) -> u32
     ensures { Sattr3Called src.now at info.old result info.new }
 {
     if info.len() < 16 {

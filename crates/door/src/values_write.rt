@@ -202,13 +202,7 @@ fn write_fattr3_carefully(fields: &[u64], out: &mut [u8], start: usize, info: &m
     tell_wrote(w, info)
 }
 
-#[unsafe(no_mangle)]
-pub extern "C" fn yugerzat_write_fattr3(
-    fields: &[u64],
-    out: &mut [u8],
-    start: usize,
-    info: &mut [u64],
-) -> u32
+pub fn yugerzat_write_fattr3(fields: &[u64], out: &mut [u8], start: usize, info: &mut [u64]) -> u32
     ensures { WriteFattr3Called fields.now out.old start info.old result out.new info.new }
 {
     if fields.len() < 17 {
@@ -266,8 +260,7 @@ fn write_diropargs3_carefully(
 }
 
 // The handle is a piece of dirs, and the name of names.
-#[unsafe(no_mangle)]
-pub extern "C" fn yugerzat_write_diropargs3(
+pub fn yugerzat_write_diropargs3(
     dirs: &[u8],
     names: &[u8],
     fields: &[u64],
@@ -524,13 +517,7 @@ fn write_sattr3_carefully(fields: &[u64], out: &mut [u8], start: usize, info: &m
 }
 
 // A flag other than 0 is true. What stands behind a flag of 0, or a time's tag of 0 or 1, is passed over.
-#[unsafe(no_mangle)]
-pub extern "C" fn yugerzat_write_sattr3(
-    fields: &[u64],
-    out: &mut [u8],
-    start: usize,
-    info: &mut [u64],
-) -> u32
+pub fn yugerzat_write_sattr3(fields: &[u64], out: &mut [u8], start: usize, info: &mut [u64]) -> u32
     ensures { WriteSattr3Called fields.now out.old start info.old result out.new info.new }
 {
     if fields.len() < 14 {
@@ -706,8 +693,7 @@ fn write_call_carefully(
 
 // The figures of a call: xid, rpcvers, prog, vers, proc, then flavor, place and count of the credential, a piece of creds, and of the
 // verifier, a piece of verfs.
-#[unsafe(no_mangle)]
-pub extern "C" fn yugerzat_write_call(
+pub fn yugerzat_write_call(
     creds: &[u8],
     verfs: &[u8],
     fields: &[u64],
@@ -782,8 +768,7 @@ fn given_unix(fields: &[u64]) -> GivenUnix
 }
 
 // The figures of an auth_unix: stamp, place and count of the name, a piece of names, uid, gid, and place and count of the gids, words of groups.
-#[unsafe(no_mangle)]
-pub extern "C" fn yugerzat_write_auth_unix(
+pub fn yugerzat_write_auth_unix(
     names: &[u8],
     groups: &[u8],
     fields: &[u64],
