@@ -17,7 +17,7 @@ fail() {
 find_kit() {
     command -v rt >/dev/null 2>&1 || fail "the command rt of the Rattle kit is not on the PATH (see README.md, What you need)"
     kit=$(rt doc) || fail "rt cannot say where the Rattle kit lies"
-    kit=${kit%/docs/START-HERE.md}
+    kit=${kit%/START-HERE.md}
     [ -z "${YUGERZAT_KIT_NAMED:-}" ] || return 0
     has=$(rt version) || has='of an unknown version'
     wants=$(cat "$root/kit.txt")
@@ -30,9 +30,10 @@ find_kit() {
 
 job='' watcher='' room=''
 
-# Runs a command at the top of the repository, in a session of its own: what rt starts does not hear Ctrl-C, so it is ended as a group.
+# Runs a command in the folder `where`, or else at the top of the repository, on the file `given`, or else on nothing, in a session of its own:
+# what rt starts does not hear Ctrl-C, so it is ended as a group.
 run_job() {
-    (cd "$root" && exec setsid "$@") &
+    (cd "${where:-$root}" && exec setsid "$@") <"${given:-/dev/null}" &
     job=$!
     ended=0
     wait "$job" || ended=$?
@@ -51,6 +52,8 @@ end_job() {
         tries=$((tries - 1))
     done
     kill -s KILL -- "-$job" 2>/dev/null || true
+    # rt's provers are a group of their own, which ends when rt is gone.
+    sleep 0.2
     job=''
 }
 
@@ -64,7 +67,7 @@ end_watcher() {
 tidy() {
     end_watcher
     end_job
-    [ -z "$room" ] || rm -rf "$room"
+    [ -z "$room" ] || rm -rf "$room" 2>/dev/null || { sleep 0.5 && rm -rf "$room"; }
     room=''
 }
 
@@ -110,71 +113,104 @@ reached() {
             for (k = 1; k <= m; k++) if (a[k] in uses) visit(a[k])
             print n ":" uses[n]
         }
-        { sub(/#.*/, ""); i = index($0, ":"); n = substr($0, 1, i - 1); gsub(/[ \t]/, "", n); if (i) uses[n] = substr($0, i + 1) }
+        { sub(/#.*/, ""); i = index($0, ":"); split(substr($0, 1, i - 1), word, " "); if (i) uses[word[1]] = substr($0, i + 1) }
         END { m = split(ENVIRON["WANTED"], want, " "); for (k = 1; k <= m; k++) if (want[k] in uses) visit(want[k]) }' "$root/crates.txt"
 }
 
-# Which of them are still to be proved. Only the display uses this: a stamp is reckoned as rt does, and what is proved rt decides.
-unproved() {
-    mkdir -p "$room/stamps"
-    reached "$@" | while IFS=: read -r crate uses; do
+# A checksum of what a crate is made from: its files and those of the crates that it reaches, what they use, the kit and the machine; and
+# of the file SCRIPT.
+made_from() { # CRATE SCRIPT
+    (
+        cd "$root" || exit 2
+        cat "$kit/KIT-ID" "$2"
+        uname -m
+        reached "$1"
+        reached "$1" | while IFS=: read -r crate _; do
+            (cd "crates/$crate" && find src specs proofs stdin stdout args status -type f -exec sha256sum {} + 2>/dev/null | sed "s,^,$crate ,")
+        done | sort
+    ) | sha256sum | cut -d' ' -f1
+}
+
+# The stamp of each crate that the named one reaches goes into the folder of stamps: what it was proved from.
+# Only the display uses them: what is proved rt decides.
+stamps() { # CRATE FOLDER
+    mkdir -p "$2"
+    reached "$1" | while IFS=: read -r crate uses; do
         {
             cat "$kit/KIT-ID"
-            echo "machine $(uname -m)"
-            (cd "$root/crates/$crate" && find src specs proofs stdin stdout args data -type f -exec sha256sum {} + 2>/dev/null | sort)
-            echo "deps: $uses"
-            for used in $uses; do cat "$room/stamps/$used" 2>/dev/null || echo "kit $used"; done
-        } | sha256sum | cut -d' ' -f1 >"$room/stamps/$crate"
-        cmp -s "$room/stamps/$crate" "$root/target/stamp/$crate" || echo "$crate"
+            (cd "$root/crates/$crate" && find src specs proofs -type f -exec sha256sum {} + 2>/dev/null | sort)
+            echo "uses $uses"
+            for used in $uses; do cat "$2/$used" 2>/dev/null || echo "kit $used"; done
+        } | sha256sum | cut -d' ' -f1 >"$2/$crate"
     done
 }
 
-# About how long the named crates take (docs/COSTS.md has the times). Two are proved at once where neither needs the other.
+# Which of them are still to be proved.
+unproved() { # CRATE
+    stamps "$1" "$room/stamps"
+    reached "$1" | while IFS=: read -r crate _; do
+        cmp -s "$room/stamps/$crate" "$root/build/proved/$crate" || echo "$crate"
+    done
+}
+
+# About how long the named crates take (docs/COSTS.md has the times).
 how_long() {
     seconds=0
     for crate in "$@"; do
         case $crate in
         door) seconds=$((seconds + 450)) ;;
         answers) seconds=$((seconds + 250)) ;;
-        rpc) seconds=$((seconds + 150)) ;;
+        rpc | door_c) seconds=$((seconds + 150)) ;;
         limits) seconds=$((seconds + 110)) ;;
         xdr | nfsattr | nfs | nfsfile | nfsdata | mount) seconds=$((seconds + 80)) ;;
         *) seconds=$((seconds + 20)) ;;
         esac
     done
-    minutes=$(((seconds * 8 / 10 + 59) / 60))
+    minutes=$(((seconds + 59) / 60))
     if [ "$minutes" -eq 1 ]; then echo 'a minute'; else echo "$minutes minutes"; fi
 }
 
 announce() { # CRATE..
     if [ $# -eq 1 ]; then crates='1 crate'; else crates="$# crates"; fi
     say "proving $crates ($*): about $(how_long "$@") on two cores. This happens once; later runs start at once"
-    echo $# >"$room/total"
 }
 
-# Says what has begun and ended since it last looked, from the file that rt writes of each crate.
+# What rt has said so far, as lines `began CRATE` and `proved CRATE`. It proves one crate after the other.
+told() {
+    awk '
+        /^rt: chose --jobs [0-9]+ for / { print "began", $NF }
+        /^crate [A-Za-z0-9_]+: / { crate = $2; sub(/:$/, "", crate) }
+        /^logic=proved / { print "proved", crate }' "$room/log"
+}
+
+# Says what has begun and ended since it last looked.
 look() {
-    for crate in $todo; do
-        case $finished in *" $crate "*) continue ;; esac
-        file=$root/target/log/$crate.out
-        [ "$file" -nt "$room/begun" ] || continue
-        said=$(sed -n "s/^rt: $crate //p" "$file" | tail -n 1)
-        case $said in
-        '')
-            case $started in *" $crate "*) continue ;; esac
-            started="$started$crate "
+    now=$(date +%s)
+    told >"$room/told"
+    while read -r what crate; do
+        case " $todo " in *" $crate "*) ;; *) continue ;; esac
+        case $what:$started in
+        "began:"*" $crate "*) ;;
+        began:*)
+            # rt begins with the lowest that is not proved, so those below it are.
+            for other in $todo; do
+                [ "$other" != "$crate" ] || break
+                case $started in *" $other "*) ;; *) started="$started$other " finished="$finished$other " total=$((total - 1)) ;; esac
+            done
+            started="$started$crate " since=$now
             [ -n "$clear" ] || say "proving $crate .."
-            continue
             ;;
-        'proved (unchanged'*) total=$((total - 1)) ;;
-        'proved ('*)
-            count=$((count + 1))
-            say "$count of $total proved: $crate ${said#proved }; $((total - count)) left"
-            ;;
-        *) say "$crate is not proved" ;;
         esac
-        finished="$finished$crate "
-    done
+        case $what:$finished in
+        "proved:"*" $crate "*) ;;
+        proved:*)
+            case $started in *" $crate "*) ;; *) started="$started$crate " since=$now ;; esac
+            finished="$finished$crate " count=$((count + 1))
+            left=$((total - count))
+            say "$count of $total proved: $crate ($((now - since)) s)$([ "$left" -eq 0 ] || echo "; $left left")"
+            ;;
+        esac
+    done <"$room/told"
 }
 
 # On a terminal: what is being proved, and for how long this has gone on.
@@ -196,19 +232,17 @@ rest() {
 }
 
 # Shows how far a proof is, from a second after its start on, until it is told to end, and then once more.
-watch() { # LATER CRATE..: what is proved later counts too
-    later=$1
-    shift
+watch() { # CRATE
     nap='' last=''
     trap 'last=yes; [ -z "$nap" ] || kill "$nap" 2>/dev/null' TERM
-    start=$(date +%s)
+    start=$(date +%s) since=$(date +%s)
     rest
     [ -z "$last" ] || exit 0
-    todo=$(unproved "$@")
-    # shellcheck disable=SC2086
-    [ -z "$todo" ] || announce $todo $later
-    total=$(cat "$room/total" 2>/dev/null || echo 0)
-    count=0 started=' ' finished=' '
+    # shellcheck disable=SC2046
+    set -- $(unproved "$1")
+    todo="$*"
+    [ -z "$todo" ] || announce "$@"
+    total=$# count=0 started=' ' finished=' '
     while :; do
         look
         [ -z "$last" ] || break
@@ -218,55 +252,42 @@ watch() { # LATER CRATE..: what is proved later counts too
     printf '%s' "$clear" >&2
 }
 
-# The same for the last crate, of which rt writes nothing until it is done.
-watch_last() { # CRATE
-    nap='' last=''
-    trap 'last=yes; [ -z "$nap" ] || kill "$nap" 2>/dev/null' TERM
-    start=$(date +%s)
-    todo=$1 started=" $1 " finished=' '
-    total=$(cat "$room/total") count=$((total - 1))
-    while [ -z "$last" ]; do
-        show
-        rest
-    done
-    printf '%s' "$clear" >&2
-}
-
-# What rt says is of interest only if it fails.
-rt_says() { # COMMAND WORDS..
+# Has rt prove a crate and what it uses, and build it: runs the command in the crate's folder. What it says on standard error goes to the
+# file `log`, and is of interest only if it fails.
+prove() { # CRATE COMMAND WORDS..
     rm -f "$root/build/$me.log"
     mkdir -p "$room/tmp"
-    verdict=0
-    run_job env TMPDIR="$room/tmp" "$@" >"$room/log" 2>&1 </dev/null 9>&- || verdict=$?
+    : >"$room/log"
+    final=$1
+    watch "$1" </dev/null >/dev/null 9>&- &
+    watcher=$!
+    shift
+    where=$root/crates/$final verdict=0
+    run_job env TMPDIR="$room/tmp" "$@" 2>>"$room/log" 9>&- || verdict=$?
     end_watcher
-    [ "$verdict" -ne 0 ] || return 0
+    where=''
+    return "$verdict"
+}
+
+# After that: what was proved is noted, for the display.
+proved() { # CRATE
+    stamps "$1" "$room/now"
+    mkdir -p "$root/build/proved"
+    cp "$room/now/"* "$root/build/proved/"
+}
+
+# After that: the end of what rt said, where it failed.
+show_log() {
     cp "$room/log" "$root/build/$me.log"
-    grep -v -e ': proved$' -e '^logic[ =]' -e '^library ' -e '^rt: [A-Za-z0-9_]* proved (' "$room/log" | tail -n 40 >&2
+    grep -v -e ': proved$' -e '^checked ' -e '^logic[ =]' -e '^library ' -e '^statements ' -e '^axioms ' -e '^crate ' "$room/log" | tail -n 40 >&2
     say "above: the end of what rt said; all of it is in $root/build/$me.log"
-    return 1
 }
 
-# Has rt prove the named crates and what they use.
-prove() { # LATER CRATE..
-    # A program's test is run by nobody, who has to get there.
-    chmod 711 "$room"
-    mkdir -m 1777 "$room/tmp"
-    : >"$room/begun"
-    watch "$@" >/dev/null 9>&- &
-    watcher=$!
-    shift
-    rt_says rt check "$@"
-}
-
-# Runs the command that proves the last crate.
-prove_last() { # CRATE COMMAND WORDS..
-    [ -e "$room/total" ] || announce "$1"
-    [ -n "$clear" ] || say "proving $1 .."
-    final=$1 began=$(date +%s)
-    watch_last "$1" >/dev/null 9>&- &
-    watcher=$!
-    shift
-    rt_says "$@" || return 1
-    total=$(cat "$room/total")
-    say "$total of $total proved: $final ($(($(date +%s) - began)) s)"
+# Keeps a proved program for ./run, with the checksum of what it was made from. In place at once, so that nobody finds half a program.
+keep_program() { # CRATE SUM
+    mkdir -p "$root/build/programs"
+    rm -f "$root/build/programs/$1.sum"
+    cp "$root/crates/$1/out/$1" "$root/build/programs/.$1.$$"
+    mv -f "$root/build/programs/.$1.$$" "$root/build/programs/$1"
+    echo "$2" >"$root/build/programs/$1.sum"
 }
