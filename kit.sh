@@ -149,7 +149,10 @@ stamps() { # CRATE FOLDER
 unproved() { # CRATE
     stamps "$1" "$room/stamps"
     reached "$1" | while IFS=: read -r crate _; do
-        cmp -s "$room/stamps/$crate" "$root/build/proved/$crate" || echo "$crate"
+        out=$root/crates/$crate/out
+        if ! cmp -s "$room/stamps/$crate" "$root/build/proved/$crate" || ! { [ -d "$out/rlib" ] || [ -f "$out/$crate" ] || [ -f "$out/lib$crate.a" ]; }; then
+            echo "$crate"
+        fi
     done
 }
 
@@ -206,8 +209,7 @@ look() {
         proved:*)
             case $started in *" $crate "*) ;; *) started="$started$crate " since=$now ;; esac
             finished="$finished$crate " count=$((count + 1))
-            left=$((total - count))
-            say "$count of $total proved: $crate ($((now - since)) s)$([ "$left" -eq 0 ] || echo "; $left left")"
+            say "$count of $total proved: $crate ($((now - since)) s); $((total - count)) left"
             ;;
         esac
     done <"$room/told"
