@@ -16,10 +16,10 @@ fail() {
 # Finds the kit. One that is not the kit of kit.txt is named in a line, once for a command and all that it calls.
 find_kit() {
     command -v rt >/dev/null 2>&1 || fail "the command rt of the Rattle kit is not on the PATH (see README.md, What you need)"
-    kit=$(rt doc) || fail "rt cannot say where the Rattle kit lies"
+    kit=$(rt doc </dev/null) || fail "rt cannot say where the Rattle kit lies"
     kit=${kit%/START-HERE.md}
     [ -z "${YUGERZAT_KIT_NAMED:-}" ] || return 0
-    has=$(rt version) || has='of an unknown version'
+    has=$(rt version </dev/null) || has='of an unknown version'
     wants=$(cat "$root/kit.txt")
     [ "$has" != "$wants" ] || return 0
     say "the Rattle kit here is $has; this repository was proved with $wants (kit.txt). Going on"

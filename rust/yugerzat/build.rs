@@ -100,13 +100,15 @@ fn built() -> Result<PathBuf, String> {
     Ok(archive)
 }
 
-/// The code of the crates that the library is made of: `door` and what it uses, as crates.txt has it.
+/// The code of the crates that the library is made of: `door_c` and what it uses, as crates.txt has it.
 fn sources(root: &Path) -> Vec<PathBuf> {
     let list = fs::read_to_string(root.join("crates.txt")).unwrap_or_default();
-    let mut names = vec!["door"];
+    let mut names = vec!["door_c"];
     let mut seen = 0;
     while seen < names.len() {
-        let uses = list.lines().filter_map(|line| line.split_once(':')).filter(|(name, _)| *name == names[seen]);
+        // Before the colon other words may stand behind the name.
+        let uses = list.lines().filter_map(|line| line.split_once(':'));
+        let uses = uses.filter(|(crate_, _)| crate_.split_whitespace().next() == Some(names[seen]));
         for name in uses.flat_map(|(_, uses)| uses.split_whitespace()).collect::<Vec<_>>() {
             if !names.contains(&name) {
                 names.push(name);

@@ -24,7 +24,7 @@ impl Place {
         }
         let place = Place { folder: folder.canonicalize().unwrap() };
         place.put("repo/library", b"#!/bin/sh");
-        place.put("repo/crates.txt", b"xdr: bytes\ndoor: xdr\nanswers: door\n");
+        place.put("repo/crates.txt", b"xdr: bytes\ndoor: xdr\ndoor_c staticlib: door\nanswers: door\n");
         place.put("repo/crates/door/src/lib.rt", b"");
         place.put("repo/crates/xdr/src/deep/items.rt", b"");
         place.put("repo/build/libyugerzat.a", ARCHIVE);
