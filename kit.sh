@@ -287,9 +287,10 @@ show_log() {
 
 # Keeps a proved program for ./run, with the checksum of what it was made from. In place at once, so that nobody finds half a program.
 keep_program() { # CRATE SUM
-    mkdir -p "$root/build/programs"
-    rm -f "$root/build/programs/$1.sum"
-    cp "$root/crates/$1/out/$1" "$root/build/programs/.$1.$$"
-    mv -f "$root/build/programs/.$1.$$" "$root/build/programs/$1"
-    echo "$2" >"$root/build/programs/$1.sum"
+    kept=$root/build/programs/$1
+    mkdir -p "$root/build/programs" &&
+        rm -f "$kept.sum" &&
+        cp "$root/crates/$1/out/$1" "$kept.new" &&
+        mv -f "$kept.new" "$kept" &&
+        echo "$2" >"$kept.sum" || fail "the program $1 cannot be kept in $root/build/programs"
 }
