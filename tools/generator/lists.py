@@ -65,6 +65,7 @@ def outputs(root):
         made.append((f"crates/door/src/{file}.rt", copier_file(comment, own, order)))
         made += [(f"crates/door/proofs/{file}/copy_{fact.kind.name}/Proof.antt", copier_proof(file, fact)) for fact in own]
     made += [(f"crates/door/src/{export.name}.rt", export_file(export, kinds, copiers)) for export in EXPORTS]
+    made += [(f"crates/door_c/src/{export.name}.rt", c_file(export, kinds)) for export in EXPORTS]
     made += [
         (f"crates/door/proofs/{export.name}/{name}/Proof.antt", export_number_proof(export, name, own))
         for export in EXPORTS
@@ -269,16 +270,21 @@ def modules():
     return lines(*(f"mod {name};" for name in in_order([file for file, _, _ in COPIERS] + ["kinds"])))
 
 
-# ---------------------------------------------------------------- the exported functions of each kind
+# ---------------------------------------------------------------- the functions of each kind for other programs
 
 
 class Export:
-    """A function that the door exports for each kind, and one that takes a kind's number and calls that of the kind."""
+    """A function that the door has for each kind, and one that takes a kind's number and calls that of the kind. The crate door_c
+    exports them for C."""
 
     def __init__(self, name, comment, does, called, tell, out):
         self.name, self.comment, self.does, self.called, self.tell, self.out = name, comment, does, called, tell, out
         self.given = ("src", "at", *(["out"] if out else []), "info")
         self.parameters = ("src: &[u8]", "at: usize", *(["out: &mut [u8]"] if out else []), "info: &mut [u64]")
+
+    @property
+    def of_numbers(self):
+        return f"yugerzat_{self.name}"
 
     def function(self, kind):
         return f"yugerzat_{self.name}_{kind.name}"
@@ -336,15 +342,11 @@ def export_file(export, kinds, copiers):
     )
 
 
-def export_head(name, parameters):
-    return ["#[unsafe(no_mangle)]", *signature(f'pub extern "C" fn {name}', parameters, " -> u32")]
-
-
 def by_number(export, kinds):
     """The functions that find a kind by its number: (name, kinds, who is asked for other numbers). A proof over all kinds is too large."""
     third = len(kinds) // 3
     return (
-        (f"yugerzat_{export.name}", kinds[:third], f"{export.name}_more"),
+        (export.of_numbers, kinds[:third], f"{export.name}_more"),
         (f"{export.name}_more", kinds[third : 2 * third], f"{export.name}_rest"),
         (f"{export.name}_rest", kinds[2 * third :], f"{export.name}_any"),
     )
@@ -355,11 +357,11 @@ def export_by_number(export, kinds):
     parameters = ("kind: u32", *export.parameters)
     made = []
     for name, own, others in by_number(export, kinds):
-        exported = name.startswith("yugerzat_")
+        exported = name == export.of_numbers
         made += [
             "",
             *(f"// {line}" for line in export.does if exported),
-            *(export_head(name, parameters) if exported else signature(f"fn {name}", parameters, " -> u32")),
+            *signature(f"{'pub ' if exported else ''}fn {name}", parameters, " -> u32"),
             f"    ensures {{ {export.promise('kind')} }}",
             "{",
             "    match kind {",
@@ -369,6 +371,30 @@ def export_by_number(export, kinds):
             "}",
         ]
     return made
+
+
+def c_file(export, kinds):
+    """The functions of an export by their C names: each calls the door's own."""
+    parts = [c_function(export, export.of_numbers, "kind", ("kind: u32", *export.parameters), ("kind", *export.given))]
+    parts += [c_function(export, export.function(kind), kind.number, export.parameters, export.given) for kind in kinds]
+    return lines(
+        f"// {HEADER}",
+        f"// {export.comment}",
+        f"ghost use Rattle.door.specs.Meaning.Exports.{{{export.called}}};",
+        *(line for part in parts for line in part),
+    )
+
+
+def c_function(export, name, number, parameters, given):
+    return [
+        "",
+        "#[unsafe(no_mangle)]",
+        *signature(f'pub extern "C" fn {name}', parameters, " -> u32"),
+        f"    ensures {{ {export.promise(number)} }}",
+        "{",
+        f"    door::{export.name}::{name}({', '.join(given)})",
+        "}",
+    ]
 
 
 def export_number_proof(export, name, kinds):
@@ -396,7 +422,7 @@ def export_function(export, kind, copier):
         ]
     return [
         "",
-        *export_head(export.function(kind), export.parameters),
+        *signature(f"pub fn {export.function(kind)}", export.parameters, " -> u32"),
         f"    ensures {{ {export.promise(kind.number)} }}",
         "{",
         *body,
