@@ -8,7 +8,7 @@ pub enum rpc_body {
     REPLY(reply_body),
 }
 
-#[derive(Drop)]
+#[derive(Clone, Copy)]
 pub struct rpc_msg {
     pub xid: u32,
     pub body: rpc_body,
