@@ -120,10 +120,10 @@ pub(crate) fn write_span(src: &[u8], at: usize, next: usize, out: &mut [u8], sta
     ensures { Stands (part src.now at next) start out.old (view_wrote result) out.new }
 {
     let w = room(out.len(), start, next - at);
-    let Wrote::Done(_) = w else {
+    let Wrote::Done(end) = w else {
         return w;
     };
-    let end = start + (next - at);
-    out[start..end].copy_from_slice(&src[at..next]);
+    let part = &src[at..next];
+    out[start..end].copy_from_slice(part);
     w
 }
