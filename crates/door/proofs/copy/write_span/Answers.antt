@@ -37,10 +37,10 @@ returns c =
     let bs : List ℕ = part s c.args.at c.args.next in
     let r = room_in _ _ _ c.in-Done.ensures refl in
     let long : length bs ≡ c.args.next - c.args.at =
-        length-take-le (c.args.next - c.args.at) (drop c.args.at s) (omega (arith, length-drop c.args.at s, c.requires.order, c.requires.inside)) in
+    length-take-le (c.args.next - c.args.at) (drop c.args.at s) (omega (arith, length-drop c.args.at s, c.requires.order, c.requires.inside)) in
     let e : put_mid start (end - start) o c.copy_from_slice.new.self
-        ≡ put_mid start (length o - start) o (take (length bs) bs ++ drop (length bs) (mid_of start (length o - start) o)) =
-        ap (λ x. put_mid start (end - start) o x) c.copy_from_slice.ensures.after
-        ∙ part-copied o bs start (end - start) (omega (arith, r, long)) (omega (arith, r, long)) in
+    ≡ put_mid start (length o - start) o (take (length bs) bs ++ drop (length bs) (mid_of start (length o - start) o)) =
+    ap (λ x. put_mid start (end - start) o x) c.copy_from_slice.ensures.after
+    ∙ part-copied o bs start (end - start) (omega (arith, r, long)) (omega (arith, r, long)) in
     subst (Stands bs start o (done end)) (sym e)
     (stands_on s c.args.at c.args.next start o c.requires (wrote.Done end) c.in-Done.ensures end refl refl)

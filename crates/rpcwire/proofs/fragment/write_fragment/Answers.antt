@@ -27,8 +27,8 @@ returns c =
     let same : length o1 ≡ length o = same_len_mid at (length o - at) o c.put_u32.new.out c.put_u32.auto.out in
     let long : at + 4 + length m ≤ length o1 = omega (arith, c.if-out-at.false, c.if-out-at-2.false) in
     let e : put_mid (at + 4) (at + 4 + length m - (at + 4)) o1 c.copy_from_slice.new.self
-        ≡ put_mid (at + 4) (length o1 - (at + 4)) o1 (take (length m) m ++ drop (length m) (mid_of (at + 4) (length o1 - (at + 4)) o1)) =
-        ap (λ x. put_mid (at + 4) (at + 4 + length m - (at + 4)) o1 x) c.copy_from_slice.ensures.after
-        ∙ part-copied o1 m (at + 4) (at + 4 + length m - (at + 4)) long (omega arith) in
+    ≡ put_mid (at + 4) (length o1 - (at + 4)) o1 (take (length m) m ++ drop (length m) (mid_of (at + 4) (length o1 - (at + 4)) o1)) =
+    ap (λ x. put_mid (at + 4) (at + 4 + length m - (at + 4)) o1 x) c.copy_from_slice.ensures.after
+    ∙ part-copied o1 m (at + 4) (at + 4 + length m - (at + 4)) long (omega arith) in
     subst (WritesFragment m at o (done (at + 4 + length m))) (sym e)
     (fragment-done m at o (known_bytes m c.type_inv.message) c.if-out-at.false c.if-n-gt-MOST.false c.if-out-at-2.false c.put_u32.ensures refl refl)

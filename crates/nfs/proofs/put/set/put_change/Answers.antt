@@ -15,6 +15,16 @@ returns-then-out-n2 c = search (lays, change-size)
 -- the calls, the last one first, and the test of room
 pub returns : goal.returns
 returns c =
-    search
-    (lay-three, change-bytes, change-size, behind, c.set_size3_size-n1.ensures, c.set_atime_size.ensures, c.set_mtime_size.ensures,
-    c.if-out-n2.false, c.put_set_size3.ensures, c.put_set_atime.ensures, c.put_set_mtime.ensures)
+    search (
+      lay-three,
+      change-bytes,
+      change-size,
+      behind,
+      c.set_size3_size-n1.ensures,
+      c.set_atime_size.ensures,
+      c.set_mtime_size.ensures,
+      c.if-out-n2.false,
+      c.put_set_size3.ensures,
+      c.put_set_atime.ensures,
+      c.put_set_mtime.ensures,
+    )

@@ -15,6 +15,16 @@ returns-then-out-n2 c = search (lays, owner-size)
 -- the calls, the last one first, and the test of room
 pub returns : goal.returns
 returns c =
-    search
-    (lay-three, owner-bytes, owner-size, behind, c.set_mode3_size-n1.ensures, c.set_uid3_size.ensures, c.set_gid3_size.ensures,
-    c.if-out-n2.false, c.put_set_mode3.ensures, c.put_set_uid3.ensures, c.put_set_gid3.ensures)
+    search (
+      lay-three,
+      owner-bytes,
+      owner-size,
+      behind,
+      c.set_mode3_size-n1.ensures,
+      c.set_uid3_size.ensures,
+      c.set_gid3_size.ensures,
+      c.if-out-n2.false,
+      c.put_set_mode3.ensures,
+      c.put_set_uid3.ensures,
+      c.put_set_gid3.ensures,
+    )

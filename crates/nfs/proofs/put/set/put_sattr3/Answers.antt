@@ -11,6 +11,13 @@ returns-then-out-n c = search (lays, sattr-size)
 -- the calls, the last one first, and the test of room
 pub returns : goal.returns
 returns c =
-    search
-    (lay-two, sattr-bytes, sattr-size, c.owner_size-n.ensures, c.change_size.ensures, c.if-out-n.false, c.put_owner.ensures,
-    c.put_change.ensures)
+    search (
+      lay-two,
+      sattr-bytes,
+      sattr-size,
+      c.owner_size-n.ensures,
+      c.change_size.ensures,
+      c.if-out-n.false,
+      c.put_owner.ensures,
+      c.put_change.ensures,
+    )
