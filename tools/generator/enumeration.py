@@ -230,10 +230,8 @@ class Statuses(Enumeration):
 
     def proofs(self):
         count = len(self.failing)
-        found = [f"(λ c. search (found_at {self.number} {self.all}))"] * len(self.declared.parts)
         return {
             **super().proofs(),
-            f"{self.code_type}/of": Proof(found + [f"(λ c. found_none {self.number} {self.all} _ _ c.match.rest)"], name="of"),
             f"{self.failures}/number": Proof(rules(count) + [f"(λ c. search (numbered {self.failing_number}))"] * count, name="number"),
             f"{self.code_type}/number": Proof(rules(3) + [f"(λ c. search (numbered {self.number}))"] * 2, name="number"),
         }

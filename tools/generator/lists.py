@@ -79,7 +79,7 @@ def outputs(root):
     made.append(("crates/door/src/lib.rt", "copiers", modules()))
     made.append(("crates/door/src/kinds.rt", kinds_file(kinds, groups, copiers)))
     made += [(f"crates/door/proofs/kinds/{group.function}/Proof.antt", group_proof(group)) for group in groups]
-    made.append(("crates/door/proofs/kinds/copy_kind/Proof.antt", chooser_proof(groups)))
+    made.append(("crates/door/proofs/kinds/copy_kind/Answers.antt", chooser_answers(groups)))
     made += door_meanings(facts, groups, order)
     made += worked_answers(facts, order)
     made += worked_marks(facts, order)
@@ -110,10 +110,6 @@ def file_of(kind):
         if kind.crate in of:
             return file
     raise Trouble(f"tools/generator/lists.py: COPIERS has no file for the kinds of the crate {kind.crate}")
-
-
-def with_dashes(name):
-    return name.replace("_", "-")
 
 
 def camel_case(name):
@@ -510,32 +506,30 @@ def group_proof(group):
     return proof("kinds", group.function, imports, [f"tie.close (tie.spec {tests} {arms} (λ c. search no_kind))"])
 
 
-def chooser_proof(groups):
+def chooser_answers(groups):
     """What copy_kind returns is the kind of the joined list: a law for the first group, for each amid, and for the last."""
     lists = [group.list for group in groups]
-    laws, returns = [], []
+    answers = []
     for at, group in enumerate(groups):
-        name = "returns" if at == 0 else f"returns-{at + 1}"
+        last = at + 1 == len(groups)
+        name = "returns" if last else f"returns-then-kind-lt{groups[at + 1].first}"
         before, behind = joined(lists[:at]), joined(lists[at + 1 :])
-        given = f"c.before.before.{with_dashes(group.function)}.ensures"
+        given = f"c.{group.function}.ensures"
         if at == 0:
             law = f"kind-first {group.list} {behind} {given} (omega arith)"
-        elif at + 1 < len(groups):
-            law = f"kind-amid {before} {group.list} _ {group.first} {behind} {given} (omega arith) (omega arith) refl"
-        else:
+        elif last:
             law = f"kind-last {before} {group.list} _ {group.first} {given} (omega arith) refl"
-        laws += [f"{name} : tie.Need-{name}", f"{name} c = {law}", ""]
-        returns.append(name)
-    imports = [
-        "borrow.Author.Rules.{rules}",
-        "native.Mathlib.Omega.{arith}",
-        "mathlib.Core.Path.{refl}",
-        "mathlib.Core.List.{◌++◌}",
-        f"Rattle.door.specs.Meaning.Kinds.{{{', '.join(lists)}}}",
-        "Rattle.door.specs.Laws.Copy.{kind-first, kind-amid, kind-last}",
-    ]
-    answers = " ".join(f"(search rules) (search rules) {name}" for name in returns)
-    return proof("kinds", "copy_kind", imports, ["tie.close", "(tie.spec", f"{answers})"], laws)
+        else:
+            law = f"kind-amid {before} {group.list} _ {group.first} {behind} {given} (omega arith) (omega arith) refl"
+        answers += ["", f"pub {name} : goal.{name}", f"{name} c = {law}"]
+    return lines(
+        f"-- {HEADER}",
+        "use Rattle.std.proofs.Common.{refl, ◌++◌, arith}",
+        f"use Rattle.door.specs.Meaning.Kinds.{{{', '.join(lists)}}}",
+        "use Rattle.door.specs.Laws.Copy.{kind-first, kind-amid, kind-last}",
+        "use Rattle.door.proofs.kinds.copy_kind.Goals as goal",
+        *answers,
+    )
 
 
 def joined(lists):

@@ -1,8 +1,14 @@
 -- made by tools/generate from kinds.txt
 use Rattle.std.proofs.Common.{refl, ◌++◌, arith}
 use Rattle.door.specs.Meaning.Kinds.{item_kinds, closed_kinds, message_kinds, attribute_kinds, change_kinds, procedure_kinds, current_kinds, mount_kinds}
-use Rattle.door.specs.Laws.Copy.{kind-amid, kind-last}
+use Rattle.door.specs.Laws.Copy.{kind-first, kind-amid, kind-last}
 use Rattle.door.proofs.kinds.copy_kind.Goals as goal
+
+pub returns-then-kind-lt9 : goal.returns-then-kind-lt9
+returns-then-kind-lt9 c = kind-first item_kinds (closed_kinds ++ message_kinds ++ attribute_kinds ++ change_kinds ++ procedure_kinds ++ current_kinds ++ mount_kinds) c.copy_item.ensures (omega arith)
+
+pub returns-then-kind-lt18 : goal.returns-then-kind-lt18
+returns-then-kind-lt18 c = kind-amid item_kinds closed_kinds _ 9 (message_kinds ++ attribute_kinds ++ change_kinds ++ procedure_kinds ++ current_kinds ++ mount_kinds) c.copy_closed.ensures (omega arith) (omega arith) refl
 
 pub returns-then-kind-lt28 : goal.returns-then-kind-lt28
 returns-then-kind-lt28 c = kind-amid (item_kinds ++ closed_kinds) message_kinds _ 18 (attribute_kinds ++ change_kinds ++ procedure_kinds ++ current_kinds ++ mount_kinds) c.copy_message.ensures (omega arith) (omega arith) refl
