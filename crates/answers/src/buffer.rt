@@ -1,27 +1,25 @@
 // The caller's buffers: all bytes EE before anything is written.
-ghost use Rattle.std.specs.Prelude.{◌≡◌, IfOk, vec_len};
+ghost use Rattle.std.specs.Prelude.{◌≡◌, length};
 
-use std::alloc::{AllocError, Global};
-
-// As many bytes as a line can ask for.
-pub(crate) fn largest(alloc: Global) -> Result<Vec<u8>, AllocError>
-    ensures { IfOk result (λ v. 1048576 ≡ vec_len v) }
+// As many bytes as a line can ask for. The `ensures` gives the length alone, which lending the array as a slice needs.
+pub(crate) fn largest() -> [u8; 1048576]
+    ensures { 1048576 ≡ length result }
 {
-    Ok(vec![in alloc; 0xEE; 1048576]?)
+    [0xEE; 1048576]
 }
 
 // A line: a message of 1,048,576 bytes in hex, and all that stands beside it.
-pub(crate) fn line(alloc: Global) -> Result<Vec<u8>, AllocError>
-    ensures { IfOk result (λ v. 2200000 ≡ vec_len v) }
+pub(crate) fn line() -> [u8; 2200000]
+    ensures { 2200000 ≡ length result }
 {
-    Ok(vec![in alloc; 0; 2200000]?)
+    [0; 2200000]
 }
 
 // The bytes that half a line spells.
-pub(crate) fn message(alloc: Global) -> Result<Vec<u8>, AllocError>
-    ensures { IfOk result (λ v. 1100000 ≡ vec_len v) }
+pub(crate) fn message() -> [u8; 1100000]
+    ensures { 1100000 ≡ length result }
 {
-    Ok(vec![in alloc; 0; 1100000]?)
+    [0; 1100000]
 }
 
 pub(crate) fn fill(buf: &mut [u8]) {

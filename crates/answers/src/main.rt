@@ -15,7 +15,6 @@ mod usage;
 mod why;
 mod words;
 
-use std::alloc::AllocError;
 use std::env::{Env, FillError};
 use stdio::{Got, Input, Out, Output, Stream, flush, say};
 use words::same;
@@ -342,18 +341,18 @@ fn option(rt: &HostRuntime, to: &mut Output, out: &mut [u8]) {
     );
 }
 
-fn main(rt: HostRuntime) -> Result<(), AllocError> {
+fn main(rt: HostRuntime) {
     let mut to = Stream::new(rt.stdout(), rt.stderr());
     let mut out = [0u8; 65536];
     if has_word(&rt, 1) {
         option(&rt, &mut to, &mut out);
-        return Ok(());
+        return;
     }
     let mut from = Stream::new(rt.stdin(), rt.stderr());
     let mut input = [0u8; 65536];
-    let mut line = buffer::line(rt.alloc())?;
-    let mut message = buffer::message(rt.alloc())?;
-    let mut room = buffer::largest(rt.alloc())?;
+    let mut line = buffer::line();
+    let mut message = buffer::message();
+    let mut room = buffer::largest();
     answer_all(
         &mut from,
         &mut input,
@@ -363,5 +362,4 @@ fn main(rt: HostRuntime) -> Result<(), AllocError> {
         &mut to,
         &mut out,
     );
-    Ok(())
 }

@@ -11,7 +11,6 @@ mod print;
 mod records;
 
 use cases::Case;
-use std::alloc::AllocError;
 use stdio::{Out, Output, Stream};
 
 fn ask(
@@ -70,11 +69,10 @@ fn ask_all(message: &mut [u8], room: &mut [u8], to: &mut Output, out: &mut [u8])
     stdio::flush(to, out, at);
 }
 
-fn main(rt: HostRuntime) -> Result<(), AllocError> {
-    let mut message = make::largest(rt.alloc())?;
-    let mut room = make::largest(rt.alloc())?;
+fn main(rt: HostRuntime) {
+    let mut message = make::largest();
+    let mut room = make::largest();
     let mut to = Stream::new(rt.stdout(), rt.stderr());
     let mut out = [0u8; 4096];
     ask_all(&mut message, &mut room, &mut to, &mut out);
-    Ok(())
 }

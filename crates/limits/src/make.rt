@@ -1,13 +1,12 @@
 // The bytes that are asked about, and the buffers.
-ghost use Rattle.std.specs.Prelude.{◌≡◌, ◌<◌, IfOk, vec_len};
+ghost use Rattle.std.specs.Prelude.{◌≡◌, ◌<◌, length};
 
-use std::alloc::{AllocError, Global};
-
-// The longest stream, and room for the longest message at place 8.
-pub(crate) fn largest(alloc: Global) -> Result<Vec<u8>, AllocError>
-    ensures { IfOk result (λ v. 1048584 ≡ vec_len v) }
+// The longest stream, and room for the longest message at place 8. The `ensures` gives the length alone, which lending the array as a slice
+// needs.
+pub(crate) fn largest() -> [u8; 1048584]
+    ensures { 1048584 ≡ length result }
 {
-    Ok(vec![in alloc; 0xEE; 1048584]?)
+    [0xEE; 1048584]
 }
 
 // A buffer before anything is written into it.
