@@ -1,20 +1,21 @@
 -- What the proofs of the contracts cite.
 -- Assumes nothing.
-use Rattle.std.specs.Prelude.{◌≡◌, List, ◌++◌, Bool, not, ℕ, ◌+◌, ◌≤◌, ◌<◌, leb, length, take, drop}
-use Rattle.std.proofs.Common.{sym, ap, ◌∙◌, subst, append_assoc, arith, length-append, length-take-le, drop-drop}
+use Rattle.std.specs.Prelude.{◌≡◌, List, [], ◌++◌, Bool, not, ℕ, ◌+◌, ◌-◌, ◌≤◌, ◌<◌, leb, length, take, drop}
+use Rattle.std.proofs.Common.{sym, ap, ◌∙◌, subst, append_assoc, append-nil, arith, length-append, length-drop, drop_of_length-le, take_all, length-take-le, drop_at, drop-drop}
 use Rattle.std.proofs.Math.Bool.{true, false}
 use borrow.Author.Tests.{le-leb, lt-leb}
-use borrow.Rule.Slice.PartMut.{put_mid}
-use Rattle.std.proofs.Math.Seq.{take-add, take-append_seam}
+use borrow.Rule.Slice.PartMut.{mid_of, put_mid}
+use Rattle.std.proofs.Math.Seq.{take-length, take-add, take-append_seam}
 use Rattle.std.proofs.lemmas.List.Edits.{sets, sets-eq}
 use Rattle.std.specs.Io.KnownBytes.{Appends}
 use Rattle.std.specs.Prelude.{None, Some}
 use Rattle.std.specs.declared.option.Option.{Option}
+use Rattle.io.specs.Digits.{last_digits, IsDigitCount}
 use Rattle.stdio.specs.declared.input.Got.{Got}
 use Rattle.stdio.specs.declared.input.Got.TheVariants.{Bytes}
 use Rattle.stdio.specs.declared.output.Out.{Out}
 use Rattle.stdio.specs.Input.{Reads}
-use Rattle.stdio.specs.Output.{waiting, gone, flushed, After, said, Said, Kept}
+use Rattle.stdio.specs.Output.{waiting, gone, flushed, After, said, Said, Numbered, Kept}
 
 pub never : {A : Type 0} → ◌≡◌ {A = Bool} true false → A
 never e = absurd (let z : ◌≡◌ {A = ℕ} 0 1 = cc in omega arith)
@@ -28,9 +29,35 @@ appends_more (Some xs) (Some ys) (Some zs) n m bytes rest e p q =
     q ∙ ap (λ (l : List ℕ). l ++ take m rest) p ∙ append_assoc xs (take n bytes) (take m rest) ∙ ap (λ (l : List ℕ). xs ++ (take n bytes ++ take m l)) e
     ∙ ap (λ (l : List ℕ). xs ++ l) (sym (take-add n m bytes))
 
+-- the first n bytes of what was read, copied to the front of a buffer
+pub came : (space buf after : List ℕ) (n : ℕ) → 0 < n → n ≤ length space → n ≤ length buf
+    → after ≡ take (length (take (n - 0) space)) (take (n - 0) space) ++ drop (length (take (n - 0) space)) buf → Reads buf (Bytes n) after
+came space buf after n p h g e =
+    let src : List ℕ = take (n - 0) space in
+    let l : length src ≡ n = length-take-le (n - 0) space (omega arith) ∙ omega arith in
+    let s : after ≡ src ++ drop n buf = e ∙ (λ i. take-length src i ++ drop (l i) buf) in
+    let w : n ≤ length after = rw s (simp (length-append, length-drop) (omega arith)) in
+    (p, w, sym (length-take-le n after w), ap (drop n) s ∙ drop_at src (drop n buf) n l)
+
 -- for callers of `read`: the bytes that came are within the buffer
 pub within : (g : Got) (n : ℕ) (buf after : List ℕ) → g ≡ Bytes n → Reads buf g after → n ≤ length after
 within g n buf after e r = (subst (λ (x : Got). Reads buf x after) e r).1
+
+-- a text that was copied to the front of a buffer's tail
+pub laid-tail : (a : ℕ) (xs f ys : List ℕ) → a + length f ≤ length xs → ys ≡ take (length f) f ++ drop (length f) (mid_of a (length xs - a) xs)
+    → put_mid a (length xs - a) xs ys ≡ sets xs a f
+laid-tail a xs f ys h e =
+    let over : length (drop a xs) ≤ length xs - a = omega (arith, length-drop a xs) in
+    let none : drop (length xs - a) (drop a xs) ≡ [] = drop_of_length-le (drop a xs) over in
+    let tail : mid_of a (length xs - a) xs ≡ drop a xs = take_all (length xs - a) (drop a xs) over in
+    ap (λ (z : List ℕ). take a xs ++ (ys ++ z)) none
+    ∙ ap (λ (z : List ℕ). take a xs ++ z) (append-nil ys)
+    ∙ ap (λ (z : List ℕ). take a xs ++ z) e
+    ∙ ap (λ (z : List ℕ). take a xs ++ (z ++ drop (length f) (mid_of a (length xs - a) xs))) (take-length f)
+    ∙ ap (λ (z : List ℕ). take a xs ++ (f ++ drop (length f) z)) tail
+    ∙ ap (λ (z : List ℕ). take a xs ++ (f ++ z)) (drop-drop (length f) a xs)
+    ∙ sym (append_assoc (take a xs) f (drop (a + length f) xs))
+    ∙ sym (sets-eq f xs a h)
 
 -- a text that was copied into a part of a buffer
 pub laid : (a n : ℕ) (xs f ys : List ℕ) → a + length f ≤ length xs → n ≡ length f → ys ≡ f → put_mid a n xs ys ≡ sets xs a f
@@ -96,6 +123,11 @@ module _ (buf : List ℕ) (at : Out) (text : List ℕ) where
     unfolding said
     said-long true h = simp (e, f, lt-leb (length text) (length buf) h)
     said-long false h = simp (e, f)
+
+pub numbered : (buf : List ℕ) (at : Out) (out : List ℕ) (k n : ℕ) (r : Out) (after : List ℕ) → take k out ≡ last_digits 10 k n → IsDigitCount 10 1 n k → Said buf at (take (k - 0) out) r after → Numbered buf at n r after
+numbered buf at out k n r after e f s =
+    let z : k - 0 ≡ k = omega arith in
+    record { places = k; fewest = f; said = subst (λ (t : List ℕ). Said buf at t r after) (ap (λ (m : ℕ). take m out) z ∙ e) s }
 
 -- Two permitted answers of `say` are one, if a write failed in both or in neither.
 pub say-one : (buf : List ℕ) (at : Out) (text : List ℕ) (r s : Out) (a b : List ℕ) → r.lost ≡ s.lost → Said buf at text r a → Said buf at text s b → (r ≡ s) × (a ≡ b)
