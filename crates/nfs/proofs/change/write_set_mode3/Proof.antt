@@ -1,6 +1,7 @@
 -- made by tools/generate from crates/nfs/rfc/change.x
 use borrow.Author.Rules.{rules}
-use Rattle.xdr.specs.Laws.Writers.{plain-off, plain-on}
+use Rattle.xdr.specs.Laws.Writers.{plain-on}
+use Rattle.xdr.proofs.Refused.{plain-off}
 use Rattle.xdr.specs.Laws.Lays.{rooms}
 use Rattle.nfs.proofs.ChangeRanges.{set-mode-good}
 use Rattle.nfs.specs.Laws.Change.{set-mode-small}
