@@ -37,7 +37,7 @@ use Rattle.rpc.specs.Meaning.Reply.{accept_body_of, accepted_reply_of, rejected_
 use Rattle.rpc.specs.Meaning.Message.{rpc_body_of, rpc_msg_of}
 use Rattle.rpc.specs.Meaning.Crate.{crate, accept-body, rpc-body, rpc-msg}
 use Rattle.rpc.specs.Meaning.UnixIn.{unix_in}
-use Rattle.rpc.specs.Laws.UnixKept.{unix-numbered}
+use Rattle.rpc.proofs.UnixKept.{unix-numbered}
 use Rattle.rpc.specs.Meaning.Makers.{accepted_with, success, proc_unavail, prog_unavail, prog_mismatch, vers_mismatch_of}
 use Rattle.rpc.specs.Laws.Makers.{success-bytes, proc-unavail-bytes, prog-unavail-bytes, prog-mismatch-bytes, vers-mismatch-bytes, accepted-with-inside, vers-mismatch-inside}
 use Rattle.rpc.specs.declared.auth.auth_flavor.{auth_flavor}

@@ -33,7 +33,7 @@ use Rattle.xdr.specs.Meaning.Bytes.{Bytes}
 use Rattle.xdr.specs.Meaning.Refusal.{OfReading}
 use Rattle.xdr.specs.Laws.Answers.{on, off}
 use Rattle.xdr.specs.Laws.Public.{kept}
-use Rattle.rpc.specs.Laws.UnixKept.{unix-numbered}
+use Rattle.rpc.proofs.UnixKept.{unix-numbered}
 use Rattle.xdr.specs.declared.refusal.Refusal.{Refusal}
 use Rattle.xdr.specs.declared.refusal.Refusal.TheVariants.{Ended, TooLong, NoRoom, NotCall, PastEnd}
 
