@@ -98,7 +98,7 @@ pad-mark n true = refl
 pad-mark n false = ap (λ (k : ℕ). record { offset = 4 + k; way = dirty_pad } ∷ []) (add-zero n)
 
 -- what stands where an opaque is read: its bytes and its padding, and what is loose in them
-pub record OpaqueThere (l : List ℕ) (w : List Loose) (e : List ℕ) : Type 0 where
+pub record OpaqueStands (l : List ℕ) (w : List Loose) (e : List ℕ) : Type 0 where
   pub pad : List ℕ
   pub range : length l < 256 ^ 4
   pub all : Bytes l
@@ -107,9 +107,9 @@ pub record OpaqueThere (l : List ℕ) (w : List Loose) (e : List ℕ) : Type 0 w
   pub bytes : e ≡ digits 4 (length l) ++ (l ++ pad)
   pub loose : w ≡ shifted 4 (shifted (length l) (here (cond (zeros pad) [] (dirty_pad ∷ []))))
 
-pub opaque-there : (l : List ℕ) (w : List Loose) (e : List ℕ) → opaque.kind.Form l w e → OpaqueThere l w e
+pub opaque-stands : (l : List ℕ) (w : List Loose) (e : List ℕ) → opaque.kind.Form l w e → OpaqueStands l w e
 unfolding opaque word
-opaque-there l w e f =
+opaque-stands l w e f =
     let n : ℕ = f.of.0 in
     let c : List ℕ = f.of.1.0 in
     let g = f.form in
@@ -145,7 +145,7 @@ opaque-form l w e = (there, back)
   where
     there : opaque.kind.Form l w e → OpaqueForm l w e
     there f =
-        let o = opaque-there l w e f in
+        let o = opaque-stands l w e f in
         record {
           pad = o.pad;
           range = o.range;

@@ -24,7 +24,7 @@ use Rattle.xdr.specs.Meaning.Formats.{eight_held, eight_bytes, piece_held, bytes
 use Rattle.xdr.specs.Meaning.Public.{Took, message, used_by}
 use Rattle.xdr.specs.Meaning.Marks.{all_clean, no_pad, pads_clean, OnlyPads, Marked, MarksAre, marks_of, MarksTell}
 use Rattle.xdr.specs.Laws.Lists.{stands-first, stands-second}
-use Rattle.xdr.specs.Laws.Forms.{pad-mark, opaque-there, words-form}
+use Rattle.xdr.specs.Laws.Forms.{pad-mark, opaque-stands, words-form}
 use Rattle.xdr.specs.Laws.Held.{means-taken}
 use Rattle.xdr.specs.Laws.Unpadded.{pads-append, pads-shifted, Unpadded, void-unpadded, hyper-unpadded, flag-unpadded, view-unpadded}
 use Rattle.xdr.specs.Laws.Public.{opened-took, kept}
@@ -162,7 +162,7 @@ bytes-marked =
     record {
       tells = λ l w e t s p h f g.
           let d = stood piece_held l w e t s p f g in
-          let o = opaque-there l w e f in
+          let o = opaque-stands l w e f in
           let m = o.loose ∙ pad-mark (length l) (zeros o.pad) in
           let c : d.0.clean ≡ clean w = subst MarkedAs d.1 (piece-as s p) in
           let i : clean w ≡ pads_clean w = rw m (one-pad (zeros o.pad) (4 + length l)) in
