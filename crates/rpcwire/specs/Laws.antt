@@ -3,7 +3,6 @@ pub mod Fits
 pub mod Steps
 pub mod Promise
 pub mod Turns
-pub mod Session
 pub mod Fragment
 pub mod Choice
 pub mod One

@@ -7,7 +7,7 @@ use Rattle.xdr.specs.Meaning.Bytes.{Bytes}
 use Rattle.xdr.specs.declared.refusal.Refusal.TheVariants.{Overrun}
 use Rattle.rpcwire.specs.Meaning.Stream.{fresh, in_fragment, halted, feed_of, begin, advance, after, step_at, header_byte, headed, settled, fits_of}
 use Rattle.rpcwire.specs.Meaning.Session.{Heard, Over, Equal, Function, Keeps, in_runs, hears, singly}
-use Rattle.rpcwire.specs.Laws.Session.{whatever-feeds}
+use Rattle.rpcwire.proofs.Session.{whatever-feeds}
 use Rattle.worked.specs.EveryKind.{are_bytes}
 
 -- what a function gives of a stream in runs of these lengths, from a fresh state, with a buffer of three bytes

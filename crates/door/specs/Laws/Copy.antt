@@ -15,7 +15,8 @@ use Rattle.xdr.specs.Meaning.Within.{WritesWithin}
 use Rattle.xdr.specs.Meaning.Marks.{MarksAre}
 use Rattle.xdr.specs.Laws.Public.{kept}
 use Rattle.xdr.specs.Laws.Unpadded.{no-marks}
-use Rattle.xdr.specs.Laws.Within.{Bounded, read-writes}
+use Rattle.xdr.specs.Laws.Within.{Bounded}
+use Rattle.xdr.proofs.Within.{read-writes}
 use Rattle.door.specs.Meaning.Copy.{Is, Copy, unknown, unread, said_of, Copies}
 use Rattle.door.specs.Meaning.Kinds.{CopiesOf, CopiesIn}
 use Rattle.xdr.specs.declared.refusal.Refusal.{Refusal}

@@ -37,7 +37,7 @@ use Rattle.rpc.specs.Meaning.Reply.{accept_body_of, accepted_reply_of, rejected_
 use Rattle.rpc.specs.Meaning.Message.{rpc_body_of, rpc_msg_of}
 use Rattle.rpc.specs.Meaning.Crate.{crate, accept-body, rpc-body, rpc-msg}
 use Rattle.rpc.specs.Meaning.UnixIn.{unix_in}
-use Rattle.rpc.specs.Laws.UnixKept.{unix-numbered}
+use Rattle.rpc.proofs.UnixKept.{unix-numbered}
 use Rattle.rpc.specs.Meaning.Makers.{accepted_with, success, proc_unavail, prog_unavail, prog_mismatch, vers_mismatch_of}
 use Rattle.rpc.specs.Laws.Makers.{success-bytes, proc-unavail-bytes, prog-unavail-bytes, prog-mismatch-bytes, vers-mismatch-bytes, accepted-with-inside, vers-mismatch-inside}
 use Rattle.rpc.specs.declared.auth.auth_flavor.{auth_flavor}
@@ -504,7 +504,11 @@ module _ (s : List ℕ) (h : Bytes s) (x : ℕ) (k : word.kind.Good x) (a : Opti
 
   version-fair : (w v : ℕ) → word.kind.Good w → (d : Due) → Fairly d → Fairly (in_version x w v d)
   unfolding in_version
-  version-fair w v g d f = either Fairly (eqb v w) _ _ f (inr (mismatch-fair x k w g))
+  version-fair w v g d f = by _ (in_version x w v d) refl
+    where
+      by : (t : Bool) (z : Due) → z ≡ cond t d (reply (prog_mismatch x w)) → Fairly z
+      by true z e = subst Fairly (sym e) f
+      by false z e = subst Fairly (sym e) (inr (mismatch-fair x k w g))
 
   pub handed-fair : (p v f : ℕ) → Fairly (handed_on s x a n p v f)
   unfolding word number handed_on

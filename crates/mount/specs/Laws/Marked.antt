@@ -4,7 +4,8 @@ use Rattle.std.specs.Prelude.{◌≡◌, refl, Bool, List, [], ◌∷◌}
 use Rattle.xdr.specs.Meaning.Format.{◌⨟◌}
 use Rattle.xdr.specs.Meaning.Formats.{bytes, piece_held}
 use Rattle.xdr.specs.Meaning.Marks.{Marked, MarksAre}
-use Rattle.xdr.specs.Laws.Marked.{bytes-marked, pair-marked, named-marked, maybe-marked, bounded-marked, list-marked}
+use Rattle.xdr.specs.Laws.Marked.{bytes-marked, pair-marked, named-marked, bounded-marked}
+use Rattle.xdr.proofs.Flagged.{maybe-marked, list-marked}
 use Rattle.xdr.specs.declared.piece.Piece.{Piece}
 use Rattle.mount.specs.Meaning.Path.{long_path, dirpath}
 use Rattle.mount.specs.Meaning.Group.{groups, next_group_cases, next-group}

@@ -11,7 +11,8 @@ use Rattle.xdr.specs.Laws.Plans.{Step, step, Loses, lost-at}
 use Rattle.xdr.specs.Laws.Records.{ByPlan}
 use Rattle.xdr.specs.Laws.Lengths.{Within, word-within, hyper-within}
 use Rattle.xdr.specs.Laws.Optional.{maybe-plan, maybe-within, Optional, Between, maybe-between}
-use Rattle.xdr.specs.Laws.Unpadded.{Unpadded, view-unpadded, option-unpadded, word-unpadded, hyper-unpadded}
+use Rattle.xdr.specs.Laws.Unpadded.{Unpadded, view-unpadded, word-unpadded, hyper-unpadded}
+use Rattle.xdr.proofs.Flagged.{option-unpadded}
 use Rattle.nfs.specs.Meaning.Change.{set_mode, set_mode_cases, view_set_mode3, lost_set_mode3, set_uid, set_uid_cases, view_set_uid3, lost_set_uid3, set_gid, set_gid_cases, view_set_gid3, lost_set_gid3, set_size, set_size_cases, view_set_size3, lost_set_size3}
 use Rattle.nfs.specs.declared.change.set_gid3.{set_gid3}
 use Rattle.nfs.specs.declared.change.set_mode3.{set_mode3}

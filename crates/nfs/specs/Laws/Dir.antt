@@ -16,7 +16,8 @@ use Rattle.xdr.specs.Laws.Write.{Ready}
 use Rattle.xdr.specs.Laws.Writers.{bytes-writer, Writer}
 use Rattle.xdr.specs.Laws.Fields.{named-sized, pair-writer, Lays, lays-named, codec-writer}
 use Rattle.xdr.specs.Laws.Optional.{held-within, OptionalHeld, option_size, held-sized}
-use Rattle.xdr.specs.Laws.Marked.{named-marked, bytes-marked, maybe-marked, pair-marked, plain-marked}
+use Rattle.xdr.specs.Laws.Marked.{named-marked, bytes-marked, pair-marked, plain-marked}
+use Rattle.xdr.proofs.Flagged.{maybe-marked}
 use Rattle.nfs.specs.Laws.Bytes.{sattr-between}
 use Rattle.nfs.specs.Laws.Lengths.{sattr-within}
 use Rattle.nfs.specs.Laws.Unpadded.{sattr-unpadded}

@@ -1,7 +1,8 @@
 -- No kind of this crate has padding.
 -- Assumes nothing.
 use Rattle.std.specs.Prelude.{refl}
-use Rattle.xdr.specs.Laws.Unpadded.{Unpadded, word-unpadded, hyper-unpadded, pair-unpadded, view-unpadded, closed-unpadded, option-unpadded}
+use Rattle.xdr.specs.Laws.Unpadded.{Unpadded, word-unpadded, hyper-unpadded, pair-unpadded, view-unpadded, closed-unpadded}
+use Rattle.xdr.proofs.Flagged.{option-unpadded}
 use Rattle.nfsattr.specs.Meaning.Stat.{nfsstat, stat_number, statuses, each_stat}
 use Rattle.nfsattr.specs.Meaning.Attr.{ftype, ftype_number, ftypes, each_ftype, specdata, nfstime, fattr, wcc-attr, pre-op-attr, post-op-attr, wcc-data, fsinfo}
 

@@ -18,8 +18,9 @@ use Rattle.xdr.specs.Laws.Writers.{Writer}
 use Rattle.xdr.specs.Laws.Fields.{pair-writer, codec-writer, named-sized, Lays, lays-named}
 use Rattle.xdr.specs.Laws.Optional.{maybe-plan, maybe-within, Optional, Between, maybe-between}
 use Rattle.xdr.specs.Laws.Status.{OnStatus, status-within, result_size, status-sized}
-use Rattle.xdr.specs.Laws.Unpadded.{Unpadded, view-unpadded, option-unpadded}
+use Rattle.xdr.specs.Laws.Unpadded.{Unpadded, view-unpadded}
 use Rattle.xdr.specs.Laws.Marked.{named-marked, pair-marked, plain-marked, status-marked}
+use Rattle.xdr.proofs.Flagged.{option-unpadded}
 use Rattle.nfs.specs.Laws.Bytes.{sattr-between}
 use Rattle.nfs.specs.Laws.Dir.{nfs-fh-within, nfs-fh-marked, nfs-fh-writer, nfs-fh-bound}
 use Rattle.nfs.specs.Laws.Lengths.{sattr-within}

@@ -93,7 +93,7 @@ module _ (s : List ℕ) (p : ℕ) where
   auth-stat-narrowed = auth-by (word.kind.read s p) refl
 
 -- ---- what stands behind something that both read alike
-abbrev post : {S T : Type 0} → (S → T) → Bool → Answer S → Answer T
+abbrev pub post : {S T : Type 0} → (S → T) → Bool → Answer S → Answer T
 post k b a = follow (λ x m d. took (k x) m d) b a
 
 not-true : false ≡ true → ⊥
@@ -109,13 +109,13 @@ module _ {A B S T : Type 0} (g : A → Narrow B) (f : S → Narrow T) (to : A �
   post-by b m d (other x) = ap (λ c. took (there x) m c) (and-false b)
   post-by b m d refused_there = refl
 
-  post-narrowed : (b : Bool) (a : Answer A) → post there b (narrowed g a) ≡ narrowed f (post to b a)
+  pub post-narrowed : (b : Bool) (a : Answer A) → post there b (narrowed g a) ≡ narrowed f (post to b a)
   post-narrowed b (took x m d) = post-by b m d (g x) ∙ ap (narrow_by m (b && d)) (sym (h x))
   post-narrowed b (refused r) = refl
 
 -- ---- the unions, by their tags
 module _ {T : Type 0} (branches : ℕ → Branch) (hold : (tag : ℕ) → (branches tag).Has → Seen T) (p : ℕ) where
-  abbrev after : (tag : ℕ) → Bool → Answer (branches tag).Has → Answer T
+  abbrev pub after : (tag : ℕ) → Bool → Answer (branches tag).Has → Answer T
   after tag b a =
       look_at (λ y. hold y.0 y.1) p
       (then_second (λ t. (branches t).format.codec) (plain word) (λ s t. (branches t).format.held) tag b a)
@@ -131,11 +131,11 @@ module _ {M N S T : Type 0} {F : Format M T} {G : Format N S} (f : S → Narrow 
   by_word (took tag n b) e = rw e (arm s p n tag b)
   by_word (refused r) e = rw e
 
-  union-narrowed : F.held.read s p ≡ narrowed f (G.held.read s p)
+  pub union-narrowed : F.held.read s p ≡ narrowed f (G.held.read s p)
   union-narrowed = X.is s p ∙ by_word (word.kind.read s p) refl ∙ ap (narrowed f) (sym (Y.is s p))
 
 -- a tag that one case has, with what stands behind it
-after_is : {T : Type 0} (branches : ℕ → Branch) (hold : (tag : ℕ) → (branches tag).Has → Seen T) (p tag : ℕ) (k : (branches tag).Has → T)
+pub after_is : {T : Type 0} (branches : ℕ → Branch) (hold : (tag : ℕ) → (branches tag).Has → Seen T) (p tag : ℕ) (k : (branches tag).Has → T)
     → ((x : (branches tag).Has) → hold tag x ≡ means (k x) []) → (b : Bool) (a : Answer (branches tag).Has) → after branches hold p tag b a ≡ post k b a
 after_is branches hold p tag k h b (took x m d) = ap (seen_as p m (b && d)) (h x)
 after_is branches hold p tag k h b (refused r) = refl
@@ -146,7 +146,7 @@ info-arm : (p : ℕ) (b : Bool) (a : Answer mismatch_info)
 info-arm p b (took v m d) = refl
 info-arm p b (refused r) = refl
 
-accept-arm : (s : List ℕ) (p n tag : ℕ) (b : Bool)
+pub accept-arm : (s : List ℕ) (p n tag : ℕ) (b : Bool)
     → after (arm_branches accept_arms) Crate.see_accept p tag b ((arm_branches accept_arms tag).format.held.read s n)
     ≡ narrowed narrow_accept (after (arm_branches accept_arms) Current.see_accept p tag b ((arm_branches accept_arms tag).format.held.read s n))
 accept-arm s p n zero b = refl
@@ -156,27 +156,6 @@ accept-arm s p n (suc (suc (suc zero))) b = refl
 accept-arm s p n (suc (suc (suc (suc zero)))) b = refl
 accept-arm s p n (suc (suc (suc (suc (suc zero))))) b = refl
 accept-arm s p n (suc (suc (suc (suc (suc (suc k)))))) b = refl
-
-pub accept-body-narrowed : (s : List ℕ) (p : ℕ) → (Crate.accept-body).kind.read s p ≡ narrowed narrow_accept ((Current.current_accept_body).kind.read s p)
-accept-body-narrowed =
-    union-narrowed narrow_accept (arm_branches accept_arms) Crate.see_accept (arm_branches accept_arms) Current.see_accept 5 6 (accept-union Crate.crate)
-    (accept-union Current.current) accept-arm
-
--- accepted_reply: the verifier is the same
-accepted-by : (s : List ℕ) (a : Answer opaque_auth)
-    → follow (λ v n d. run (ask (Crate.accept-body).kind.read (λ y. give ((Crate.crate).accepted.to (v, y)))) s n d) true a
-    ≡ narrowed narrow_accepted (follow (λ v n d. run (ask (Current.current_accept_body).kind.read (λ y. give ((Current.current).accepted.to (v, y)))) s n d) true a)
-accepted-by s (took v n b) =
-    ap (post (λ y. (Crate.crate).accepted.to (v, y)) b) (accept-body-narrowed s n)
-    ∙ post-narrowed narrow_accept narrow_accepted (λ y. (Current.current).accepted.to (v, y)) (λ y. (Crate.crate).accepted.to (v, y)) (λ x. refl) b
-    ((Current.current_accept_body).kind.read s n)
-accepted-by s (refused r) = refl
-
-pub accepted-reply-narrowed : (s : List ℕ) (p : ℕ)
-    → (Crate.accepted-reply).held.read s p ≡ narrowed narrow_accepted ((Current.current_accepted_reply).held.read s p)
-accepted-reply-narrowed s p =
-    sym (accepted-plan Crate.crate s p _ refl) ∙ accepted-by s (opaque-auth.held.read s p)
-    ∙ ap (narrowed narrow_accepted) (accepted-plan Current.current s p _ refl)
 
 -- rejected_reply: only AUTH_ERROR has an authentication number behind it
 reject-info : (p : ℕ) (b : Bool) (a : Answer mismatch_info)
@@ -207,74 +186,12 @@ rejected-reply-narrowed =
     union-narrowed narrow_rejected (arm_branches (reject_arms Crate.crate)) (see_reject Crate.crate) (arm_branches (reject_arms Current.current))
     (see_reject Current.current) 2 2 (reject-union Crate.crate) (reject-union Current.current) reject-arm
 
--- reply_body
-reply-arm : (s : List ℕ) (p n tag : ℕ) (b : Bool)
-    → after (reply_branches Crate.crate) (hold_reply Crate.crate) p tag b ((reply_branches Crate.crate tag).format.held.read s n)
-    ≡ narrowed narrow_reply (after (reply_branches Current.current) (hold_reply Current.current) p tag b ((reply_branches Current.current tag).format.held.read s n))
-reply-arm s p n zero b =
-    after_is (reply_branches Crate.crate) (hold_reply Crate.crate) p 0 crate·reply.MSG_ACCEPTED (λ x. refl) b ((Crate.accepted-reply).held.read s n)
-    ∙ ap (post crate·reply.MSG_ACCEPTED b) (accepted-reply-narrowed s n)
-    ∙ post-narrowed narrow_accepted narrow_reply current·reply.MSG_ACCEPTED crate·reply.MSG_ACCEPTED (λ x. refl) b
-    ((Current.current_accepted_reply).held.read s n)
-    ∙ ap (narrowed narrow_reply)
-    (sym
-    (after_is (reply_branches Current.current) (hold_reply Current.current) p 0 current·reply.MSG_ACCEPTED (λ x. refl) b
-    ((Current.current_accepted_reply).held.read s n)))
-reply-arm s p n (suc zero) b =
-    after_is (reply_branches Crate.crate) (hold_reply Crate.crate) p 1 crate·reply.MSG_DENIED (λ x. refl) b ((Crate.rejected-reply).kind.read s n)
-    ∙ ap (post crate·reply.MSG_DENIED b) (rejected-reply-narrowed s n)
-    ∙ post-narrowed narrow_rejected narrow_reply current·reply.MSG_DENIED crate·reply.MSG_DENIED (λ x. refl) b
-    ((Current.current_rejected_reply).kind.read s n)
-    ∙ ap (narrowed narrow_reply)
-    (sym
-    (after_is (reply_branches Current.current) (hold_reply Current.current) p 1 current·reply.MSG_DENIED (λ x. refl) b
-    ((Current.current_rejected_reply).kind.read s n)))
-reply-arm s p n (suc (suc k)) b = refl
-
-pub reply-body-narrowed : (s : List ℕ) (p : ℕ) → (Crate.reply-body).held.read s p ≡ narrowed narrow_reply ((Current.current_reply_body).held.read s p)
-reply-body-narrowed =
-    union-narrowed narrow_reply (reply_branches Crate.crate) (hold_reply Crate.crate) (reply_branches Current.current) (hold_reply Current.current) 2 2
-    (reply-union Crate.crate) (reply-union Current.current) reply-arm
-
 -- rpc_body: a call is the same
-body-call-arm : (p : ℕ) (b : Bool) (a : Answer call_body)
+pub body-call-arm : (p : ℕ) (b : Bool) (a : Answer call_body)
     → after (body_branches Crate.crate) (hold_body Crate.crate) p 0 b a
     ≡ narrowed narrow_body (after (body_branches Current.current) (hold_body Current.current) p 0 b a)
 body-call-arm p b (took v m d) = refl
 body-call-arm p b (refused r) = refl
-
-body-arm : (s : List ℕ) (p n tag : ℕ) (b : Bool)
-    → after (body_branches Crate.crate) (hold_body Crate.crate) p tag b ((body_branches Crate.crate tag).format.held.read s n)
-    ≡ narrowed narrow_body (after (body_branches Current.current) (hold_body Current.current) p tag b ((body_branches Current.current tag).format.held.read s n))
-body-arm s p n zero b = body-call-arm p b (call-body.held.read s n)
-body-arm s p n (suc zero) b =
-    after_is (body_branches Crate.crate) (hold_body Crate.crate) p 1 crate·body.REPLY (λ x. refl) b ((Crate.reply-body).held.read s n)
-    ∙ ap (post crate·body.REPLY b) (reply-body-narrowed s n)
-    ∙ post-narrowed narrow_reply narrow_body current·body.REPLY crate·body.REPLY (λ x. refl) b ((Current.current_reply_body).held.read s n)
-    ∙ ap (narrowed narrow_body)
-    (sym
-    (after_is (body_branches Current.current) (hold_body Current.current) p 1 current·body.REPLY (λ x. refl) b
-    ((Current.current_reply_body).held.read s n)))
-body-arm s p n (suc (suc k)) b = refl
-
-pub rpc-body-narrowed : (s : List ℕ) (p : ℕ) → (Crate.rpc-body).held.read s p ≡ narrowed narrow_body ((Current.current_rpc_body).held.read s p)
-rpc-body-narrowed =
-    union-narrowed narrow_body (body_branches Crate.crate) (hold_body Crate.crate) (body_branches Current.current) (hold_body Current.current) 2 2
-    (body-union Crate.crate) (body-union Current.current) body-arm
-
--- rpc_msg: the xid is the same
-msg-by : (s : List ℕ) (a : Answer ℕ)
-    → follow (λ v n d. run (ask (Crate.rpc-body).held.read (λ y. give ((Crate.crate).msg.to (v, y)))) s n d) true a
-    ≡ narrowed narrow_msg (follow (λ v n d. run (ask (Current.current_rpc_body).held.read (λ y. give ((Current.current).msg.to (v, y)))) s n d) true a)
-msg-by s (took v n b) =
-    ap (post (λ y. (Crate.crate).msg.to (v, y)) b) (rpc-body-narrowed s n)
-    ∙ post-narrowed narrow_body narrow_msg (λ y. (Current.current).msg.to (v, y)) (λ y. (Crate.crate).msg.to (v, y)) (λ x. refl) b
-    ((Current.current_rpc_body).held.read s n)
-msg-by s (refused r) = refl
-
-pub rpc-msg-narrowed : (s : List ℕ) (p : ℕ) → (Crate.rpc-msg).held.read s p ≡ narrowed narrow_msg ((Current.current_rpc_msg).held.read s p)
-rpc-msg-narrowed s p =
-    sym (msg-plan Crate.crate s p _ refl) ∙ msg-by s (word.kind.read s p) ∙ ap (narrowed narrow_msg) (msg-plan Current.current s p _ refl)
 
 -- ---- what follows, of any kind of the two readings
 module _ {S T : Type 0} (f : S → Narrow T) where

@@ -26,13 +26,12 @@ same-ways e = cc
 
 -- every union of a reading
 module _ {Stat Auth Accept Rejected Accepted Reply Body Msg : Type 0} (R : Reading Stat Auth Accept Rejected Accepted Reply Body Msg) where
-  accept_by : (tag : ℕ) (t : Bool) → ltb tag R.count ≡ t → (x : (accept_arms tag).Msg) (m : Accept) (v : List Way) → R.see tag x ≡ means m v
-      → v ≡ cond t [] (stray_tag ∷ [])
-  accept_by tag true e x m v s = same-ways (sym (R.declared tag (ltb-true tag R.count e) x).1 ∙ s)
-  accept_by tag false e x m v s = same-ways (sym (R.stray tag (ltb-false tag R.count e) x).1 ∙ s)
-
   pub accept-declares : Declares R.count accept_arms R.see
-  accept-declares tag x m v s = accept_by tag (ltb tag R.count) refl x m v s
+  accept-declares tag x m v s = by (ltb tag R.count) refl
+    where
+      by : (t : Bool) → ltb tag R.count ≡ t → v ≡ cond t [] (stray_tag ∷ [])
+      by true e = same-ways (sym (R.declared tag (ltb-true tag R.count e) x).1 ∙ s)
+      by false e = same-ways (sym (R.stray tag (ltb-false tag R.count e) x).1 ∙ s)
 
   pub reject-declares : Declares 2 (reject_arms R) (see_reject R)
   reject-declares zero x m v s = same-ways s

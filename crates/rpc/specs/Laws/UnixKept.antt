@@ -25,7 +25,7 @@ use Rattle.rpc.specs.Laws.UnixIn.{unix-whole}
 use Rattle.rpc.specs.declared.auth.auth_unix.{auth_unix}
 
 -- a part of the front of a message is that part of the message
-part-grows : (f t : List ℕ) (p n : ℕ) → p ≤ n → n ≤ length f → part (f ++ t) p n ≡ part f p n
+pub part-grows : (f t : List ℕ) (p n : ℕ) → p ≤ n → n ≤ length f → part (f ++ t) p n ≡ part f p n
 part-grows f t p n h k =
     ap (take (n - p)) (drop-append-le p f t (omega arith))
     ∙ take-append-le (n - p) (drop p f) t (omega (arith, length-drop p f))
@@ -35,79 +35,26 @@ module _ (s : List ℕ) (x : Piece) where
   abbrev pub up_to : List ℕ
   up_to = take (x.at + x.count) s
 
-  inside-read : is_inside s x ≡ true → unix_in s x ≡ auth-unix.held.read up_to x.at
+  pub inside-read : is_inside s x ≡ true → unix_in s x ≡ auth-unix.held.read up_to x.at
   unfolding unix_in
   inside-read i = simp i
 
-  outside-read : is_inside s x ≡ false → unix_in s x ≡ refused (Ended 0 4)
+  pub outside-read : is_inside s x ≡ false → unix_in s x ≡ refused (Ended 0 4)
   unfolding unix_in
   outside-read i = simp i
 
-  up-to-short : length s ≤ most → length up_to ≤ most
+  pub up-to-short : length s ≤ most → length up_to ≤ most
   up-to-short h = omega (arith, length-take (x.at + x.count) s)
 
-  up-to-holds : is_inside s x ≡ true → x.at ≤ length up_to
+  pub up-to-holds : is_inside s x ≡ true → x.at ≤ length up_to
   unfolding is_inside
   up-to-holds i = omega (arith, length-take (x.at + x.count) s, leb-true (x.at + x.count) (length s) i)
 
-  -- where the body lies inside, it is a public reading of auth_unix
-  pub as-answers : {a : Answer auth_unix} → AnswersIn s x a → length s ≤ most → is_inside s x ≡ true → Answers auth-unix up_to x.at a
-  as-answers c h i =
-      record {
-        is =
-            c.is
-            ∙ opened_in s 0 (unix_in s x) h (omega arith)
-            ∙ inside-read i
-            ∙ sym (opened_in up_to x.at (auth-unix.held.read up_to x.at) (up-to-short h) (up-to-holds i));
-        bytes = bytes_take (x.at + x.count) s c.bytes;
-      }
-
-  took-inside : (t : Bool) → is_inside s x ≡ t → {v : auth_unix} {n : ℕ} {b : Bool} → unix_in s x ≡ took v n b → is_inside s x ≡ true
+  pub took-inside : (t : Bool) → is_inside s x ≡ t → {v : auth_unix} {n : ℕ} {b : Bool} → unix_in s x ≡ took v n b → is_inside s x ≡ true
   took-inside true i e = i
   took-inside false i {v} {n} {b} e =
       let g : ◌≡◌ {A = Answer auth_unix} (refused (Ended 0 4)) (took v n b) = sym (outside-read i) ∙ e in
       let z : ◌≡◌ {A = ℕ} 0 1 = cc in absurd (omega arith)
-
-  -- accepted exactly if the message is short enough, the body lies inside, and one begins there before the body's end
-  pub unix-accepted-iff : {a : Answer auth_unix} → AnswersIn s x a
-      → ((v : auth_unix) × (n : ℕ) × (b : Bool) × (a ≡ took v n b))
-      ↔ ((length s ≤ most) × (is_inside s x ≡ true) × Begins auth-unix.codec.kind up_to x.at)
-  unix-accepted-iff c = (
-    (λ t.
-        let o = opened-took s 0 (unix_in s x) (sym t.3 ∙ c.is) in
-        let i = took-inside (is_inside s x) refl o.0 in
-        (o.1, i, (((kept auth-unix).accepted_iff up_to x.at (as-answers c o.1 i)).0 t).2)),
-    (λ g. ((kept auth-unix).accepted_iff up_to x.at (as-answers c g.0 g.1)).1 (up-to-short g.0, up-to-holds g.1, g.2)),
-  )
-
-  -- plain exactly if the bytes used are its rewriting
-  pub unix-plain-iff : {v : auth_unix} {n : ℕ} {b : Bool} → AnswersIn s x (took v n b)
-      → (b ≡ true) ↔ (part s x.at n ≡ auth-unix.codec.kind.write (auth-unix.held.mean s v))
-  unix-plain-iff {v} {n} {b} c =
-      let o = opened-took s 0 (unix_in s x) c.is in
-      let i = took-inside (is_inside s x) refl o.0 in
-      let t : Took auth-unix = record { source = up_to; place = x.at; value = v; next = n; plain = b; answers = as-answers c o.1 i } in
-      let w = (kept auth-unix).within t in
-      let f = (kept auth-unix).plain_iff t in
-      let m : auth-unix.held.mean s v ≡ auth-unix.held.mean up_to v = (unix-whole s (x.at + x.count) x.at (sym (inside-read i) ∙ o.0)).1 in
-      let u : part s x.at n ≡ part up_to x.at n =
-      rw (take-append-drop (x.at + x.count) s) at (part-grows up_to (drop (x.at + x.count) s) x.at n w.0 w.1) in (
-        (λ e. u ∙ f.0 e ∙ ap auth-unix.codec.kind.write (sym m)),
-        (λ e. f.1 (sym u ∙ e ∙ ap auth-unix.codec.kind.write m)),
-      )
-
-  by-inside : (t : Bool) → is_inside s x ≡ t → Bytes s → {r : Refusal} → unix_in s x ≡ refused r → OfReading r
-  by-inside true i h {r} e =
-      let f : auth-unix.codec.kind.read up_to x.at ≡ refused r = refused-means auth-unix.held up_to x.at (sym (inside-read i) ∙ e) in
-      auth-unix.codec.laws.numbered up_to x.at r
-      (((keeps auth-unix.codec).fault_iff up_to x.at r (bytes_take (x.at + x.count) s h)).0 f)
-  by-inside false i h {r} e =
-      let g : ◌≡◌ {A = Answer auth_unix} (refused (Ended 0 4)) (refused r) = sym (outside-read i) ∙ e in
-      let q : Ended 0 4 ≡ r = cc in subst OfReading q tt
-
-  -- refused as a reader refuses
-  pub unix-numbered : Bytes s → {r : Refusal} → unix_in s x ≡ refused r → OfReading r
-  unix-numbered h e = by-inside (is_inside s x) refl h e
 
 -- a body in s, and in s' one that begins at the same place, with the same bytes before its end and t behind them
 pub record Longer (s s' : List ℕ) (x x' : Piece) (t : List ℕ) : Type 0 where
@@ -117,15 +64,3 @@ pub record Longer (s s' : List ℕ) (x x' : Piece) (t : List ℕ) : Type 0 where
   pub inside' : is_inside s' x' ≡ true
   pub short : length s ≤ most
   pub short' : length s' ≤ most
-
--- bytes are wanting in the body: appending them there is appending them to a public reading of auth_unix, so `kept auth-unix` says what changes
-pub unix-later : {s s' : List ℕ} {x x' : Piece} {t : List ℕ} {a a' : Answer auth_unix} → Longer s s' x x' t → AnswersIn s x a → AnswersIn s' x' a'
-    → Later auth-unix (up_to s x) t x.at a a'
-unix-later {s} {s'} {x} {x'} {t} {a} {a'} l c d =
-    record {
-      before = as-answers s x c l.short l.inside;
-      then =
-          subst (λ (z : List ℕ). Answers auth-unix z x.at a') l.more
-          (subst (λ (p : ℕ). Answers auth-unix (up_to s' x') p a') l.at (as-answers s' x' d l.short' l.inside'));
-      fits = subst (λ (z : List ℕ). length z ≤ most) l.more (up-to-short s' x' l.short');
-    }

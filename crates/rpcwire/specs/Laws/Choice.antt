@@ -33,7 +33,7 @@ use Rattle.xdr.specs.Meaning.Bytes.{Bytes}
 use Rattle.xdr.specs.Meaning.Refusal.{OfReading}
 use Rattle.xdr.specs.Laws.Answers.{on, off}
 use Rattle.xdr.specs.Laws.Public.{kept}
-use Rattle.rpc.specs.Laws.UnixKept.{unix-numbered}
+use Rattle.rpc.proofs.UnixKept.{unix-numbered}
 use Rattle.xdr.specs.declared.refusal.Refusal.{Refusal}
 use Rattle.xdr.specs.declared.refusal.Refusal.TheVariants.{Ended, TooLong, NoRoom, NotCall, PastEnd}
 
@@ -169,7 +169,7 @@ module _ {Stat Auth Accept Rejected Accepted Reply Body Msg : Type 0} (R : Readi
   pub message-call : (s : List ℕ) (seen : Bool) (o : List ℕ) (r : Q) (m : Msg) (n : ℕ) (b : Bool) (c : call_body) (w : Chosen) (o' : List ℕ)
       → Answers (rpc_msg_of R) s 0 (view r) → r ≡ Took m n b → (R.msg.from m).1 ≡ R.body.to (inl c)
       → outcome w o' ≡ carried_out (by_flavor s seen R.serves (R.msg.from m).0 c n c.cred.flavor) o → Chooses R s seen o w o'
-  message-call s seen o r m n b c w o' a e f g = record { is = took-call R s seen o (on view a.is e ∙ is m n b) f g; bytes = a.bytes }
+  message-call s seen o r m n b c w o' a e f g = record { is = g ∙ sym (ap (λ d. carried_out d o) (by-body R s seen o (on view a.is e ∙ is m n b) f)); bytes = a.bytes }
 
 -- ---- the promise
 
@@ -217,19 +217,6 @@ brief-refused : {r : Refusal} → (r ≡ TooLong) ⊎ ((r ≡ PastEnd) ⊎ OfRea
 brief-refused (inl e) = not-too-long e
 brief-refused (inr (inl e)) = not-past-end e
 brief-refused (inr (inr o)) = not-of-reading o
-
-module _ {Stat Auth Accept Rejected Accepted Reply Body Msg : Type 0} (R : Reading Stat Auth Accept Rejected Accepted Reply Body Msg) (s : List ℕ) (seen : Bool) (h : Bytes s) where
-  brief-body : (x n : ℕ) (y : call_body ⊎ Reply) → Brief (by_body R s seen x n y)
-  brief-body x n (inl c) = brief-flavor s seen h R.serves x c n c.cred.flavor
-  brief-body x n (inr r) = not_call
-
-  brief-message : (r : Answer Msg) → opened s 0 ((rpc_msg_of R).held.read s 0) ≡ r → Brief (by_message R s seen r)
-  brief-message (took m n b) e = brief-body (R.msg.from m).0 n (R.body.from (R.msg.from m).1)
-  brief-message (refused r) e = brief-refused ((kept (rpc_msg_of R)).numbered s 0 (record { is = sym e; bytes = h }))
-
-  brief-decided : Brief (decided R s seen)
-  unfolding decided
-  brief-decided = brief-message (opened s 0 ((rpc_msg_of R).held.read s 0)) refl
 
 -- a reply, by the room for it
 reply-room : (m : rpc_msg) (o : List ℕ) → 24 ≤ length o → replying m o ≡ outcome (replied 24) (output rpc-msg [] m ++ drop 24 o)
@@ -283,16 +270,28 @@ module _ {Stat Auth Accept Rejected Accepted Reply Body Msg : Type 0} (R : Readi
   due e = h.is ∙ ap (λ d. carried_out d o) e
 
   pub choice-promised : ChoicePromised R s seen o c o'
+  unfolding decided
   choice-promised =
       record {
         one = λ g. said-held (h.is ∙ sym g.is);
-        leaves = subst (LeavesOf o) (sym h.is) (leaves-decision (decided R s seen) o (brief-decided R s seen h.bytes));
+        leaves = subst (LeavesOf o) (sym h.is) (leaves-decision (decided R s seen) o brief-decided);
         five_iff = (
-          λ f. five-due (decided R s seen) o (brief-decided R s seen h.bytes) (sym (said-held h.is).0 ∙ f),
+          λ f. five-due (decided R s seen) o brief-decided (sym (said-held h.is).0 ∙ f),
           λ g. (said-held (due g.1 ∙ reply-short g.0 o g.2)).0,
         );
         replies = λ {m} e f. said-held (due e ∙ reply-room m o f);
       }
+    where
+      brief-body : (x n : ℕ) (y : call_body ⊎ Reply) → Brief (by_body R s seen x n y)
+      brief-body x n (inl c) = brief-flavor s seen h.bytes R.serves x c n c.cred.flavor
+      brief-body x n (inr r) = not_call
+
+      brief-message : (r : Answer Msg) → opened s 0 ((rpc_msg_of R).held.read s 0) ≡ r → Brief (by_message R s seen r)
+      brief-message (took m n b) e = brief-body (R.msg.from m).0 n (R.body.from (R.msg.from m).1)
+      brief-message (refused r) e = brief-refused ((kept (rpc_msg_of R)).numbered s 0 (record { is = sym e; bytes = h.bytes }))
+
+      brief-decided : Brief (decided R s seen)
+      brief-decided = brief-message (opened s 0 ((rpc_msg_of R).held.read s 0)) refl
 
 -- a message that ends too soon: the choice is refused as its reading is; and with fewer bytes than are wanting it is refused at the same place,
 -- and wants that many less. (With as many, the reading gets further: `enough` of its kind. In a credential: `unix-later` of `rpc`.)

@@ -83,23 +83,9 @@ word-again : (w : ℕ) → w < 4294967296
     → (((0 * 256 + w / 16777216) * 256 + w % 16777216 / 65536) * 256 + w % 16777216 % 65536 / 256) * 256 + w % 16777216 % 65536 % 256 / 1 ≡ w
 word-again w h = omega (arith, div-add-mod' w 16777216, div-add-mod' (w % 16777216) 65536, div-add-mod' (w % 16777216 % 65536) 256)
 
-four-read : (c n w : ℕ) (d bs : List ℕ) → w ≡ n + 2147483648 → n ≤ c → n ≤ most
-    → foldl advance (stand (more (fresh c) 0) d) (w / 16777216 ∷ w % 16777216 / 65536 ∷ w % 16777216 % 65536 / 256 ∷ w % 16777216 % 65536 % 256 / 1 ∷ bs)
-    ≡ foldl advance (stand (settled c 0 n true 4) d) bs
-unfolding advance after step_at header_byte headed
-four-read c n w d bs h g k =
-    let e : w % 2147483648 ≡ n = omega arith in
-    simp (word-again w (omega arith), e, le-leb n (c - 0) (omega arith), le-leb 2147483648 w (omega arith))
-
-header_read : (c n : ℕ) (d bs : List ℕ) → n ≤ c → n ≤ most
-    → foldl advance (stand (more (fresh c) 0) d) (word.kind.write (n + 2147483648) ++ bs) ≡ foldl advance (stand (settled c 0 n true 4) d) bs
-header_read c n d bs h k =
-    ap (λ (l : List ℕ). foldl advance (stand (more (fresh c) 0) d) (l ++ bs)) (word_bytes (n + 2147483648))
-    ∙ four-read c n (n + 2147483648) d bs refl h k
-
 pub fragment-read : (m rest d : List ℕ) → length d ≤ most → length m ≤ length d
     → feed_of (fresh (length d)) (fragment_of m ++ rest) d ≡ stand (complete (length m) (fresh (length d)) (4 + length m)) (m ++ drop (length m) d)
-unfolding feed_of fragment_of
+unfolding feed_of fragment_of advance after step_at header_byte headed
 fragment-read m rest d h k =
     let c : ℕ = length d in
     let n : ℕ = length m in
@@ -113,42 +99,21 @@ fragment-read m rest d h k =
     ∙ ap (λ (p : ℕ). stand (complete p (fresh c) (4 + n)) (sets d 0 (take n x))) (zero-add n)
     ∙ ap (λ (l : List ℕ). stand (complete n (fresh c) (4 + n)) (sets d 0 l)) (take_at m rest n refl)
     ∙ ap (λ (l : List ℕ). stand (complete n (fresh c) (4 + n)) l) (sets-eq m d 0 (omega arith) ∙ ap (λ (p : ℕ). m ++ drop p d) (zero-add n))
+  where
+    four-read : (c n w : ℕ) (d bs : List ℕ) → w ≡ n + 2147483648 → n ≤ c → n ≤ most
+        → foldl advance (stand (more (fresh c) 0) d) (w / 16777216 ∷ w % 16777216 / 65536 ∷ w % 16777216 % 65536 / 256 ∷ w % 16777216 % 65536 % 256 / 1 ∷ bs)
+        ≡ foldl advance (stand (settled c 0 n true 4) d) bs
+    four-read c n w d bs h g k =
+        let e : w % 2147483648 ≡ n = omega arith in
+        simp (word-again w (omega arith), e, le-leb n (c - 0) (omega arith), le-leb 2147483648 w (omega arith))
 
--- a writer that is done had a place, and has moved on by the fragment
-fragment-length : (m : List ℕ) → length (fragment_of m) ≡ 4 + length m
-unfolding fragment_of
-fragment-length m = length-append (word.kind.write (length m + 2147483648)) m ∙ ap (λ k. k + length m) (word-length (length m + 2147483648))
+    header_read : (c n : ℕ) (d bs : List ℕ) → n ≤ c → n ≤ most
+        → foldl advance (stand (more (fresh c) 0) d) (word.kind.write (n + 2147483648) ++ bs) ≡ foldl advance (stand (settled c 0 n true 4) d) bs
+    header_read c n d bs h k =
+        ap (λ (l : List ℕ). foldl advance (stand (more (fresh c) 0) d) (l ++ bs)) (word_bytes (n + 2147483648))
+        ∙ four-read c n (n + 2147483648) d bs refl h k
 
 module _ (m : List ℕ) (at : ℕ) (o : List ℕ) where
-  was-done : {n : ℕ} → done n ≡ fragment_said m at (length o) → (at ≤ length o) × (n ≡ at + 4 + length m)
-  unfolding fragment_said
-  was-done {n} e = go (leb at (length o)) refl (leb (length m) most) refl (leb (at + 4 + length m) (length o)) refl
-    where
-      no : {r : Refusal} → done n ≡ unwritten r → (at ≤ length o) × (n ≡ at + 4 + length m)
-      no f = let z : ◌≡◌ {A = ℕ} 0 1 = cc in absurd (omega arith)
-
-      go : (a : Bool) → leb at (length o) ≡ a → (b : Bool) → leb (length m) most ≡ b → (r : Bool) → leb (at + 4 + length m) (length o) ≡ r
-          → (at ≤ length o) × (n ≡ at + 4 + length m)
-      go false ha b hb r hr = no {r = PastEnd} (simp ha at e)
-      go true ha false hb r hr = no {r = TooLong} (simp (ha, hb) at e)
-      go true ha true hb false hr = no {r = NoRoom (4 + length m)} (simp (ha, hb, hr) at e)
-      go true ha true hb true hr =
-          let f : ◌≡◌ {A = Written} (done n) (done (at + 4 + length m)) = simp (ha, hb, hr) at e in
-          (leb-true at (length o) ha, cc f)
-
-  pub fragment-back : {n : ℕ} {o' : List ℕ} → WritesFragment m at o (done n) o' → FragmentBack m at n o'
-  fragment-back {n} {o'} c =
-      let d = was-done c.says in
-      let stands : drop at o' ≡ fragment_of m ++ drop n o =
-      ap (drop at) c.leaves ∙ drop_at (take at o) (fragment_of m ++ drop n o) at (length-take-le at o d.0) in
-      let size : n - at ≡ 4 + length m = omega (arith, d.1) in
-      record {
-        bytes = ap (take (n - at)) stands ∙ take_at (fragment_of m) (drop n o) (n - at) (fragment-length m ∙ sym size);
-        completes = λ b h k.
-            ap (λ l. feed_of (fresh (length b)) l b) stands ∙ fragment-read m (drop n o) b k h
-            ∙ ap (λ u. stand (complete (length m) (fresh (length b)) u) (m ++ drop (length m) b)) (sym size);
-      }
-
   -- what the contract permits is one answer and one buffer
   pub one-fragment : {v w : Written} {p q : List ℕ} → WritesFragment m at o v p → WritesFragment m at o w q → (v ≡ w) × (p ≡ q)
   one-fragment c d =

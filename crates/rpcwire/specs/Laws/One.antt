@@ -12,7 +12,7 @@ use Rattle.rpcwire.specs.Meaning.Choice.{Chooses}
 use Rattle.rpcwire.specs.Meaning.Views.{view_made, view_fed, view_caller, view_choice}
 use Rattle.rpcwire.specs.Laws.Promise.{promised}
 use Rattle.rpcwire.specs.Laws.Fragment.{one-fragment}
-use Rattle.rpcwire.specs.Laws.Choice.{choice-promised}
+use Rattle.rpcwire.specs.Laws.Choice.{said-held}
 use Rattle.rpcwire.specs.declared.assembler.Assembler.{Assembler}
 use Rattle.rpcwire.specs.declared.assembler.AssemblerMade.{AssemblerMade}
 use Rattle.rpcwire.specs.declared.assembler.AssemblerMade.TheVariants as Asked
@@ -80,4 +80,4 @@ fragment-one m at o r r' c d = let f = one-fragment m at o c d in (wrote-told r 
 
 pub choose_one : {Stat Auth Accept Rejected Accepted Reply Body Msg : Type 0} (R : Reading Stat Auth Accept Rejected Accepted Reply Body Msg) (s : List ℕ) (seen : Bool) (o : List ℕ)
     (r r' : Choice) {p q : List ℕ} → Chooses R s seen o (view_choice r) p → Chooses R s seen o (view_choice r') q → (r ≡ r') × (p ≡ q)
-choose_one R s seen o r r' c d = let f = (choice-promised R s seen o c).one d in (choice-told r r' f.0, f.1)
+choose_one R s seen o r r' c d = let f = said-held (c.is ∙ sym d.is) in (choice-told r r' f.0, f.1)

@@ -121,7 +121,7 @@ sound-headed : (c p w : ℕ) (d : List ℕ) (u : ℕ) → c ≡ length d → c �
 unfolding headed
 sound-headed c p w d u h1 h2 h3 =
     sound-pick (leb (w % 2147483648) (c - p)) _ _ d
-    (λ t. sound-settled c p (w % 2147483648) (leb 2147483648 w) d u h1 h2 h3 (leb-true _ _ t))
+    (λ t. sound-settled c p (w % 2147483648) _ d u h1 h2 h3 (leb-true _ _ t))
     (λ t. (fits-halted c p (length d) h1 h2 h3, refl, refl))
 
 pub sound-step : (l : ℕ) (s : Assembler) (d : List ℕ) (b u : ℕ) → s.left ≡ l → Fit s (length d) → b < 256 → SoundNow (step_at l s d b u)
@@ -166,7 +166,7 @@ used-settled c p (suc l) e u = refl
 
 used-headed : (c p w u : ℕ) → used_said (headed c p w u) ≡ u
 unfolding headed
-used-headed c p w u = used-pick (leb (w % 2147483648) (c - p)) _ _ u (used-settled c p (w % 2147483648) (leb 2147483648 w) u) refl
+used-headed c p w u = used-pick (leb (w % 2147483648) (c - p)) _ _ u (used-settled c p (w % 2147483648) _ u) refl
 
 pub used_step : (l : ℕ) (s : Assembler) (d : List ℕ) (b u : ℕ) → used (step_at l s d b u) ≡ u
 unfolding step_at header_byte
@@ -243,7 +243,7 @@ placed-byte : (c p n w u : ℕ) → placed_said (header_byte c p n w u) ≡ p
 unfolding header_byte headed
 placed-byte c p n w u =
     placed-pick (ltb n 3) _ _ p refl
-    (placed-pick (leb (w % 2147483648) (c - p)) _ _ p (placed-settled c p (w % 2147483648) (leb 2147483648 w) u) refl)
+    (placed-pick (leb (w % 2147483648) (c - p)) _ _ p (placed-settled c p (w % 2147483648) _ u) refl)
 
 pub placed-begin : (s : Assembler) (n : ℕ) → placed_said (begin s n) ≡ s.placed
 unfolding begin

@@ -49,9 +49,6 @@ module _ (s : List ℕ) (p : ℕ) (r : U32Read) (v n : ℕ) (e : view_u32 r ≡ 
   pub by-words-short : (q : Refusal) → length s - n < v * 4 → q ≡ cut_short (4 + v * 4) s p → refused q ≡ words_held.read s p
   by-words-short q g h = ap refused h ∙ words-short s p (on view_u32 e f) g
 
-  pub by-words : v * 4 ≤ length s - n → took (record { at = n; count = v; clean = true }) (n + v * 4) true ≡ words_held.read s p
-  by-words g = words-took s p (on view_u32 e f) g
-
 -- the hyper is taken
 module _ (s : List ℕ) (p : ℕ) (r : U64Read) (v n : ℕ) (e : view_u64 r ≡ hyper.kind.read s p) (f : r ≡ U64.Took v n) where
   pub by-long : (z : ℤ) → SFits w64 z → z ≡ signed 9223372036854775808 v → took (to_z w64 (of_z w64 z)) n true ≡ long.kind.read s p

@@ -50,57 +50,66 @@ here-if : (t : Bool) (w : List Way) → here (cond t [] w) ≡ cond t [] (here w
 here-if true w = refl
 here-if false w = refl
 
-flag-see : (n : ℕ) → see_flag n ≡ means (not (eqb n 0)) (cond (leb n 1) [] (odd_flag ∷ []))
-flag-see zero = refl
-flag-see (suc zero) = refl
-flag-see (suc (suc n)) =
-    let h : 1 < suc (suc n) = omega arith in
-    simp (lt-leb (suc (suc n)) 1 h, ne_eqb (suc (suc n)) 0 (λ z. omega arith))
-
-flag-there : (b : Bool) (w : List Loose) (e : List ℕ) → flag.kind.Form b w e → FlagForm b w e
-unfolding flag word
-flag-there b w e f =
-    let d = number-there 4 f.of f.w₁ e f.form in
-    let s : means (not (eqb f.of 0)) (cond (leb f.of 1) [] (odd_flag ∷ [])) ≡ means b f.w₂ = sym (flag-see f.of) ∙ f.sees in
-    let marks : f.w₂ ≡ cond (leb f.of 1) [] (odd_flag ∷ []) = cc s in
-    record {
-      number = f.of;
-      range = d.range;
-      bytes = d.bytes;
-      value = cc s;
-      loose =
-          f.loose
-          ∙ ap₂ (λ x y. here x ++ y) marks d.loose
-          ∙ append-nil (here (cond (leb f.of 1) [] (odd_flag ∷ [])))
-          ∙ here-if (leb f.of 1) (odd_flag ∷ []);
-    }
-
-flag-back : (b : Bool) (w : List Loose) (e : List ℕ) → FlagForm b w e → flag.kind.Form b w e
-unfolding flag word
-flag-back b w e d =
-    record {
-      of = d.number;
-      w₁ = [];
-      w₂ = cond (leb d.number 1) [] (odd_flag ∷ []);
-      form = number-back 4 d.number [] e (record { loose = refl; range = d.range; bytes = d.bytes });
-      sees = flag-see d.number ∙ ap (λ x. means x (cond (leb d.number 1) [] (odd_flag ∷ []))) (sym d.value);
-      loose =
-          d.loose
-          ∙ sym (here-if (leb d.number 1) (odd_flag ∷ []))
-          ∙ sym (append-nil (here (cond (leb d.number 1) [] (odd_flag ∷ []))));
-    }
-
 pub flag-form : (b : Bool) (w : List Loose) (e : List ℕ) → flag.kind.Form b w e ↔ FlagForm b w e
-flag-form b w e = (flag-there b w e, flag-back b w e)
+unfolding flag word
+flag-form b w e = (there, back)
+  where
+    see : (n : ℕ) → see_flag n ≡ means (not (eqb n 0)) (cond (leb n 1) [] (odd_flag ∷ []))
+    see zero = refl
+    see (suc zero) = refl
+    see (suc (suc n)) =
+        let h : 1 < suc (suc n) = omega arith in
+        simp (lt-leb (suc (suc n)) 1 h, ne_eqb (suc (suc n)) 0 (λ z. omega arith))
+
+    there : flag.kind.Form b w e → FlagForm b w e
+    there f =
+        let d = number-there 4 f.of f.w₁ e f.form in
+        let s : means (not (eqb f.of 0)) (cond (leb f.of 1) [] (odd_flag ∷ [])) ≡ means b f.w₂ = sym (see f.of) ∙ f.sees in
+        let marks : f.w₂ ≡ cond (leb f.of 1) [] (odd_flag ∷ []) = cc s in
+        record {
+          number = f.of;
+          range = d.range;
+          bytes = d.bytes;
+          value = cc s;
+          loose =
+              f.loose
+              ∙ ap₂ (λ x y. here x ++ y) marks d.loose
+              ∙ append-nil (here (cond (leb f.of 1) [] (odd_flag ∷ [])))
+              ∙ here-if (leb f.of 1) (odd_flag ∷ []);
+        }
+
+    back : FlagForm b w e → flag.kind.Form b w e
+    back d =
+        record {
+          of = d.number;
+          w₁ = [];
+          w₂ = cond (leb d.number 1) [] (odd_flag ∷ []);
+          form = number-back 4 d.number [] e (record { loose = refl; range = d.range; bytes = d.bytes });
+          sees = see d.number ∙ ap (λ x. means x (cond (leb d.number 1) [] (odd_flag ∷ []))) (sym d.value);
+          loose =
+              d.loose
+              ∙ sym (here-if (leb d.number 1) (odd_flag ∷ []))
+              ∙ sym (append-nil (here (cond (leb d.number 1) [] (odd_flag ∷ []))));
+        }
 
 -- opaque bytes: the padding stands behind the length word and the bytes
-pad-mark : (n : ℕ) (t : Bool) → shifted 4 (shifted n (here (cond t [] (dirty_pad ∷ [])))) ≡ cond t [] (record { offset = 4 + n; way = dirty_pad } ∷ [])
+pub pad-mark : (n : ℕ) (t : Bool) → shifted 4 (shifted n (here (cond t [] (dirty_pad ∷ [])))) ≡ cond t [] (record { offset = 4 + n; way = dirty_pad } ∷ [])
 pad-mark n true = refl
 pad-mark n false = ap (λ (k : ℕ). record { offset = 4 + k; way = dirty_pad } ∷ []) (add-zero n)
 
-opaque-there : (l : List ℕ) (w : List Loose) (e : List ℕ) → opaque.kind.Form l w e → OpaqueForm l w e
+-- what stands where an opaque is read: its bytes and its padding, and what is loose in them
+pub record OpaqueStands (l : List ℕ) (w : List Loose) (e : List ℕ) : Type 0 where
+  pub pad : List ℕ
+  pub range : length l < 256 ^ 4
+  pub all : Bytes l
+  pub pad_size : length pad ≡ padding (length l)
+  pub pad_bytes : Bytes pad
+  pub bytes : e ≡ digits 4 (length l) ++ (l ++ pad)
+  pub loose : w ≡ shifted 4 (shifted (length l) (here (cond (zeros pad) [] (dirty_pad ∷ []))))
+
+pub opaque-stands : (l : List ℕ) (w : List Loose) (e : List ℕ) → opaque.kind.Form l w e → OpaqueStands l w e
 unfolding opaque word
-opaque-there l w e f =
+opaque-stands l w e f =
     let n : ℕ = f.of.0 in
     let c : List ℕ = f.of.1.0 in
     let g = f.form in
@@ -127,51 +136,63 @@ opaque-there l w e f =
           (g.loose
           ∙ ap₂ (λ x y. x ++ y) d.loose
           (ap₂ shifted four
-          (h.loose ∙ ap₂ (λ x y. x ++ y) h.form₁.0 (ap₂ shifted (ap length (h.form₁.1 ∙ same)) pad-loose))))
-          ∙ pad-mark (length l) (zeros p.of);
-    }
-
-opaque-back : (l : List ℕ) (w : List Loose) (e : List ℕ) → OpaqueForm l w e → opaque.kind.Form l w e
-unfolding opaque word
-opaque-back l w e o =
-    let ways : List Way = cond (zeros o.pad) [] (dirty_pad ∷ []) in
-    let marks : List Loose = here ways in
-    record {
-      of = (length l, (l, tt));
-      w₁ = shifted 4 (shifted (length l) marks);
-      w₂ = [];
-      sees = refl;
-      loose = o.loose ∙ sym (pad-mark (length l) (zeros o.pad));
-      form = record {
-        e₁ = digits 4 (length l);
-        e₂ = l ++ o.pad;
-        w₁ = [];
-        w₂ = shifted (length l) marks;
-        bytes = o.bytes;
-        loose = refl;
-        form₁ = number-back 4 (length l) [] (digits 4 (length l)) (record { loose = refl; range = o.range; bytes = refl });
-        form₂ = record {
-          e₁ = l;
-          e₂ = o.pad;
-          w₁ = [];
-          w₂ = marks;
-          bytes = refl;
-          loose = refl;
-          form₁ = (refl, refl, record { size = refl; bytes = o.all });
-          form₂ = record {
-            of = o.pad;
-            w₁ = [];
-            w₂ = ways;
-            sees = refl;
-            loose = sym (append-nil marks);
-            form = (refl, refl, record { size = o.pad_size; bytes = o.pad_bytes });
-          };
-        };
-      };
+          (h.loose ∙ ap₂ (λ x y. x ++ y) h.form₁.0 (ap₂ shifted (ap length (h.form₁.1 ∙ same)) pad-loose))));
     }
 
 pub opaque-form : (l : List ℕ) (w : List Loose) (e : List ℕ) → opaque.kind.Form l w e ↔ OpaqueForm l w e
-opaque-form l w e = (opaque-there l w e, opaque-back l w e)
+unfolding opaque word
+opaque-form l w e = (there, back)
+  where
+    there : opaque.kind.Form l w e → OpaqueForm l w e
+    there f =
+        let o = opaque-stands l w e f in
+        record {
+          pad = o.pad;
+          range = o.range;
+          all = o.all;
+          pad_size = o.pad_size;
+          pad_bytes = o.pad_bytes;
+          bytes = o.bytes;
+          loose = o.loose ∙ pad-mark (length l) (zeros o.pad);
+        }
+
+    back : OpaqueForm l w e → opaque.kind.Form l w e
+    back o =
+        let ways : List Way = cond (zeros o.pad) [] (dirty_pad ∷ []) in
+        let marks : List Loose = here ways in
+        record {
+          of = (length l, (l, tt));
+          w₁ = shifted 4 (shifted (length l) marks);
+          w₂ = [];
+          sees = refl;
+          loose = o.loose ∙ sym (pad-mark (length l) (zeros o.pad));
+          form = record {
+            e₁ = digits 4 (length l);
+            e₂ = l ++ o.pad;
+            w₁ = [];
+            w₂ = shifted (length l) marks;
+            bytes = o.bytes;
+            loose = refl;
+            form₁ = number-back 4 (length l) [] (digits 4 (length l)) (record { loose = refl; range = o.range; bytes = refl });
+            form₂ = record {
+              e₁ = l;
+              e₂ = o.pad;
+              w₁ = [];
+              w₂ = marks;
+              bytes = refl;
+              loose = refl;
+              form₁ = (refl, refl, record { size = refl; bytes = o.all });
+              form₂ = record {
+                of = o.pad;
+                w₁ = [];
+                w₂ = ways;
+                sees = refl;
+                loose = sym (append-nil marks);
+                form = (refl, refl, record { size = o.pad_size; bytes = o.pad_bytes });
+              };
+            };
+          };
+        }
 
 -- a word list
 times-loose : (n : ℕ) (t : Tuple ℕ n) (w : List Loose) (e : List ℕ) → (times word n).kind.Form t w e → w ≡ []

@@ -16,10 +16,10 @@ use Rattle.xdr.specs.Meaning.Items.{word, hyper, word_pair, flag}
 use Rattle.xdr.specs.Meaning.Formats.{eight_bytes, eight_held}
 use Rattle.xdr.specs.Laws.Padding.{flag-length, eight-length, size_small, words_small}
 use Rattle.xdr.specs.Laws.Ranges.{eight-good, eight-bytes}
-use Rattle.xdr.specs.Laws.Room.{room-off, room-laid}
+use Rattle.xdr.specs.Laws.Room.{room-laid}
 use Rattle.xdr.specs.Laws.Fixed.{Fixed, word-fixed, hyper-fixed, word-pair-fixed, pair-fixed}
 use Rattle.xdr.specs.Laws.Write.{Ready, laid-short, laid-is, laid_same, lent, lent-first}
-use Rattle.xdr.specs.Laws.Writers.{room-place, plain-off, plain-on}
+use Rattle.xdr.specs.Laws.Writers.{room-place, plain-on}
 use Rattle.xdr.specs.Meaning.Pieces.{size_up_to, words_up_to}
 use Rattle.xdr.specs.declared.answer.Wrote.{Wrote}
 use Rattle.xdr.specs.declared.answer.Wrote.TheVariants as wrote
@@ -73,9 +73,6 @@ module _ {M : Type 0} {k : ℕ} {C : Codec M} (F : Fixed k C) where
   size-behind i j m e = e ∙ ap (λ n. i + n) (size_is m)
 
   module _ (x : M) (at : ℕ) (o : List ℕ) (w : Wrote) where
-    pub fixed_off : (q : Refusal) → view_wrote w ≡ roomed (length o) at k → w ≡ wrote.Refused q → k ≤ most → Writes (exactly C) [] x at o (view_wrote w) o
-    fixed_off q e f s = plain-off C (λ x. omega (arith, F.writes x)) x at o w k q (size_is x) e f
-
     pub fixed_on : (n : ℕ) (zs : List ℕ) → view_wrote w ≡ roomed (length o) at k → w ≡ wrote.Done n → k ≤ most → C.kind.Good x → zs ≡ laid (C.kind.write x) (tail_of at o)
         → Writes (exactly C) [] x at o (view_wrote w) (after at o zs)
     fixed_on n zs e f s g z = plain-on C (λ x. omega (arith, F.writes x)) x at o w k n zs (size_is x) e f g z
@@ -89,13 +86,9 @@ word-hyper-size a b = sym ((pair-fixed word-fixed hyper-fixed).writes (a, b))
 
 -- eight bytes, held as the number that they write
 module _ (v at : ℕ) (o : List ℕ) (w : Wrote) where
-  eight-ready : Ready eight_bytes [] v
+  pub eight-ready : Ready eight_bytes [] v
   unfolding eight_held
   eight-ready = record { short = omega arith; inside = refl }
-
-  pub eight-off : (q : Refusal) → v < 18446744073709551616 → view_wrote w ≡ roomed (length o) at 8 → w ≡ wrote.Refused q → Writes eight_bytes [] v at o (view_wrote w) o
-  unfolding eight_held
-  eight-off q h e f = room-off eight_bytes [] v (eight-length v h) eight-ready (omega arith) at o e f
 
   pub eight-on : (n : ℕ) (zs : List ℕ) → v < 18446744073709551616 → view_wrote w ≡ roomed (length o) at 8 → w ≡ wrote.Done n
       → zs ≡ laid (hyper.kind.write v) (tail_of at o) → Writes eight_bytes [] v at o (view_wrote w) (after at o zs)

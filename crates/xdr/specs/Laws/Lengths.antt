@@ -15,7 +15,7 @@ use Rattle.xdr.specs.Meaning.Public.{Took, rewritten}
 use Rattle.xdr.specs.Laws.Digits.{length_digits}
 use Rattle.xdr.specs.Laws.Block.{block-lawful}
 use Rattle.xdr.specs.Laws.Takes.{times-take}
-use Rattle.xdr.specs.Laws.Forms.{opaque-form}
+use Rattle.xdr.specs.Laws.Forms.{opaque-stands}
 use Rattle.xdr.specs.Laws.Padding.{word-length, opaque-long}
 use Rattle.xdr.specs.Laws.Promise.{keeps}
 use Rattle.xdr.specs.Laws.Public.{reading, reading-is}
@@ -213,7 +213,7 @@ module _ {A : Type 0} (number : A → ℕ) (l : List A) (each : (a : A) → amon
 -- an opaque has the length of its length word, its bytes and their padding
 pub opaque-form-long : (m : List ℕ) (w : List Loose) (e : List ℕ) → opaque.kind.Form m w e → length e ≡ opaque_size (length m)
 opaque-form-long m w e f =
-    let o = (opaque-form m w e).0 f in
+    let o = opaque-stands m w e f in
     ap length o.bytes
     ∙ length-append (digits 4 (length m)) (m ++ o.pad)
     ∙ omega (arith, length_digits 4 (length m), length-append m o.pad, o.pad_size)

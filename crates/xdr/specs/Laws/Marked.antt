@@ -24,7 +24,7 @@ use Rattle.xdr.specs.Meaning.Formats.{eight_held, eight_bytes, piece_held, bytes
 use Rattle.xdr.specs.Meaning.Public.{Took, message, used_by}
 use Rattle.xdr.specs.Meaning.Marks.{all_clean, no_pad, pads_clean, OnlyPads, Marked, MarksAre, marks_of, MarksTell}
 use Rattle.xdr.specs.Laws.Lists.{stands-first, stands-second}
-use Rattle.xdr.specs.Laws.Forms.{opaque-form, words-form}
+use Rattle.xdr.specs.Laws.Forms.{pad-mark, opaque-stands, words-form}
 use Rattle.xdr.specs.Laws.Held.{means-taken}
 use Rattle.xdr.specs.Laws.Unpadded.{pads-append, pads-shifted, Unpadded, void-unpadded, hyper-unpadded, flag-unpadded, view-unpadded}
 use Rattle.xdr.specs.Laws.Public.{opened-took, kept}
@@ -151,12 +151,6 @@ piece-as s p =
     marked-as (leb 4 (length s - p)) (leb (4 + n + padding n) (length s - p)) (record { at = p + 4; count = n; clean = pad_zero s p n })
     (p + 4 + n + padding n) (pad_zero s p n) (cut_short (4 + n + padding n) s p) (cut_short 4 s p) refl
 
-words-as : (s : List ℕ) (p : ℕ) → MarkedAs (word_piece_at s p)
-words-as s p =
-    let n : ℕ = number_at 4 s p in
-    marked-as (leb 4 (length s - p)) (leb (4 + n * 4) (length s - p)) (record { at = p + 4; count = n; clean = true }) (p + 4 + n * 4) true
-    (cut_short (4 + n * 4) s p) (cut_short 4 s p) refl
-
 one-pad : (t : Bool) (k : ℕ)
     → clean {A = Loose} (cond t [] (record { offset = k; way = dirty_pad } ∷ [])) ≡ pads_clean (cond t [] (record { offset = k; way = dirty_pad } ∷ []))
 one-pad true k = refl
@@ -168,9 +162,10 @@ bytes-marked =
     record {
       tells = λ l w e t s p h f g.
           let d = stood piece_held l w e t s p f g in
-          let o = (opaque-form l w e).0 f in
+          let o = opaque-stands l w e f in
+          let m = o.loose ∙ pad-mark (length l) (zeros o.pad) in
           let c : d.0.clean ≡ clean w = subst MarkedAs d.1 (piece-as s p) in
-          let i : clean w ≡ pads_clean w = rw o.loose (one-pad (zeros o.pad) (4 + length l)) in
+          let i : clean w ≡ pads_clean w = rw m (one-pad (zeros o.pad) (4 + length l)) in
           taken _ d.1 (and-true d.0.clean ∙ c ∙ i);
     }
 
@@ -181,10 +176,16 @@ words-marked =
       tells = λ l w e t s p h f g.
           let d = stood words_held l w e t s p f g in
           let o = (words-form l w e).0 f in
-          let c : d.0.clean ≡ clean w = subst MarkedAs d.1 (words-as s p) in
+          let c : d.0.clean ≡ clean w = subst MarkedAs d.1 (marks s p) in
           let i : clean w ≡ pads_clean w = rw o.loose in
           taken _ d.1 (and-true d.0.clean ∙ c ∙ i);
     }
+  where
+    marks : (s : List ℕ) (p : ℕ) → MarkedAs (word_piece_at s p)
+    marks s p =
+        let n : ℕ = number_at 4 s p in
+        marked-as (leb 4 (length s - p)) (leb (4 + n * 4) (length s - p)) (record { at = p + 4; count = n; clean = true }) (p + 4 + n * 4) true
+        (cut_short (4 + n * 4) s p) (cut_short 4 s p) refl
 
 pub eight-marked : Marked eight_bytes.held
 unfolding eight_held eight
@@ -203,18 +204,6 @@ piece-marks x l e = record { are = λ s. e }
 pub words-marks : (x : Piece) (l : List Bool) → l ≡ x.clean ∷ [] → MarksAre word_list x l
 unfolding words_held
 words-marks x l e = record { are = λ s. e }
-
--- a value that a flag says is there
-module _ {M S : Type 0} (F : Format M S) (K : Marked F.held) where
-  if-marked : (b : Bool) → Marked (if_format F b).held
-  if-marked true = K
-  if-marked false = plain-marked void-unpadded
-
-  pub optional-marked : Marked (optional F).held
-  optional-marked = named-marked (flagged F) _ (then-marked _ _ _ (plain-marked flag-unpadded) (λ s b. if-marked b))
-
-  pub maybe-marked : {T : Type 0} (U : Cases S T) → Marked (maybe_held F U).held
-  maybe-marked U = named-marked (optional F) (case_names U) optional-marked
 
 -- a union
 module _ {A : Type 0} (tags : Codec A) (branches : A → Branch) (u : Unpadded tags.kind) (K : (tag : A) → Marked (branches tag).format.held) where
@@ -257,52 +246,6 @@ bounded-marked F over K =
           ap (cap (λ x. over (F.held.mean s x)) p) d.1 ∙ ap (capped p d.0 (p + length e) (clean w)) o in
           taken _ r (of-taken _ d.1 (K.tells m w e t s p h f.0 g));
     }
-
--- a list: its mark is that of its elements
-module _ {M S : Type 0} (F : Format M S) (K : Marked F.held) where
-  ends : (w : List Loose) (s : List ℕ) (p n : ℕ) (b : Bool) (o : Option S) → (optional F).held.mean s o ≡ none
-      → all_clean ((optional F).held.marks s o) ≡ pads_clean w → clean_step F (clean_list F s) s (took o n b) ≡ pads_clean w
-  ends w s p n b none e i = i
-  ends w s p n b (some y) e i = let z : ◌≡◌ {A = ℕ} 0 1 = cc e in absurd (omega arith)
-
-  goes : (m : M) (w₁ w₂ : List Loose) (s : List ℕ) (n : ℕ) (b : Bool) (o : Option S) → (optional F).held.mean s o ≡ some m
-      → all_clean ((optional F).held.marks s o) ≡ pads_clean w₁ → clean_list F s n ≡ pads_clean w₂
-      → clean_step F (clean_list F s) s (took o n b) ≡ (pads_clean w₁ && pads_clean w₂)
-  goes m w₁ w₂ s n b none e i j = let z : ◌≡◌ {A = ℕ} 0 1 = cc e in absurd (omega arith)
-  goes m w₁ w₂ s n b (some y) e i j = ap₂ (λ u v. u && v) i j
-
-  elements : (l : List M) (w : List Loose) (e t s : List ℕ) (p : ℕ) → Bytes s → (linked F).kind.Form l w e → Stands e t s p
-      → clean_list F s p ≡ pads_clean w
-  elements [] w e t s p h f g =
-      let f₁ = (empty-form (optional F).codec (optional-some F) w e).0 f in
-      let d = stood (optional F).held none w e t s p f₁ g in
-      let i = of-taken _ d.1 ((optional-marked F K).tells none w e t s p h f₁ g) in
-      clean_step_lem F s h p
-      ∙ ap (clean_step F (clean_list F s) s) d.1
-      ∙ ends w s p (p + length e) (clean w) d.0 d.2 i
-  elements (m ∷ l) w e t s p h f g =
-      let k = (link-form (optional F).codec (optional-some F) m l w e).0 f in
-      let g' : Stands (k.e₁ ++ k.e₂) t s p = rw k.bytes at g in
-      let g₁ = stands-first k.e₁ k.e₂ t s p g' in
-      let g₂ = stands-second k.e₁ k.e₂ t s p g' in
-      let d = stood (optional F).held (some m) k.w₁ k.e₁ (k.e₂ ++ t) s p k.element g₁ in
-      let i = of-taken _ d.1 ((optional-marked F K).tells (some m) k.w₁ k.e₁ (k.e₂ ++ t) s p h k.element g₁) in
-      let j = elements l k.w₂ k.e₂ t s (p + length k.e₁) h k.rest g₂ in
-      clean_step_lem F s h p
-      ∙ ap (clean_step F (clean_list F s) s) d.1
-      ∙ goes m k.w₁ k.w₂ s (p + length k.e₁) (clean k.w₁) d.0 d.2 i j
-      ∙ sym
-      (ap pads_clean k.loose
-      ∙ pads-append k.w₁ (shifted (length k.e₁) k.w₂)
-      ∙ ap (λ b. pads_clean k.w₁ && b) (pads-shifted (length k.e₁) k.w₂))
-
-  pub list-marked : Marked (list_of F).held
-  list-marked =
-      record {
-        tells = λ l w e t s p h f g.
-            let c = clean_list F s p in
-            taken _ (ap (map_answer (placed_at p c)) ((linked F).laws.complete l w e t s p f g)) (and-true c ∙ elements l w e t s p h f g);
-      }
 
 -- so in every answer of a public reader
 only_none : (w : List Loose) → OnlyPads w → pads_clean w ≡ true → w ≡ []

@@ -81,16 +81,15 @@ module _ (s : List ℕ) (x : Piece) where
   unfolding part_place
   place-yes h = sym (simp (inside-yes h))
 
-  place-no : length s < x.at + x.count → 0 ≡ part_place s x
-  unfolding part_place
-  place-no h = sym (simp (inside-no h))
-
   pub handed-yes : (q : ℕ × ℕ) → x.at + x.count ≤ length s
       → Part q (part_of s x) (part_place s x) (q.0, x.at + q.1) (take (x.at + x.count - x.at) (drop x.at s))
   handed-yes q h = record { is = part-yes h; begins = ap (λ (k : ℕ). (q.0, k)) (omega (arith, place-yes h)) }
 
   pub handed-no : (q : ℕ × ℕ) → length s < x.at + x.count → Part q (part_of s x) (part_place s x) q []
-  handed-no q h = record { is = part_no h; begins = ap (λ (k : ℕ). (q.0, k)) (omega (arith, place-no h)) }
+  unfolding part_place
+  handed-no q h =
+      let e : 0 ≡ part_place s x = sym (simp (inside-no h)) in
+      record { is = part_no h; begins = ap (λ (k : ℕ). (q.0, k)) (omega (arith, e)) }
 
 -- a piece inside the front of a source is the same piece of the whole
 pub bytes-grow : (s t : List ℕ) (x : Piece) → is_inside s x ≡ true → bytes_in (s ++ t) x ≡ bytes_in s x

@@ -49,7 +49,7 @@ module _ (source : ℕ) (i : Bool) (m len at : ℕ) (w : Wrote) (k : ℕ) (e : v
       go true ha false hb c hc d hd r hr g = no {r = TooLong} (simp (ha, hb) at g)
       go true ha true hb false hc d hd r hr g = no {r = Outside} (simp (ha, hb, hc) at g)
       go true ha true hb true hc false hd r hr g = no {r = TooLong} (simp (ha, hb, hc, hd) at g)
-      go true ha true hb true hc true hd false hr g = no {r = NoRoom m} (simp (ha, hb, hc, hd, hr) at g)
+      go true ha true hb true hc true hd false hr g = no (simp (ha, hb, hc, hd, hr) at g)
       go true ha true hb true hc true hd true hr g =
           let z : done k ≡ done (at + m) = simp (ha, hb, hc, hd, hr) at g in
           record {

@@ -10,7 +10,7 @@ use Rattle.xdr.specs.Meaning.Order.{roomed}
 use Rattle.xdr.specs.Meaning.Format.{Format}
 use Rattle.xdr.specs.Meaning.Public.{output, Writes, laid}
 use Rattle.xdr.specs.Meaning.Views.{view_wrote}
-use Rattle.xdr.specs.Laws.Write.{Ready, writes-past, sized-short, sized-done}
+use Rattle.xdr.specs.Laws.Write.{Ready, writes-past, sized-done}
 use Rattle.xdr.specs.declared.answer.Wrote.{Wrote}
 use Rattle.xdr.specs.declared.answer.Wrote.TheVariants as wrote
 use Rattle.xdr.specs.declared.refusal.Refusal.{Refusal}
@@ -48,24 +48,6 @@ module _ (len at size : ℕ) where
   room_in e f = fits (sym (ap view_wrote f) ∙ e)
 
 module _ {M S : Type 0} (F : Format M S) (s : List ℕ) (x : S) {n : ℕ} (l : length (output F s x) ≡ n) (r : Ready F s x) (k : n ≤ most) (at : ℕ) (o : List ℕ) where
-  off-by : {q : Refusal} (a b : Bool) → leb at (length o) ≡ a → leb (at + n) (length o) ≡ b
-      → unwritten q ≡ cond a (cond b (done (at + n)) (unwritten (NoRoom n))) (unwritten PastEnd) → Writes F s x at o (unwritten q) o
-  off-by true true e f g = let z : ◌≡◌ {A = ℕ} 0 1 = cc in absurd (omega arith)
-  off-by true false e f g =
-      let h : at ≤ length o = leb-true at (length o) e in
-      let j : length o < at + n = leb-false (at + n) (length o) f in
-      subst (λ w. Writes F s x at o w o) (sym g) (sized-short F s x l r at o h k (omega arith))
-  off-by false b e f g =
-      subst (λ w. Writes F s x at o w o) (sym g) (writes-past F s x at o (leb-false at (length o) e))
-
-  off_at : {q : Refusal} → unwritten q ≡ roomed (length o) at n → Writes F s x at o (unwritten q) o
-  unfolding roomed
-  off_at e = off-by (leb at (length o)) (leb (at + n) (length o)) refl refl e
-
-  -- there was no room
-  pub room-off : {w : Wrote} {q : Refusal} → view_wrote w ≡ roomed (length o) at n → w ≡ wrote.Refused q → Writes F s x at o (view_wrote w) o
-  room-off e f = subst (λ w. Writes F s x at o w o) (sym (ap view_wrote f)) (off_at (sym (ap view_wrote f) ∙ e))
-
   -- there was room, and the message was laid
   module _ (good : F.codec.kind.Good (F.held.mean s x)) {w : Wrote} {m : ℕ} (e : view_wrote w ≡ roomed (length o) at n) (f : w ≡ wrote.Done m) {zs : List ℕ} where
     pub room-laid : zs ≡ laid (output F s x) (mid_of at (length o - at) o) → Writes F s x at o (view_wrote w) (put_mid at (length o - at) o zs)

@@ -83,14 +83,14 @@ pub hyper-pair-unpadded : Unpadded hyper_pair.kind
 unfolding hyper_pair
 hyper-pair-unpadded = pair-unpadded hyper-unpadded hyper-unpadded
 
-flag-sees : (n : ℕ) → SeesNone (see_flag n)
-flag-sees zero = refl
-flag-sees (suc zero) = refl
-flag-sees (suc (suc n)) = refl
-
 pub flag-unpadded : Unpadded flag.kind
 unfolding flag
-flag-unpadded = view-unpadded flag-sees word-unpadded
+flag-unpadded = view-unpadded sees word-unpadded
+  where
+    sees : (n : ℕ) → SeesNone (see_flag n)
+    sees zero = refl
+    sees (suc zero) = refl
+    sees (suc (suc n)) = refl
 
 pub int-unpadded : Unpadded int.kind
 unfolding int number
@@ -115,15 +115,6 @@ among-sees number (a ∷ l) v = by (eqb v (number a)) (among-sees number l v)
 
 pub closed-unpadded : {A : Type 0} (number : A → ℕ) (l : List A) (each : (a : A) → among number l (number a) ≡ means a []) → Unpadded (closed number l each).kind
 closed-unpadded number l each = view-unpadded (among-sees number l) word-unpadded
-
--- a value that a flag says is there
-module _ {M : Type 0} (C : Codec M) where
-  if-unpadded : Unpadded C.kind → (b : Bool) → Unpadded (if C b).kind
-  if-unpadded h true = h
-  if-unpadded h false = void-unpadded
-
-  pub option-unpadded : Unpadded C.kind → Unpadded (option C).kind
-  option-unpadded h = view-unpadded (λ x. refl) (chain-unpadded flag-unpadded (if-unpadded h))
 
 -- what has no pieces has no marks
 pub no-marks : {M : Type 0} (C : Codec M) (x : M) → MarksAre (exactly C) x []

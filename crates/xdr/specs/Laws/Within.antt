@@ -43,10 +43,6 @@ module _ {M S : Type 0} (F : Format M S) (over : M → Option ℕ) (s : List ℕ
       same (done n) = refl
       same (unwritten r) = refl
 
-  -- it reads back as itself
-  pub within-back : {n : ℕ} {o' : List ℕ} → WritesWithin F over s x at o (done n) o' → Back (bounded F over) s x at n o'
-  within-back c = wrote-back (bounded F over) s x at o (within-writes (was-within c) c)
-
   -- two answers that the contract permits are one, and so are the buffers
   pub one-within : {v w : Written} {p q : List ℕ} → WritesWithin F over s x at o v p → WritesWithin F over s x at o w q → (v ≡ w) × (p ≡ q)
   one-within c d =
@@ -96,6 +92,3 @@ module _ {M S : Type 0} {F : Format M S} {over : M → Option ℕ} {G : Format M
   read-within =
       let d : Answers (bounded F over) s p (took x n b) = subst (λ H. Answers H s p (took x n b)) B.is c in
       ((kept (bounded F over)).in_range (record { source = s; place = p; value = x; next = n; plain = b; answers = d })).1
-
-  pub read-writes : {at : ℕ} {o : List ℕ} {w : Written} {o' : List ℕ} → WritesWithin F over s x at o w o' → Writes G s x at o w o'
-  read-writes {at} {o} {w} {o'} d = subst (λ H. Writes H s x at o w o') (sym B.is) (within-writes F over s x at o read-within d)

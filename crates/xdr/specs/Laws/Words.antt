@@ -48,14 +48,15 @@ times-took (suc n) s q h =
     rw (word-here s q k, times-took n s (q + 4) (omega arith), e)
 
 module _ (s : List ℕ) (p : ℕ) where
-  counted : (n : ℕ) → number_at 4 s p ≡ n → 4 ≤ length s - p → (t : Bool) → leb (4 + n * 4) (length s - p) ≡ t
+  -- whatever the mark is
+  counted_any : (b : Bool) (n : ℕ) → number_at 4 s p ≡ n → 4 ≤ length s - p → (t : Bool) → leb (4 + n * 4) (length s - p) ≡ t
       → words.kind.read s p
-      ≡ map_answer (words_in s) (cond t (took (record { at = p + 4; count = n; clean = true }) (p + 4 + n * 4) true) (refused (cut_short (4 + n * 4) s p)))
+      ≡ map_answer (words_in s) (cond t (took (record { at = p + 4; count = n; clean = b }) (p + 4 + n * 4) true) (refused (cut_short (4 + n * 4) s p)))
   unfolding words
-  counted n c h true e =
+  counted_any b n c h true e =
       let k : 4 + n * 4 ≤ length s - p = leb-true (4 + n * 4) (length s - p) e in
       rw (word-here s p h, c, le-leb (n * 4) (length s - (p + 4)) (omega arith), times-took n s (p + 4) (omega arith), list-tuple n s (p + 4))
-  counted n c h false e =
+  counted_any b n c h false e =
       let k : length s - p < 4 + n * 4 = leb-false (4 + n * 4) (length s - p) e in
       let i : n * 4 - (length s - (p + 4)) ≡ 4 + n * 4 - (length s - p) = omega arith in
       rw (word-here s p h, c, lt-leb (n * 4) (length s - (p + 4)) (omega arith), i)
@@ -64,22 +65,22 @@ module _ (s : List ℕ) (p : ℕ) where
       → words.kind.read s p ≡ map_answer (words_in s) (cond t (words_answer s p (number_at 4 s p)) (refused (cut_short 4 s p)))
   unfolding words
   by_word true e =
-      counted (number_at 4 s p) refl (leb-true 4 (length s - p) e) (leb (4 + number_at 4 s p * 4) (length s - p)) refl
+      counted_any _ (number_at 4 s p) refl (leb-true 4 (length s - p) e) (leb (4 + number_at 4 s p * 4) (length s - p)) refl
   by_word false e = rw (word-not s p (leb-false 4 (length s - p) e))
 
   pub words-agrees : words.kind.read s p ≡ map_answer (words_in s) (word_piece_at s p)
   words-agrees = by_word (leb 4 (length s - p)) refl
 
-  keeps : (n : ℕ) (t u : Bool) → leb (4 + n * 4) (length s - p) ≡ u
+  keeps_any : (b : Bool) (n : ℕ) (t u : Bool) → leb (4 + n * 4) (length s - p) ≡ u
       → Taken (λ x. are_inside s x ≡ true)
-      (cond t (cond u (took (record { at = p + 4; count = n; clean = true }) (p + 4 + n * 4) true) (refused (cut_short (4 + n * 4) s p))) (refused (cut_short 4 s p)))
+      (cond t (cond u (took (record { at = p + 4; count = n; clean = b }) (p + 4 + n * 4) true) (refused (cut_short (4 + n * 4) s p))) (refused (cut_short 4 s p)))
   unfolding are_inside
-  keeps n false u e = tt
-  keeps n true false e = tt
-  keeps n true true e = le-leb (p + 4 + n * 4) (length s) (omega (arith, leb-true (4 + n * 4) (length s - p) e))
+  keeps_any b n false u e = tt
+  keeps_any b n true false e = tt
+  keeps_any b n true true e = le-leb (p + 4 + n * 4) (length s) (omega (arith, leb-true (4 + n * 4) (length s - p) e))
 
   pub words-kept : Taken (λ x. are_inside s x ≡ true) (word_piece_at s p)
-  words-kept = keeps (number_at 4 s p) (leb 4 (length s - p)) (leb (4 + number_at 4 s p * 4) (length s - p)) refl
+  words-kept = keeps_any _ (number_at 4 s p) (leb 4 (length s - p)) (leb (4 + number_at 4 s p * 4) (length s - p)) refl
 
 module _ (s : List ℕ) (x : Piece) where
   pub words-yes : x.at + x.count * 4 ≤ length s → are_inside s x ≡ true

@@ -130,7 +130,7 @@ module _ {M S : Type 0} (F : Format M S) (s : List ℕ) (x : S) where
         go true ha false hb c hc d hd r hr = no {r = TooLong} (simp (ha, hb) at e)
         go true ha true hb false hc d hd r hr = no {r = Outside} (simp (ha, hb, hc) at e)
         go true ha true hb true hc false hd r hr = no {r = TooLong} (simp (ha, hb, hc, hd) at e)
-        go true ha true hb true hc true hd false hr = no {r = NoRoom (length (output F s x))} (simp (ha, hb, hc, hd, hr) at e)
+        go true ha true hb true hc true hd false hr = no (simp (ha, hb, hc, hd, hr) at e)
         go true ha true hb true hc true hd true hr =
             let f : ◌≡◌ {A = Written} (done n) (done (at + length (output F s x))) = simp (ha, hb, hc, hd, hr) at e in
             record {
@@ -269,11 +269,6 @@ module _ {M S : Type 0} (F : Format M S) (s : List ℕ) (x : S) (o : List ℕ) w
 module _ {M S : Type 0} (F : Format M S) (s : List ℕ) (x : S) {n : ℕ} (l : length (output F s x) ≡ n) (r : Ready F s x) (at : ℕ) (o : List ℕ)
     (h : at ≤ length o) where
   module _ (k : n ≤ most) where
-    pub sized-short : length o - at < n → Writes F s x at o (unwritten (NoRoom n)) o
-    sized-short g =
-        subst (λ z. Writes F s x at o (unwritten (NoRoom z)) o) l
-        (writes_short F s x at o h r.short r.inside (omega arith) (omega arith))
-
     pub sized-put : F.codec.kind.Good (F.held.mean s x) → n ≤ length o - at → {zs : List ℕ}
         → Put (mid_of at (length o - at) o) zs n (output F s x) → Writes F s x at o (done (at + n)) (put_mid at (length o - at) o zs)
     sized-put good g f = writes-done F s x at o h r.short r.inside (omega arith) good (omega arith) f

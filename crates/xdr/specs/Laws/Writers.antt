@@ -19,7 +19,7 @@ use Rattle.xdr.specs.Meaning.Pieces.{size_up_to, words_up_to}
 use Rattle.xdr.specs.Laws.Words.{words-le, words-length}
 use Rattle.xdr.specs.Laws.Padding.{words-within}
 use Rattle.xdr.specs.declared.piece.Piece.{Piece}
-use Rattle.xdr.specs.Laws.Room.{room_in, room-off, room-laid}
+use Rattle.xdr.specs.Laws.Room.{room_in, room-laid}
 use Rattle.xdr.specs.Laws.Placing.{placing-as, refuses, ready, at_place, wrote_of}
 use Rattle.xdr.specs.declared.answer.Wrote.{Wrote}
 use Rattle.xdr.specs.declared.answer.Wrote.TheVariants as wrote
@@ -62,10 +62,6 @@ module _ (len at n k : ℕ) (w : Wrote) where
 module _ {M : Type 0} (C : Codec M) (small : (x : M) → length (C.kind.write x) ≤ most) (x : M) (at : ℕ) (o : List ℕ) (w : Wrote) (n : ℕ) where
   plain-small : n ≡ length (C.kind.write x) → n ≤ most
   plain-small e = omega (arith, small x)
-
-  pub plain-off : (q : Refusal) → n ≡ length (C.kind.write x) → view_wrote w ≡ roomed (length o) at n → w ≡ wrote.Refused q
-      → Writes (exactly C) [] x at o (view_wrote w) o
-  plain-off q l e f = room-off (exactly C) [] x (sym l) (no_pieces C x) (plain-small l) at o e f
 
   pub plain-on : (k : ℕ) (zs : List ℕ) → n ≡ length (C.kind.write x) → view_wrote w ≡ roomed (length o) at n → w ≡ wrote.Done k → C.kind.Good x
       → zs ≡ laid (C.kind.write x) (mid_of at (length o - at) o) → Writes (exactly C) [] x at o (view_wrote w) (put_mid at (length o - at) o zs)

@@ -1,6 +1,7 @@
 -- made by tools/generate from crates/mount/rfc/portmap.x
 use borrow.Author.Rules.{rules}
-use Rattle.xdr.specs.Laws.Lays.{fixed_off, rooms, fixed_on}
+use Rattle.xdr.specs.Laws.Lays.{rooms, fixed_on}
+use Rattle.xdr.proofs.Refused.{fixed_off}
 use Rattle.mount.proofs.PortmapRanges.{port-mapping-good}
 use Rattle.mount.specs.Laws.Portmap.{port-mapping-fixed}
 use Rattle.mount.proofs.portmap.write_mapping.Statement.{statement}

@@ -1,7 +1,8 @@
 -- made by tools/generate from crates/nfs/rfc/change.x
 use borrow.Author.Rules.{rules}
-use Rattle.xdr.specs.Laws.Writers.{plain-off, plain-on}
+use Rattle.xdr.specs.Laws.Writers.{plain-on}
 use Rattle.xdr.specs.Laws.Lays.{rooms}
+use Rattle.xdr.proofs.Refused.{plain-off}
 use Rattle.nfs.proofs.ChangeRanges.{set-uid-good}
 use Rattle.nfs.specs.Laws.Change.{set-uid-small}
 use Rattle.nfs.specs.Meaning.Change.{set_uid}

@@ -1,5 +1,6 @@
 use borrow.Author.Rules.{rules}
-use Rattle.xdr.specs.Laws.Lays.{fixed_off, fixed_on, rooms}
+use Rattle.xdr.specs.Laws.Lays.{fixed_on, rooms}
+use Rattle.xdr.proofs.Refused.{fixed_off}
 use Rattle.nfsattr.specs.Laws.Sizes.{specdata-fixed}
 use Rattle.nfsattr.proofs.Ranges.{specdata-good}
 use Rattle.nfsattr.proofs.write.write_specdata3.Statement.{statement}

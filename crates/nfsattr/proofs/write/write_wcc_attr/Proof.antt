@@ -1,5 +1,6 @@
 use borrow.Author.Rules.{rules}
-use Rattle.xdr.specs.Laws.Lays.{fixed_off, fixed_on, rooms}
+use Rattle.xdr.specs.Laws.Lays.{fixed_on, rooms}
+use Rattle.xdr.proofs.Refused.{fixed_off}
 use Rattle.nfsattr.specs.Laws.Sizes.{wcc-attr-fixed}
 use Rattle.nfsattr.proofs.Ranges.{wcc-attr-good}
 use Rattle.nfsattr.proofs.write.write_wcc_attr.Statement.{statement}

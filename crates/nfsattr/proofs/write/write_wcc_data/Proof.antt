@@ -1,5 +1,6 @@
 use borrow.Author.Rules.{rules}
-use Rattle.xdr.specs.Laws.Writers.{plain-off, plain-on}
+use Rattle.xdr.specs.Laws.Writers.{plain-on}
+use Rattle.xdr.proofs.Refused.{plain-off}
 use Rattle.xdr.specs.Laws.Lays.{rooms}
 use Rattle.nfsattr.specs.Meaning.Attr.{wcc-data}
 use Rattle.nfsattr.specs.Laws.Bytes.{wcc-data-small}

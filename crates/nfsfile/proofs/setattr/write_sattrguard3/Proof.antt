@@ -1,7 +1,8 @@
 -- made by tools/generate from crates/nfsfile/rfc/setattr.x
 use borrow.Author.Rules.{rules}
-use Rattle.xdr.specs.Laws.Writers.{plain-off, plain-on}
+use Rattle.xdr.specs.Laws.Writers.{plain-on}
 use Rattle.xdr.specs.Laws.Lays.{rooms}
+use Rattle.xdr.proofs.Refused.{plain-off}
 use Rattle.nfsfile.proofs.SetattrRanges.{sattrguard-good}
 use Rattle.nfsfile.specs.Laws.Setattr.{sattrguard-small}
 use Rattle.nfsfile.specs.Meaning.Setattr.{sattrguard}

@@ -1,7 +1,8 @@
 use borrow.Author.Rules.{rules}
 use Rattle.xdr.specs.Meaning.Views.{view_u32, lost_u32}
 use Rattle.xdr.specs.Laws.Answers.{words-refused}
-use Rattle.xdr.specs.Laws.ByNumber.{passed, by_next, by-words-room, by-words-short, by-words}
+use Rattle.xdr.specs.Laws.ByNumber.{passed, by_next, by-words-room, by-words-short}
+use Rattle.xdr.proofs.Words.{by-words}
 use Rattle.xdr.proofs.inner.words_at.Statement.{statement}
 use Rattle.xdr.proofs.inner.words_at.Tie as tie
 

@@ -1,6 +1,7 @@
 use borrow.Author.Rules.{rules}
 use Rattle.xdr.specs.Laws.Fixed.{flag-fixed}
-use Rattle.xdr.specs.Laws.Lays.{fixed_off, fixed_on, rooms}
+use Rattle.xdr.specs.Laws.Lays.{fixed_on, rooms}
+use Rattle.xdr.proofs.Refused.{fixed_off}
 use Rattle.xdr.specs.Laws.Ranges.{flag-good}
 use Rattle.xdr.proofs.write.write_bool.Statement.{statement}
 use Rattle.xdr.proofs.write.write_bool.Tie as tie

@@ -1,5 +1,6 @@
 use borrow.Author.Rules.{rules}
-use Rattle.xdr.specs.Laws.Lays.{eight-off, eight-on, rooms}
+use Rattle.xdr.specs.Laws.Lays.{eight-on, rooms}
+use Rattle.xdr.proofs.Refused.{eight-off}
 use Rattle.xdr.proofs.write.write_eight.Statement.{statement}
 use Rattle.xdr.proofs.write.write_eight.Tie as tie
 

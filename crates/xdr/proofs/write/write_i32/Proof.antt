@@ -1,6 +1,7 @@
 use borrow.Author.Rules.{rules}
 use Rattle.xdr.specs.Laws.Fixed.{int-fixed}
-use Rattle.xdr.specs.Laws.Lays.{fixed_off, fixed_on, rooms, lay-one}
+use Rattle.xdr.specs.Laws.Lays.{fixed_on, rooms, lay-one}
+use Rattle.xdr.proofs.Refused.{fixed_off}
 use Rattle.xdr.specs.Laws.Ranges.{int-good}
 use Rattle.xdr.proofs.write.write_i32.Statement.{statement}
 use Rattle.xdr.proofs.write.write_i32.Tie as tie

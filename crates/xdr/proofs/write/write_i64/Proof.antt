@@ -1,6 +1,7 @@
 use borrow.Author.Rules.{rules}
 use Rattle.xdr.specs.Laws.Fixed.{long-fixed}
-use Rattle.xdr.specs.Laws.Lays.{fixed_off, fixed_on, rooms, lay-one}
+use Rattle.xdr.specs.Laws.Lays.{fixed_on, rooms, lay-one}
+use Rattle.xdr.proofs.Refused.{fixed_off}
 use Rattle.xdr.specs.Laws.Ranges.{long-good}
 use Rattle.xdr.proofs.write.write_i64.Statement.{statement}
 use Rattle.xdr.proofs.write.write_i64.Tie as tie

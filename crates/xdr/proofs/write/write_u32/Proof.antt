@@ -1,6 +1,7 @@
 use borrow.Author.Rules.{rules}
 use Rattle.xdr.specs.Laws.Fixed.{word-fixed}
-use Rattle.xdr.specs.Laws.Lays.{fixed_off, fixed_on, rooms}
+use Rattle.xdr.specs.Laws.Lays.{fixed_on, rooms}
+use Rattle.xdr.proofs.Refused.{fixed_off}
 use Rattle.xdr.specs.Laws.Ranges.{word_good}
 use Rattle.xdr.proofs.write.write_u32.Statement.{statement}
 use Rattle.xdr.proofs.write.write_u32.Tie as tie

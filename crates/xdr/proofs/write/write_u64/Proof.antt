@@ -1,6 +1,7 @@
 use borrow.Author.Rules.{rules}
 use Rattle.xdr.specs.Laws.Fixed.{hyper-fixed}
-use Rattle.xdr.specs.Laws.Lays.{fixed_off, fixed_on, rooms}
+use Rattle.xdr.specs.Laws.Lays.{fixed_on, rooms}
+use Rattle.xdr.proofs.Refused.{fixed_off}
 use Rattle.xdr.specs.Laws.Ranges.{hyper-good}
 use Rattle.xdr.proofs.write.write_u64.Statement.{statement}
 use Rattle.xdr.proofs.write.write_u64.Tie as tie

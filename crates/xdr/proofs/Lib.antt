@@ -1,0 +1,4 @@
+pub mod Flagged
+pub mod Refused
+pub mod Within
+pub mod Words
