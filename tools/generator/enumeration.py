@@ -1,6 +1,6 @@
 """The text of a closed enumeration."""
 
-from generator.kind import COPIED, DROPPED, Kind, Proof, lower, rules, of_definitions
+from generator.kind import COPIED, Kind, Proof, lower, rules, of_definitions
 from generator.known import Known, escaped
 from generator.status import Status
 from generator.table import Trouble
@@ -23,7 +23,7 @@ class Enumeration(Kind):
     def code(self):
         return [
             self.enum_code(),
-            f"{DROPPED}pub enum {self.found} {{\n    None,\n    Is({self.code_type}),\n}}",
+            f"{COPIED}pub enum {self.found} {{\n    None,\n    Is({self.code_type}),\n}}",
             self.numbers_code(),
             self.answer_code(),
             f"""{self.at_head()}

@@ -4,12 +4,8 @@ from generator.known import bracket, camel, escaped, law_head, stem
 
 RULES = "(search rules)"
 
-# Before a type whose values are used again and again, and before that of an answer, which may be let go.
+# Before each type: its values are plain, so they are copied, and may be let go.
 COPIED = "#[derive(Clone, Copy)]\n"
-DROPPED = "#[derive(Drop)]\n"
-
-# Kinds whose answers the crate reader looks at and hands on, so that they are copied too.
-HANDED_ON = {"diropargs3", "nfs_fh3"}
 
 
 def lower(meaning):
@@ -106,7 +102,7 @@ class Kind:
         return ", ".join(fields)
 
     def answer_code(self):
-        return f"""{COPIED if self.name in HANDED_ON else DROPPED}pub enum {self.answer} {{
+        return f"""{COPIED}pub enum {self.answer} {{
     Refused(Refusal),
     Took {{ {self.took(value=self.code_type, next="usize", plain="bool")} }},
 }}

@@ -1,6 +1,6 @@
 """The text of a program's procedures: their arguments, and their results, read by the number of the procedure."""
 
-from generator.kind import DROPPED, RULES, Answers, Proof, rules
+from generator.kind import COPIED, RULES, Answers, Proof, rules
 from generator.known import escaped
 
 # A type for all arguments, and one for all results: the type, what a field of it is called, and what the comment of its reader says.
@@ -41,8 +41,8 @@ class Program:
         parts = []
         for T, stem, comment, entries in self.halves():
             cases = "".join(f"    {name}({kind.type}),\n" for name, _, kind in entries)
-            parts.append(f"{DROPPED}pub enum {T} {{\n{cases}}}")
-            parts.append(f"// `Another`: no procedure of this number is known here.\n{DROPPED}pub enum {T}Read {{\n    Refused(Refusal),\n    Another,\n    Took {{ value: {T}, next: usize, plain: bool }},\n}}")
+            parts.append(f"{COPIED}pub enum {T} {{\n{cases}}}")
+            parts.append(f"// `Another`: no procedure of this number is known here.\n{COPIED}pub enum {T}Read {{\n    Refused(Refusal),\n    Another,\n    Took {{ value: {T}, next: usize, plain: bool }},\n}}")
             parts += [self.one_code(T, stem, name, kind) for name, _, kind in entries]
             arms = "".join(f"        {number} => {stem}_of_{name.lower()}(src, at),\n" for name, number, _ in entries)
             parts.append(f"""// {comment}

@@ -7,7 +7,7 @@ use crate::words::{MarkAt, NumberAt, after, bytes_at, is_end, mark_at, number_at
 use crate::{print, why};
 use rpcwire::{Assembler, AssemblerMade, Fed};
 use stdio::{Out, Output, say};
-use xdr::{Piece, Refusal, Wrote};
+use xdr::{Piece, Wrote};
 
 fn fragment_into(
     message: &[u8],
@@ -66,53 +66,36 @@ pub(crate) fn fragment(
 }
 
 // The state that an answer leaves, whatever the answer is.
-pub(crate) fn state_of(f: &Fed) -> Assembler {
+pub(crate) fn state_of(f: Fed) -> Assembler {
     match f {
         Fed::Refused {
             refusal: _,
             state,
             used: _,
-        } => *state,
-        Fed::More { state, used: _ } => *state,
+        } => state,
+        Fed::More { state, used: _ } => state,
         Fed::Complete {
             length: _,
             state,
             used: _,
-        } => *state,
+        } => state,
     }
 }
 
-pub(crate) fn used_of(f: &Fed) -> usize {
+pub(crate) fn used_of(f: Fed) -> usize {
     match f {
         Fed::Refused {
             refusal: _,
             state: _,
             used,
-        } => *used,
-        Fed::More { state: _, used } => *used,
+        } => used,
+        Fed::More { state: _, used } => used,
         Fed::Complete {
             length: _,
             state: _,
             used,
-        } => *used,
+        } => used,
     }
-}
-
-fn fed_refused(to: &mut Output, out: &mut [u8], at: Out, refusal: Refusal, used: usize) -> Out {
-    let n = say(to, out, at, b"refused");
-    let m = print::number(to, out, n, refusal.number() as usize);
-    print::number(to, out, m, used)
-}
-
-fn fed_more(to: &mut Output, out: &mut [u8], at: Out, used: usize) -> Out {
-    let n = say(to, out, at, b"more");
-    print::number(to, out, n, used)
-}
-
-fn fed_complete(to: &mut Output, out: &mut [u8], at: Out, length: usize, used: usize) -> Out {
-    let n = say(to, out, at, b"complete");
-    let m = print::number(to, out, n, length);
-    print::number(to, out, m, used)
 }
 
 // One answer of the assembler, all but a record.
@@ -122,13 +105,24 @@ fn fed(to: &mut Output, out: &mut [u8], at: Out, f: Fed) -> Out {
             refusal,
             state: _,
             used,
-        } => fed_refused(to, out, at, refusal, used),
-        Fed::More { state: _, used } => fed_more(to, out, at, used),
+        } => {
+            let n = say(to, out, at, b"refused");
+            let m = print::number(to, out, n, refusal.number() as usize);
+            print::number(to, out, m, used)
+        }
+        Fed::More { state: _, used } => {
+            let n = say(to, out, at, b"more");
+            print::number(to, out, n, used)
+        }
         Fed::Complete {
             length,
             state: _,
             used,
-        } => fed_complete(to, out, at, length, used),
+        } => {
+            let n = say(to, out, at, b"complete");
+            let m = print::number(to, out, n, length);
+            print::number(to, out, m, used)
+        }
     }
 }
 
@@ -171,9 +165,8 @@ fn feed_once(
 ) -> Out {
     fill(buf);
     let f = rpcwire::feed(state, run, buf);
-    let s = state_of(&f);
     let n = fed(to, out, at, f);
-    state_and_buffer(to, out, n, s, buf)
+    state_and_buffer(to, out, n, state_of(f), buf)
 }
 
 // state CAPACITY PLACED COUNT VALUE LEFT LAST STOPPED LENGTH RUN
@@ -317,48 +310,46 @@ fn feed_part(
     at: Out,
 ) -> Feeding {
     let f = rpcwire::feed(given, run, buf);
+    let n = fed(to, out, at, f);
     match f {
         Fed::Refused {
-            refusal,
+            refusal: _,
             state,
             used,
         } => Feeding {
             state,
             used,
             goes_on: false,
-            at: fed_refused(to, out, at, refusal, used),
+            at: n,
         },
         Fed::More { state, used } => Feeding {
             state,
             used,
             goes_on: true,
-            at: fed_more(to, out, at, used),
+            at: n,
         },
         Fed::Complete {
             length,
             state,
             used,
-        } => {
-            let n = fed_complete(to, out, at, length, used);
-            Feeding {
-                state,
-                used,
-                goes_on: true,
-                at: print::hex(
-                    to,
-                    out,
-                    n,
-                    xdr::part(
-                        buf,
-                        Piece {
-                            at: 0,
-                            count: length,
-                            clean: true,
-                        },
-                    ),
+        } => Feeding {
+            state,
+            used,
+            goes_on: true,
+            at: print::hex(
+                to,
+                out,
+                n,
+                xdr::part(
+                    buf,
+                    Piece {
+                        at: 0,
+                        count: length,
+                        clean: true,
+                    },
                 ),
-            }
-        }
+            ),
+        },
     }
 }
 

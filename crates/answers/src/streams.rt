@@ -65,7 +65,7 @@ fn hear(
     let s = h.state;
     let w = h.at;
     let f = rpcwire::feed(s, run, buf);
-    let used = further(end, h.used, used_of(&f));
+    let used = further(end, h.used, used_of(f));
     match f {
         Fed::Refused {
             refusal: r,
@@ -212,8 +212,8 @@ fn hear_after_stop(h: Heard, stream: &[u8], buf: &mut [u8]) -> Heard {
         buf,
     );
     Heard {
-        state: state_of(&f),
-        used: further(stream.len(), i, used_of(&f)),
+        state: state_of(f),
+        used: further(stream.len(), i, used_of(f)),
         goes_on: false,
         at: w,
     }

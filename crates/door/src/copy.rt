@@ -8,7 +8,7 @@ use xdr::order::room;
 use xdr::{Marks, Refusal, Wrote};
 
 // The marks of a reading in one case, so that an answer holds them in one byte: those of no piece, of one and of two.
-#[derive(Drop)]
+#[derive(Clone, Copy)]
 pub enum Marking {
     None,
     Clean,
@@ -69,7 +69,7 @@ impl Marking {
     }
 }
 
-#[derive(Drop)]
+#[derive(Clone, Copy)]
 pub enum Copied {
     // The kind has no such number.
     Unknown,

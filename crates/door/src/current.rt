@@ -151,7 +151,7 @@ pub fn yugerzat_read_current_rpc_msg(message: &[u8], at: usize, info: &mut [u64]
     }
 }
 
-#[derive(Drop)]
+#[derive(Clone, Copy)]
 pub enum AcceptStatFound {
     None,
     Is(accept_stat),
@@ -171,7 +171,7 @@ fn accept_stat_of(v: u64) -> AcceptStatFound
     }
 }
 
-#[derive(Drop)]
+#[derive(Clone, Copy)]
 pub enum AuthStatFound {
     None,
     Is(auth_stat),
@@ -200,7 +200,7 @@ fn auth_stat_of(v: u64) -> AuthStatFound
     }
 }
 
-#[derive(Drop)]
+#[derive(Clone, Copy)]
 pub enum AcceptFound {
     None,
     Is(accept_body),
@@ -226,7 +226,7 @@ fn accept_of(stat: accept_stat, low: u64, high: u64) -> AcceptFound
     }
 }
 
-#[derive(Drop)]
+#[derive(Clone, Copy)]
 pub enum ReplyFound {
     None,
     Is(reply_body),
@@ -304,7 +304,7 @@ fn reply_of(fields: &[u64]) -> ReplyFound
 }
 
 // What a list's numbers are: a reply, or not.
-#[derive(Drop)]
+#[derive(Clone, Copy)]
 pub enum GivenReply {
     Wide,
     Is(rpc_msg),

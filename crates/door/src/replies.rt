@@ -13,7 +13,7 @@ use rpc::{
 };
 use xdr::Piece;
 
-#[derive(Drop)]
+#[derive(Clone, Copy)]
 pub enum AcceptStatFound {
     None,
     Is(accept_stat),
@@ -32,7 +32,7 @@ fn accept_stat_of(v: u64) -> AcceptStatFound
     }
 }
 
-#[derive(Drop)]
+#[derive(Clone, Copy)]
 pub enum AuthStatFound {
     None,
     Is(auth_stat),
@@ -52,7 +52,7 @@ fn auth_stat_of(v: u64) -> AuthStatFound
 }
 
 // What two numbers are: the versions of a mismatch_info, or not.
-#[derive(Drop)]
+#[derive(Clone, Copy)]
 pub enum InfoFound {
     None,
     Is(mismatch_info),
@@ -73,7 +73,7 @@ pub(crate) fn info_of(low: u64, high: u64) -> InfoFound
     })
 }
 
-#[derive(Drop)]
+#[derive(Clone, Copy)]
 pub enum AcceptFound {
     None,
     Is(accept_body),
@@ -98,7 +98,7 @@ fn accept_of(stat: accept_stat, low: u64, high: u64) -> AcceptFound
     }
 }
 
-#[derive(Drop)]
+#[derive(Clone, Copy)]
 pub enum ReplyFound {
     None,
     Is(reply_body),
@@ -176,7 +176,7 @@ fn reply_of(fields: &[u64]) -> ReplyFound
 }
 
 // What a list's numbers are: a reply, or not.
-#[derive(Drop)]
+#[derive(Clone, Copy)]
 pub enum GivenReply {
     Wide,
     Is(rpc_msg),

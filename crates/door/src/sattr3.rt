@@ -14,7 +14,7 @@ use xdr::inner::{bool_at, u32_at, u64_at};
 use xdr::order::{Opening, open_at};
 use xdr::{BoolRead, U32Read, U64Read};
 
-#[derive(Drop)]
+#[derive(Clone, Copy)]
 pub enum Step {
     // It is refused.
     Lost,

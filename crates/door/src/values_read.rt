@@ -382,13 +382,13 @@ pub fn yugerzat_read_auth_unix(message: &[u8], at: usize, count: usize, info: &m
 }
 
 // Two and three figures that a part of a value has.
-#[derive(Drop)]
+#[derive(Clone, Copy)]
 struct Two {
     first: u64,
     second: u64,
 }
 
-#[derive(Drop)]
+#[derive(Clone, Copy)]
 pub(crate) struct Three {
     pub first: u64,
     pub second: u64,

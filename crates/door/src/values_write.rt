@@ -32,7 +32,7 @@ pub const WIDE_NUMBER: u32 = 253;
 pub(crate) const WORDS: u64 = 4294967296;
 
 // What a list's numbers are: a fattr3, or not.
-#[derive(Drop)]
+#[derive(Clone, Copy)]
 pub enum GivenFattr3 {
     Wide,
     Is(fattr3),
@@ -534,7 +534,7 @@ pub fn yugerzat_write_sattr3(fields: &[u64], out: &mut [u8], start: usize, info:
     0
 }
 
-#[derive(Drop)]
+#[derive(Clone, Copy)]
 pub enum FlavorFound {
     None,
     Is(auth_flavor),
@@ -564,7 +564,7 @@ fn call_words(fields: &[u64]) -> bool
 }
 
 // What a list's numbers are: a call, or not.
-#[derive(Drop)]
+#[derive(Clone, Copy)]
 pub enum GivenCall {
     Wide,
     Is { xid: u32, call: call_body },
@@ -730,7 +730,7 @@ fn unix_words(fields: &[u64]) -> bool
 }
 
 // What a list's numbers are: an auth_unix, or not.
-#[derive(Drop)]
+#[derive(Clone, Copy)]
 pub enum GivenUnix {
     Wide,
     Is(auth_unix),

@@ -22,10 +22,11 @@ pub(crate) fn three(to: &mut Output, out: &mut [u8], at: Out, a: usize, b: usize
 // A refusal: its number, its place where it has one, and how many bytes it wants where it wants any.
 pub(crate) fn refusal(to: &mut Output, out: &mut [u8], at: Out, r: Refusal) -> Out {
     let n = say(to, out, at, b" refused");
+    let m = number(to, out, n, r.number() as usize);
     match r {
-        Refusal::Ended { place, wanting } => three(to, out, n, 1, place, wanting),
-        Refusal::Undeclared(place) => two(to, out, n, 2, place),
-        _ => number(to, out, n, r.number() as usize),
+        Refusal::Ended { place, wanting } => two(to, out, m, place, wanting),
+        Refusal::Undeclared(place) => number(to, out, m, place),
+        _ => m,
     }
 }
 

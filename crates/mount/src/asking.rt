@@ -35,7 +35,7 @@ const PMAPPROC_NULL: u32 = 0;
 
 const PMAPPROC_GETPORT: u32 = 3;
 
-#[derive(Drop)]
+#[derive(Clone, Copy)]
 pub enum Asked {
     Refused(Refusal),
     // A reply of so many bytes stands at the front of the output.

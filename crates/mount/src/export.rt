@@ -29,7 +29,7 @@ pub struct exportnode {
 // An export list: the place of its first flag, and the count of its entries, with one mark over them all.
 pub type exports = Piece;
 
-#[derive(Drop)]
+#[derive(Clone, Copy)]
 pub enum ExportnodeRead {
     Refused(Refusal),
     Took {
@@ -46,7 +46,7 @@ pub enum NextExport {
     Export(exportnode),
 }
 
-#[derive(Drop)]
+#[derive(Clone, Copy)]
 pub enum NextExportRead {
     Refused(Refusal),
     Took {
@@ -57,14 +57,14 @@ pub enum NextExportRead {
 }
 
 // The first path that is over the bound, so far.
-#[derive(Drop)]
+#[derive(Clone, Copy)]
 pub enum Long {
     Nowhere,
     At(usize),
 }
 
 // A list from its first flag to its end: whether all its paths are within the bound, or where the first is that is not. `clean` is its mark.
-#[derive(Drop)]
+#[derive(Clone, Copy)]
 pub enum Walked {
     Refused(Refusal),
     Within {

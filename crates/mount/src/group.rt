@@ -22,7 +22,7 @@ pub enum NextGroup {
     Name(Piece),
 }
 
-#[derive(Drop)]
+#[derive(Clone, Copy)]
 pub enum NextGroupRead {
     Refused(Refusal),
     Took {

@@ -43,7 +43,7 @@ pub enum mountstat3 {
     Failed(mountfail3),
 }
 
-#[derive(Drop)]
+#[derive(Clone, Copy)]
 pub enum Mountstat3Found {
     None,
     Is(mountstat3),
@@ -104,7 +104,7 @@ impl mountstat3 {
     }
 }
 
-#[derive(Drop)]
+#[derive(Clone, Copy)]
 pub enum Mountstat3Read {
     Refused(Refusal),
     Took { value: mountstat3, next: usize },
@@ -163,7 +163,7 @@ pub struct mountres3_ok {
     pub auth_flavors: Piece,
 }
 
-#[derive(Drop)]
+#[derive(Clone, Copy)]
 pub enum Mountres3OkRead {
     Refused(Refusal),
     Took {
@@ -280,7 +280,7 @@ pub enum mountres3 {
     Failed(mountfail3),
 }
 
-#[derive(Drop)]
+#[derive(Clone, Copy)]
 pub enum Mountres3Read {
     Refused(Refusal),
     Took {

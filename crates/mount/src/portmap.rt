@@ -31,7 +31,7 @@ impl mapping {
     }
 }
 
-#[derive(Drop)]
+#[derive(Clone, Copy)]
 pub enum MappingRead {
     Refused(Refusal),
     Took { value: mapping, next: usize },

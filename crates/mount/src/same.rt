@@ -9,7 +9,7 @@ use crate::export::{NextExport, NextExportRead, Walked, exportnode, next_node_at
 use crate::group::{NextGroup, NextGroupRead, next_group_at};
 use xdr::{MOST, Piece, Refusal};
 
-#[derive(Drop)]
+#[derive(Clone, Copy)]
 pub enum Compared {
     Refused(Refusal),
     Same,
@@ -17,7 +17,7 @@ pub enum Compared {
 }
 
 // How a held list stands in its source: it does not read with its count at its place, it has a path over the bound, or neither.
-#[derive(Drop)]
+#[derive(Clone, Copy)]
 pub enum Standing {
     Outside,
     Long,

@@ -5,19 +5,19 @@ ghost use Rattle.nfs.specs.Meaning.Views.{lost_time_how, lost_set_atime, lost_se
 use crate::set::{_time_how, sattr3, set_atime, set_mtime};
 use xdr::Refusal;
 
-#[derive(Drop)]
+#[derive(Clone, Copy)]
 pub enum TimeHowRead {
     Refused(Refusal),
     Took { value: _time_how, next: usize },
 }
 
-#[derive(Drop)]
+#[derive(Clone, Copy)]
 pub enum SetAtimeRead {
     Refused(Refusal),
     Took { value: set_atime, next: usize },
 }
 
-#[derive(Drop)]
+#[derive(Clone, Copy)]
 pub enum SetMtimeRead {
     Refused(Refusal),
     Took { value: set_mtime, next: usize },

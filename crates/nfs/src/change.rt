@@ -17,7 +17,7 @@ pub enum set_mode3 {
     mode(mode3),
 }
 
-#[derive(Drop)]
+#[derive(Clone, Copy)]
 pub enum SetMode3Read {
     Refused(Refusal),
     Took {
@@ -116,7 +116,7 @@ pub enum set_uid3 {
     uid(uid3),
 }
 
-#[derive(Drop)]
+#[derive(Clone, Copy)]
 pub enum SetUid3Read {
     Refused(Refusal),
     Took {
@@ -215,7 +215,7 @@ pub enum set_gid3 {
     gid(gid3),
 }
 
-#[derive(Drop)]
+#[derive(Clone, Copy)]
 pub enum SetGid3Read {
     Refused(Refusal),
     Took {
@@ -314,7 +314,7 @@ pub enum set_size3 {
     size(size3),
 }
 
-#[derive(Drop)]
+#[derive(Clone, Copy)]
 pub enum SetSize3Read {
     Refused(Refusal),
     Took {

@@ -27,7 +27,7 @@ pub const FSF_HOMOGENEOUS: u32 = 8;
 pub const FSF_CANSETTIME: u32 = 16;
 
 // All of them as one value.
-#[derive(Drop)]
+#[derive(Clone, Copy)]
 pub struct Constants {
     pub program: u32,
     pub version: u32,

@@ -139,7 +139,7 @@ pub enum post_op_fh3 {
     handle(nfs_fh3),
 }
 
-#[derive(Drop)]
+#[derive(Clone, Copy)]
 pub enum PostOpFh3Read {
     Refused(Refusal),
     Took {
@@ -428,7 +428,7 @@ pub struct symlinkdata3 {
     pub symlink_data: nfspath3,
 }
 
-#[derive(Drop)]
+#[derive(Clone, Copy)]
 pub enum Symlinkdata3Read {
     Refused(Refusal),
     Took {

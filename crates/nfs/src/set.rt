@@ -9,14 +9,14 @@ use crate::change::{set_gid3, set_mode3, set_size3, set_uid3};
 use nfsattr::attr::nfstime3;
 
 // The tag of `set_atime` and `set_mtime`.
-#[derive(Drop)]
+#[derive(Clone, Copy)]
 pub enum _time_how {
     DONT_CHANGE,
     SET_TO_SERVER_TIME,
     SET_TO_CLIENT_TIME,
 }
 
-#[derive(Drop)]
+#[derive(Clone, Copy)]
 pub enum HowFound {
     None,
     Is(_time_how),

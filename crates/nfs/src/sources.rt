@@ -51,7 +51,7 @@ pub fn write_diropargs3_from(
 }
 
 // Whether it was written, and the place after it.
-#[derive(Drop)]
+#[derive(Clone, Copy)]
 pub enum Fitted {
     No,
     To(usize),

@@ -8,25 +8,25 @@ use crate::attr::{
 use crate::stat::nfsstat3;
 use xdr::Refusal;
 
-#[derive(Drop)]
+#[derive(Clone, Copy)]
 pub enum Nfsstat3Read {
     Refused(Refusal),
     Took { value: nfsstat3, next: usize },
 }
 
-#[derive(Drop)]
+#[derive(Clone, Copy)]
 pub enum Ftype3Read {
     Refused(Refusal),
     Took { value: ftype3, next: usize },
 }
 
-#[derive(Drop)]
+#[derive(Clone, Copy)]
 pub enum Specdata3Read {
     Refused(Refusal),
     Took { value: specdata3, next: usize },
 }
 
-#[derive(Drop)]
+#[derive(Clone, Copy)]
 pub enum Nfstime3Read {
     Refused(Refusal),
     Took { value: nfstime3, next: usize },
@@ -38,13 +38,13 @@ pub enum Fattr3Read {
     Took { value: fattr3, next: usize },
 }
 
-#[derive(Drop)]
+#[derive(Clone, Copy)]
 pub enum WccAttrRead {
     Refused(Refusal),
     Took { value: wcc_attr, next: usize },
 }
 
-#[derive(Drop)]
+#[derive(Clone, Copy)]
 pub enum PreOpAttrRead {
     Refused(Refusal),
     Took {
@@ -54,7 +54,7 @@ pub enum PreOpAttrRead {
     },
 }
 
-#[derive(Drop)]
+#[derive(Clone, Copy)]
 pub enum PostOpAttrRead {
     Refused(Refusal),
     Took {
@@ -64,7 +64,7 @@ pub enum PostOpAttrRead {
     },
 }
 
-#[derive(Drop)]
+#[derive(Clone, Copy)]
 pub enum WccDataRead {
     Refused(Refusal),
     Took {
@@ -74,7 +74,7 @@ pub enum WccDataRead {
     },
 }
 
-#[derive(Drop)]
+#[derive(Clone, Copy)]
 pub enum Fsinfo3Read {
     Refused(Refusal),
     Took {

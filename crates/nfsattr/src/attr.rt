@@ -38,7 +38,7 @@ pub enum ftype3 {
     NF3FIFO,
 }
 
-#[derive(Drop)]
+#[derive(Clone, Copy)]
 pub enum FtypeFound {
     None,
     Is(ftype3),

@@ -5,7 +5,7 @@ use crate::attr::{fattr3, ftype3, nfstime3, specdata3, wcc_attr};
 use crate::stat::nfsstat3;
 
 // The constant `SIZE` of each.
-#[derive(Drop)]
+#[derive(Clone, Copy)]
 pub struct FixedSizes {
     pub nfsstat3: usize,
     pub ftype3: usize,

@@ -37,20 +37,20 @@ pub enum nfsfail3 {
     NFS3ERR_JUKEBOX,
 }
 
-#[derive(Drop)]
+#[derive(Clone, Copy)]
 pub enum nfsstat3 {
     NFS3_OK,
     Failed(nfsfail3),
 }
 
 // What a number is, if it is declared.
-#[derive(Drop)]
+#[derive(Clone, Copy)]
 pub enum FailFound {
     None,
     Is(nfsfail3),
 }
 
-#[derive(Drop)]
+#[derive(Clone, Copy)]
 pub enum StatFound {
     None,
     Is(nfsstat3),

@@ -35,7 +35,7 @@ pub struct READ3args {
     pub count: count3,
 }
 
-#[derive(Drop)]
+#[derive(Clone, Copy)]
 pub enum Read3argsRead {
     Refused(Refusal),
     Took {
@@ -196,7 +196,7 @@ pub struct READ3resok {
     pub data: Piece,
 }
 
-#[derive(Drop)]
+#[derive(Clone, Copy)]
 pub enum Read3resokRead {
     Refused(Refusal),
     Took {
@@ -350,7 +350,7 @@ pub struct READ3resfail {
     pub file_attributes: post_op_attr,
 }
 
-#[derive(Drop)]
+#[derive(Clone, Copy)]
 pub enum Read3resfailRead {
     Refused(Refusal),
     Took {
@@ -414,7 +414,7 @@ pub enum READ3res {
     Failed(nfsfail3, READ3resfail),
 }
 
-#[derive(Drop)]
+#[derive(Clone, Copy)]
 pub enum Read3resRead {
     Refused(Refusal),
     Took {

@@ -35,7 +35,7 @@ pub enum stable_how {
     FILE_SYNC,
 }
 
-#[derive(Drop)]
+#[derive(Clone, Copy)]
 pub enum StableHowFound {
     None,
     Is(stable_how),
@@ -72,7 +72,7 @@ impl stable_how {
     }
 }
 
-#[derive(Drop)]
+#[derive(Clone, Copy)]
 pub enum StableHowRead {
     Refused(Refusal),
     Took { value: stable_how, next: usize },
@@ -133,7 +133,7 @@ pub struct WRITE3args {
     pub data: Piece,
 }
 
-#[derive(Drop)]
+#[derive(Clone, Copy)]
 pub enum Write3argsRead {
     Refused(Refusal),
     Took {
@@ -411,7 +411,7 @@ pub struct WRITE3resok {
     pub verf: writeverf3,
 }
 
-#[derive(Drop)]
+#[derive(Clone, Copy)]
 pub enum Write3resokRead {
     Refused(Refusal),
     Took {
@@ -540,7 +540,7 @@ pub struct WRITE3resfail {
     pub file_wcc: wcc_data,
 }
 
-#[derive(Drop)]
+#[derive(Clone, Copy)]
 pub enum Write3resfailRead {
     Refused(Refusal),
     Took {
@@ -604,7 +604,7 @@ pub enum WRITE3res {
     Failed(nfsfail3, WRITE3resfail),
 }
 
-#[derive(Drop)]
+#[derive(Clone, Copy)]
 pub enum Write3resRead {
     Refused(Refusal),
     Took {

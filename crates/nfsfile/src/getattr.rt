@@ -27,7 +27,7 @@ pub struct GETATTR3args {
     pub object: nfs_fh3,
 }
 
-#[derive(Drop)]
+#[derive(Clone, Copy)]
 pub enum Getattr3argsRead {
     Refused(Refusal),
     Took {
@@ -143,7 +143,7 @@ impl GETATTR3resok {
     }
 }
 
-#[derive(Drop)]
+#[derive(Clone, Copy)]
 pub enum Getattr3resokRead {
     Refused(Refusal),
     Took { value: GETATTR3resok, next: usize },
@@ -190,7 +190,7 @@ pub enum GETATTR3res {
     Failed(nfsfail3),
 }
 
-#[derive(Drop)]
+#[derive(Clone, Copy)]
 pub enum Getattr3resRead {
     Refused(Refusal),
     Took { value: GETATTR3res, next: usize },

@@ -31,7 +31,7 @@ pub struct LOOKUP3args {
     pub what: diropargs3,
 }
 
-#[derive(Drop)]
+#[derive(Clone, Copy)]
 pub enum Lookup3argsRead {
     Refused(Refusal),
     Took {
@@ -141,7 +141,7 @@ pub struct LOOKUP3resok {
     pub dir_attributes: post_op_attr,
 }
 
-#[derive(Drop)]
+#[derive(Clone, Copy)]
 pub enum Lookup3resokRead {
     Refused(Refusal),
     Took {
@@ -278,7 +278,7 @@ pub struct LOOKUP3resfail {
     pub dir_attributes: post_op_attr,
 }
 
-#[derive(Drop)]
+#[derive(Clone, Copy)]
 pub enum Lookup3resfailRead {
     Refused(Refusal),
     Took {
@@ -342,7 +342,7 @@ pub enum LOOKUP3res {
     Failed(nfsfail3, LOOKUP3resfail),
 }
 
-#[derive(Drop)]
+#[derive(Clone, Copy)]
 pub enum Lookup3resRead {
     Refused(Refusal),
     Took {

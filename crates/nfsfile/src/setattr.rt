@@ -36,7 +36,7 @@ pub enum sattrguard3 {
     obj_ctime(nfstime3),
 }
 
-#[derive(Drop)]
+#[derive(Clone, Copy)]
 pub enum Sattrguard3Read {
     Refused(Refusal),
     Took {
@@ -149,7 +149,7 @@ pub struct SETATTR3args {
     pub guard: sattrguard3,
 }
 
-#[derive(Drop)]
+#[derive(Clone, Copy)]
 pub enum Setattr3argsRead {
     Refused(Refusal),
     Took {
@@ -312,7 +312,7 @@ pub struct SETATTR3resok {
     pub obj_wcc: wcc_data,
 }
 
-#[derive(Drop)]
+#[derive(Clone, Copy)]
 pub enum Setattr3resokRead {
     Refused(Refusal),
     Took {
@@ -375,7 +375,7 @@ pub struct SETATTR3resfail {
     pub obj_wcc: wcc_data,
 }
 
-#[derive(Drop)]
+#[derive(Clone, Copy)]
 pub enum Setattr3resfailRead {
     Refused(Refusal),
     Took {
@@ -439,7 +439,7 @@ pub enum SETATTR3res {
     Failed(nfsfail3, SETATTR3resfail),
 }
 
-#[derive(Drop)]
+#[derive(Clone, Copy)]
 pub enum Setattr3resRead {
     Refused(Refusal),
     Took {

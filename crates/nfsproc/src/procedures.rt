@@ -22,7 +22,7 @@ use nfsfile::setattr::{
 };
 use xdr::Refusal;
 
-#[derive(Drop)]
+#[derive(Clone, Copy)]
 pub enum Arguments {
     GETATTR(GETATTR3args),
     SETATTR(SETATTR3args),
@@ -32,7 +32,7 @@ pub enum Arguments {
 }
 
 // `Another`: no procedure of this number is known here.
-#[derive(Drop)]
+#[derive(Clone, Copy)]
 pub enum ArgumentsRead {
     Refused(Refusal),
     Another,
@@ -122,7 +122,7 @@ pub fn read_arguments(procedure: u32, src: &[u8], at: usize) -> ArgumentsRead
     }
 }
 
-#[derive(Drop)]
+#[derive(Clone, Copy)]
 pub enum Results {
     GETATTR(GETATTR3res),
     SETATTR(SETATTR3res),
@@ -132,7 +132,7 @@ pub enum Results {
 }
 
 // `Another`: no procedure of this number is known here.
-#[derive(Drop)]
+#[derive(Clone, Copy)]
 pub enum ResultsRead {
     Refused(Refusal),
     Another,

@@ -12,7 +12,7 @@ use nfs::{Diropargs3Read, Sattr3Read, diropargs3, sattr3};
 use rpc::{RpcMsgRead, rpc_msg};
 use xdr::Refusal;
 
-#[derive(Drop)]
+#[derive(Clone, Copy)]
 pub enum MkdirRead {
     Refused(Refusal),
     Took {

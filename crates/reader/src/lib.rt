@@ -38,7 +38,7 @@ pub use step::{
 };
 
 // A message and the place of what comes next in it.
-#[derive(Drop)]
+#[derive(Clone, Copy)]
 pub struct Reader<'a> {
     pub src: &'a [u8],
     pub at: usize,

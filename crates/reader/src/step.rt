@@ -5,55 +5,55 @@ use nfs::{Diropargs3Read, Fattr3Read, NfsFh3Read, Sattr3Read};
 use rpc::RpcMsgRead;
 use xdr::{BoolRead, PieceRead, U32Read, U64Read};
 
-#[derive(Drop)]
+#[derive(Clone, Copy)]
 pub struct RpcMsgStep<'a> {
     pub reader: Reader<'a>,
     pub answer: RpcMsgRead,
 }
 
-#[derive(Drop)]
+#[derive(Clone, Copy)]
 pub struct U32Step<'a> {
     pub reader: Reader<'a>,
     pub answer: U32Read,
 }
 
-#[derive(Drop)]
+#[derive(Clone, Copy)]
 pub struct U64Step<'a> {
     pub reader: Reader<'a>,
     pub answer: U64Read,
 }
 
-#[derive(Drop)]
+#[derive(Clone, Copy)]
 pub struct BoolStep<'a> {
     pub reader: Reader<'a>,
     pub answer: BoolRead,
 }
 
-#[derive(Drop)]
+#[derive(Clone, Copy)]
 pub struct OpaqueStep<'a> {
     pub reader: Reader<'a>,
     pub answer: PieceRead,
 }
 
-#[derive(Drop)]
+#[derive(Clone, Copy)]
 pub struct NfsFh3Step<'a> {
     pub reader: Reader<'a>,
     pub answer: NfsFh3Read,
 }
 
-#[derive(Drop)]
+#[derive(Clone, Copy)]
 pub struct Diropargs3Step<'a> {
     pub reader: Reader<'a>,
     pub answer: Diropargs3Read,
 }
 
-#[derive(Drop)]
+#[derive(Clone, Copy)]
 pub struct Sattr3Step<'a> {
     pub reader: Reader<'a>,
     pub answer: Sattr3Read,
 }
 
-#[derive(Drop)]
+#[derive(Clone, Copy)]
 pub struct Fattr3Step<'a> {
     pub reader: Reader<'a>,
     pub answer: Fattr3Read,

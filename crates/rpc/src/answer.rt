@@ -11,50 +11,50 @@ use crate::reply::{
 use xdr::Refusal;
 
 // Kinds whose every form is the published one.
-#[derive(Drop)]
+#[derive(Clone, Copy)]
 pub enum MsgTypeRead {
     Refused(Refusal),
     Took { value: msg_type, next: usize },
 }
 
-#[derive(Drop)]
+#[derive(Clone, Copy)]
 pub enum ReplyStatRead {
     Refused(Refusal),
     Took { value: reply_stat, next: usize },
 }
 
-#[derive(Drop)]
+#[derive(Clone, Copy)]
 pub enum AcceptStatRead {
     Refused(Refusal),
     Took { value: accept_stat, next: usize },
 }
 
-#[derive(Drop)]
+#[derive(Clone, Copy)]
 pub enum RejectStatRead {
     Refused(Refusal),
     Took { value: reject_stat, next: usize },
 }
 
-#[derive(Drop)]
+#[derive(Clone, Copy)]
 pub enum AuthFlavorRead {
     Refused(Refusal),
     Took { value: auth_flavor, next: usize },
 }
 
-#[derive(Drop)]
+#[derive(Clone, Copy)]
 pub enum AuthStatRead {
     Refused(Refusal),
     Took { value: auth_stat, next: usize },
 }
 
-#[derive(Drop)]
+#[derive(Clone, Copy)]
 pub enum MismatchInfoRead {
     Refused(Refusal),
     Took { value: mismatch_info, next: usize },
 }
 
 // Kinds with padding or with defaults: plain says whether the bytes used are in published form.
-#[derive(Drop)]
+#[derive(Clone, Copy)]
 pub enum OpaqueAuthRead {
     Refused(Refusal),
     Took {
@@ -64,7 +64,7 @@ pub enum OpaqueAuthRead {
     },
 }
 
-#[derive(Drop)]
+#[derive(Clone, Copy)]
 pub enum AuthUnixRead {
     Refused(Refusal),
     Took {
@@ -74,7 +74,7 @@ pub enum AuthUnixRead {
     },
 }
 
-#[derive(Drop)]
+#[derive(Clone, Copy)]
 pub enum CallBodyRead {
     Refused(Refusal),
     Took {
@@ -84,7 +84,7 @@ pub enum CallBodyRead {
     },
 }
 
-#[derive(Drop)]
+#[derive(Clone, Copy)]
 pub enum AcceptBodyRead {
     Refused(Refusal),
     Took {
@@ -94,7 +94,7 @@ pub enum AcceptBodyRead {
     },
 }
 
-#[derive(Drop)]
+#[derive(Clone, Copy)]
 pub enum AcceptedReplyRead {
     Refused(Refusal),
     Took {
@@ -104,7 +104,7 @@ pub enum AcceptedReplyRead {
     },
 }
 
-#[derive(Drop)]
+#[derive(Clone, Copy)]
 pub enum RejectedReplyRead {
     Refused(Refusal),
     Took {
@@ -114,7 +114,7 @@ pub enum RejectedReplyRead {
     },
 }
 
-#[derive(Drop)]
+#[derive(Clone, Copy)]
 pub enum ReplyBodyRead {
     Refused(Refusal),
     Took {
@@ -124,7 +124,7 @@ pub enum ReplyBodyRead {
     },
 }
 
-#[derive(Drop)]
+#[derive(Clone, Copy)]
 pub enum RpcBodyRead {
     Refused(Refusal),
     Took {

@@ -6,7 +6,7 @@ use crate::auth::opaque_auth;
 use crate::reply::reply_body;
 
 // The tag of an rpc_body.
-#[derive(Drop)]
+#[derive(Clone, Copy)]
 pub enum msg_type {
     CALL,
     REPLY,

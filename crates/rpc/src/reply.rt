@@ -8,13 +8,13 @@ ghost use Rattle.xdr.specs.Meaning.Sizes.{OfSize};
 use crate::auth::{auth_stat, opaque_auth};
 
 // The tags of a reply_body, of an accept_body and of a rejected_reply.
-#[derive(Drop)]
+#[derive(Clone, Copy)]
 pub enum reply_stat {
     MSG_ACCEPTED,
     MSG_DENIED,
 }
 
-#[derive(Drop)]
+#[derive(Clone, Copy)]
 pub enum accept_stat {
     SUCCESS,
     PROG_UNAVAIL,
@@ -23,7 +23,7 @@ pub enum accept_stat {
     GARBAGE_ARGS,
 }
 
-#[derive(Drop)]
+#[derive(Clone, Copy)]
 pub enum reject_stat {
     RPC_MISMATCH,
     AUTH_ERROR,

@@ -24,14 +24,14 @@ pub struct Assembler {
 }
 
 // What asking for a capacity led to.
-#[derive(Drop)]
+#[derive(Clone, Copy)]
 pub enum AssemblerMade {
     Refused(Refusal),
     Ready(Assembler),
 }
 
 // What a run of bytes led to: the state to go on with, and how many bytes of the run were used.
-#[derive(Drop)]
+#[derive(Clone, Copy)]
 pub enum Fed {
     // Unfit, with the state as given; or Overrun, with the stopped state.
     Refused {

@@ -22,13 +22,13 @@ const PORTMAP: u32 = 100000;
 const MOUNT: u32 = 100005;
 
 // What an AUTH_UNIX credential says of the caller; the other flavors say nothing.
-#[derive(Drop)]
+#[derive(Clone, Copy)]
 pub enum Caller {
     Unnamed,
     Unix(auth_unix),
 }
 
-#[derive(Drop)]
+#[derive(Clone, Copy)]
 pub enum Choice {
     Refused(Refusal),
     // A reply of so many bytes stands at the front of the output.

@@ -41,7 +41,7 @@ fn value(c: u8) -> u8
 }
 
 // Whether a word spelled bytes for which there was room, and how many.
-#[derive(Drop)]
+#[derive(Clone, Copy)]
 pub struct Unhexed {
     pub good: bool,
     pub count: usize,

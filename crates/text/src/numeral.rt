@@ -2,7 +2,7 @@
 ghost use Rattle.std.specs.Prelude.{◌≡◌};
 ghost use Rattle.text.specs.Decimal.{Reads};
 
-#[derive(Drop)]
+#[derive(Clone, Copy)]
 pub enum Number {
     // The word is no number, or one of more than 64 bits.
     None,

@@ -17,13 +17,13 @@ pub enum U64Read {
     Took { value: u64, next: usize },
 }
 
-#[derive(Drop)]
+#[derive(Clone, Copy)]
 pub enum I32Read {
     Refused(Refusal),
     Took { value: i32, next: usize },
 }
 
-#[derive(Drop)]
+#[derive(Clone, Copy)]
 pub enum I64Read {
     Refused(Refusal),
     Took { value: i64, next: usize },
@@ -50,7 +50,7 @@ pub enum PieceRead {
 }
 
 // Two numbers that stand together.
-#[derive(Drop)]
+#[derive(Clone, Copy)]
 pub enum U32PairRead {
     Refused(Refusal),
     Took {
@@ -60,7 +60,7 @@ pub enum U32PairRead {
     },
 }
 
-#[derive(Drop)]
+#[derive(Clone, Copy)]
 pub enum U64PairRead {
     Refused(Refusal),
     Took {
@@ -71,7 +71,7 @@ pub enum U64PairRead {
 }
 
 // What a writer says: the place after what it wrote, or why nothing was written.
-#[derive(Drop)]
+#[derive(Clone, Copy)]
 pub enum Wrote {
     Refused(Refusal),
     Done(usize),

@@ -10,7 +10,7 @@ use crate::answer::Wrote;
 use crate::refusal::Refusal;
 
 // Whether a message may be read from a place on.
-#[derive(Drop)]
+#[derive(Clone, Copy)]
 pub enum Opening {
     Refused(Refusal),
     Open,

@@ -15,7 +15,7 @@ pub struct Piece {
 }
 
 // The marks of a value's pieces, in the order of its fields. No value has more than two.
-#[derive(Drop)]
+#[derive(Clone, Copy)]
 pub enum Marks {
     None,
     One(bool),
@@ -31,7 +31,7 @@ impl Piece {
 }
 
 // A word of a word list, where there is one.
-#[derive(Drop)]
+#[derive(Clone, Copy)]
 pub enum WordFound {
     None,
     Word(u32),

@@ -18,7 +18,7 @@ use xdr::inner::{bool_at, u32_at, u32_pair_at, u64_at, u64_pair_at};
 use xdr::{BoolRead, Refusal, U32PairRead, U32Read, U64PairRead, U64Read};
 
 // Fields that stand together in `fattr3`: its readers and writers go by these.
-#[derive(Drop)]
+#[derive(Clone, Copy)]
 pub struct Ids {
     pub ftype: ftype3,
     pub mode: mode3,
@@ -31,7 +31,7 @@ impl Ids {
     pub const SIZE: usize = 20;
 }
 
-#[derive(Drop)]
+#[derive(Clone, Copy)]
 pub struct Sizes {
     pub size: size3,
     pub used: size3,
@@ -44,7 +44,7 @@ impl Sizes {
     pub const SIZE: usize = 40;
 }
 
-#[derive(Drop)]
+#[derive(Clone, Copy)]
 pub struct Times {
     pub atime: nfstime3,
     pub mtime: nfstime3,
@@ -56,7 +56,7 @@ impl Times {
 }
 
 // The same of `fsinfo3`: of a READ or a WRITE the most bytes, the preferred number and what it is best a multiple of; and the rest.
-#[derive(Drop)]
+#[derive(Clone, Copy)]
 pub struct Transfer {
     pub max: u32,
     pub pref: u32,
@@ -67,7 +67,7 @@ impl Transfer {
     pub const SIZE: usize = 12;
 }
 
-#[derive(Drop)]
+#[derive(Clone, Copy)]
 pub struct Limits {
     pub dtpref: u32,
     pub maxfilesize: size3,
@@ -79,7 +79,7 @@ impl Limits {
     pub const SIZE: usize = 24;
 }
 
-#[derive(Drop)]
+#[derive(Clone, Copy)]
 pub enum IdsRead {
     Refused(Refusal),
     Took { value: Ids, next: usize },
@@ -96,7 +96,7 @@ impl IdsRead {
     }
 }
 
-#[derive(Drop)]
+#[derive(Clone, Copy)]
 pub enum SizesRead {
     Refused(Refusal),
     Took { value: Sizes, next: usize },
@@ -113,7 +113,7 @@ impl SizesRead {
     }
 }
 
-#[derive(Drop)]
+#[derive(Clone, Copy)]
 pub enum TimesRead {
     Refused(Refusal),
     Took { value: Times, next: usize },
@@ -130,7 +130,7 @@ impl TimesRead {
     }
 }
 
-#[derive(Drop)]
+#[derive(Clone, Copy)]
 pub enum TransferRead {
     Refused(Refusal),
     Took { value: Transfer, next: usize },
@@ -147,7 +147,7 @@ impl TransferRead {
     }
 }
 
-#[derive(Drop)]
+#[derive(Clone, Copy)]
 pub enum LimitsRead {
     Refused(Refusal),
     Took { value: Limits, next: usize },

@@ -8,19 +8,19 @@ use crate::current::reply::{
 };
 use xdr::Refusal;
 
-#[derive(Drop)]
+#[derive(Clone, Copy)]
 pub enum CurrentAcceptStatRead {
     Refused(Refusal),
     Took { value: accept_stat, next: usize },
 }
 
-#[derive(Drop)]
+#[derive(Clone, Copy)]
 pub enum CurrentAuthStatRead {
     Refused(Refusal),
     Took { value: auth_stat, next: usize },
 }
 
-#[derive(Drop)]
+#[derive(Clone, Copy)]
 pub enum CurrentAcceptBodyRead {
     Refused(Refusal),
     Took {
@@ -30,7 +30,7 @@ pub enum CurrentAcceptBodyRead {
     },
 }
 
-#[derive(Drop)]
+#[derive(Clone, Copy)]
 pub enum CurrentAcceptedReplyRead {
     Refused(Refusal),
     Took {
@@ -40,7 +40,7 @@ pub enum CurrentAcceptedReplyRead {
     },
 }
 
-#[derive(Drop)]
+#[derive(Clone, Copy)]
 pub enum CurrentRejectedReplyRead {
     Refused(Refusal),
     Took {
@@ -50,7 +50,7 @@ pub enum CurrentRejectedReplyRead {
     },
 }
 
-#[derive(Drop)]
+#[derive(Clone, Copy)]
 pub enum CurrentReplyBodyRead {
     Refused(Refusal),
     Took {
@@ -60,7 +60,7 @@ pub enum CurrentReplyBodyRead {
     },
 }
 
-#[derive(Drop)]
+#[derive(Clone, Copy)]
 pub enum CurrentRpcBodyRead {
     Refused(Refusal),
     Took {
@@ -70,7 +70,7 @@ pub enum CurrentRpcBodyRead {
     },
 }
 
-#[derive(Drop)]
+#[derive(Clone, Copy)]
 pub enum CurrentRpcMsgRead {
     Refused(Refusal),
     Took {

@@ -6,7 +6,7 @@ use crate::auth::opaque_auth;
 use crate::reply::mismatch_info;
 
 // What became of an accepted call; and below, why authentication failed. Both lists are longer than the crate's.
-#[derive(Drop)]
+#[derive(Clone, Copy)]
 pub enum accept_stat {
     SUCCESS,
     PROG_UNAVAIL,
