@@ -1,4 +1,4 @@
-// A call read whole, by steps of a reader. Its own parameters are plain, so a caller of it needs no walk by hand.
+// A call read whole, by steps of a reader, for callers that hold none.
 ghost use Rattle.std.specs.Prelude.{◌≡◌};
 ghost use Rattle.xdr.specs.Meaning.Public.{Answers};
 ghost use Rattle.nfs.specs.Meaning.Dir.{view_diropargs3};

@@ -1,8 +1,8 @@
 // Standard input and output for programs, by which nothing is lost in silence: all is written, and what cannot be read or written is said on
 // standard error.
 //
-// A call that is not ready (EAGAIN, on a descriptor that does not block) or that a signal interrupts is made again. A program has no exit
-// status: what it says on standard error is how others learn of a loss.
+// A call that is not ready (EAGAIN, on a descriptor that does not block) or that a signal interrupts is made again. Programs over it end with
+// status 0 whatever happened: what they say on standard error is how others learn of a loss.
 #![tactic(auto)]
 
 mod fail;
