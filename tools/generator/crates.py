@@ -1,4 +1,4 @@
-"""What the crates say of each kind: its reader, its writer, its answer, its meaning, and the laws about them."""
+"""What the crates say of each kind: its reader, its writer, its meaning, and the laws about them."""
 
 import re
 from collections import defaultdict
@@ -6,14 +6,15 @@ from dataclasses import dataclass
 
 from generator.table import Kind, Trouble, read_text, read_uses
 
-READER = re.compile(r"^pub fn read_(\w+)\(\s*src: &\[u8\],\s*at: usize,?\s*\) -> (\w+)\s+ensures .* \((view_\w+) result\)", re.M)
+READER = re.compile(r"^pub fn read_(\w+)\(\s*src: &\[u8\],\s*at: usize,?\s*\) -> Result<Took<(\w+)>, Refusal>\s+ensures .* \(view result\)", re.M)
 WRITER = re.compile(r"^pub fn write_(\w+)\(\s*(src: )?", re.M)
-ANSWER = re.compile(r"^pub enum (\w+) {\n((?:.*\n)*?)^}", re.M)
 PASSED_ON = re.compile(r"^pub use (\w+)::(\w+|\{[^}]*\});", re.M)
 DECLARED = re.compile(r"^(?:([a-z]+) )?pub (\S+) : (.*)$", re.M)
 # Also inside a module that has parameters, as the kinds over a reading are.
 UNFOLDABLE = re.compile(r"^ *unfoldable pub (\S+) : (.*)$", re.M)
 USED = re.compile(r"^use Rattle\.(\w+)\.(specs\.Meaning\.\w+)\.", re.M)
+# The values whose types the door names as they are.
+PLAIN_VALUES = {"bool", "i32", "i64", "u32", "u64", "Piece"}
 CODEC = re.compile(r"^(\S+) = record \{ codec = ([^;]+);", re.M)
 
 
@@ -33,14 +34,9 @@ class Facts:
 
     kind: Kind
     called: str  # the crate that the door calls its reader and its writer of
-    answer: str  # the type of the reader's answer
-    answer_crate: str  # the crate that the door names that type by
-    answer_module: str  # where the specifications have its cases
-    plain: bool  # the answer says whether the reading is plain
+    value: str  # what the code holds of a message, as the door names its type
     source: bool  # the writer takes the source that the pieces are of
     meaning: Name
-    view: Name
-    told: Name
     within: Name
     bound: int  # of `within`
     bounded: Name | None  # the law that the kind is another one under a bound that is refused
@@ -56,9 +52,7 @@ class Index:
         self.crate = crate
         self.readers = defaultdict(list)
         self.writers = defaultdict(list)
-        self.answers = defaultdict(list)
         self.meanings = defaultdict(list)
-        self.told = defaultdict(list)
         self.within = defaultdict(list)
         self.bounded = defaultdict(list)
         self.marked = defaultdict(list)
@@ -74,13 +68,10 @@ class Index:
             self.add_specs(path.relative_to(folder), read_text(path, root))
 
     def add_code(self, path, text):
-        for name, answer, view in READER.findall(text):
-            self.readers[name].append((answer, view))
+        for name, value in READER.findall(text):
+            self.readers[name].append((path.parts[1:-1], value))
         for name, source in WRITER.findall(text):
             self.writers[name].append(bool(source))
-        module = f"Rattle.{self.crate}.specs.declared." + ".".join(path.with_suffix("").parts[1:])
-        for name, cases in ANSWER.findall(text):
-            self.answers[name].append((self.crate, f"{module}.{name}", "plain: bool" in cases))
         if path.name == "lib.rt":
             self.passed_on.update((module, name) for module, names in PASSED_ON.findall(text) for name in re.findall(r"\w+", names))
 
@@ -90,10 +81,7 @@ class Index:
             found = Name(self.crate, module, name, type)
             if path.parts[1] == "Meaning":
                 self.meanings[name].append(found)
-            if type.startswith("Told "):
-                # The view may be named by the module that it is of.
-                self.told[type.split()[-1].split(".")[-1]].append(found)
-            elif type.startswith("Within "):
+            if type.startswith("Within "):
                 _, bound, measured = type.split(" ", 2)
                 self.within[measured].append((found, bound))
             elif type.startswith("Marked ") or type.startswith("Unpadded "):
@@ -176,21 +164,16 @@ class Crates:
         crate = kind.crate
         if crate not in self.uses:
             raise Trouble(f"kinds.txt: there is no crate {crate} in crates.txt")
-        answer, view = self.need(crate, "readers", kind.name, f"`pub fn read_{kind.name}(src, at)` with a contract")
-        answer_crate, answer_module, plain = self.need(crate, "answers", answer, f"`pub enum {answer}`")
+        modules, value = self.need(crate, "readers", kind.name, f"`pub fn read_{kind.name}(src, at)` with a contract")
+        called = self.named_by(crate, f"read_{kind.name}")
         meaning = self.need(crate, "meanings", kind.meaning, f"meaning {kind.meaning}")
         within, bound = self.length_law(kind)
         return Facts(
             kind=kind,
-            called=self.named_by(crate, f"read_{kind.name}"),
-            answer=answer,
-            answer_crate=self.named_by(answer_crate, answer),
-            answer_module=answer_module,
-            plain=plain,
+            called=called,
+            value=value if value in PLAIN_VALUES else "::".join((called, *modules, value)),
             source=self.need(crate, "writers", kind.name, f"`pub fn write_{kind.name}`"),
             meaning=meaning,
-            view=self.need(crate, "meanings", view, f"view {view}"),
-            told=self.need(crate, "told", view, f"law `Told {view}`"),
             within=within,
             bound=int(bound),
             bounded=self.find(crate, "bounded", kind.meaning),

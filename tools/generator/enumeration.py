@@ -1,6 +1,6 @@
 """The text of a closed enumeration."""
 
-from generator.kind import COPIED, Kind, Proof, lower, rules, of_definitions
+from generator.kind import COPIED, Answers, Kind, Proof, exit_of, first_exit, lower, rules, of_definitions
 from generator.known import Known, escaped
 from generator.status import Status
 from generator.table import Trouble
@@ -11,43 +11,31 @@ class Enumeration(Kind):
 
     def __init__(self, declared, meaning, topic):
         super().__init__(declared, meaning, topic)
-        self.known = Known(self.name, self.code_type, self.answer, False, True, meaning, self.type, self.type, 4, f"{self.head}-good")
-        self.found = f"{self.camel}Found"
+        self.known = Known(self.name, self.code_type, True, meaning, self.type, self.type, 4, f"{self.head}-good")
         self.number, self.all, self.each = f"{self.start}_number", f"{self.start}_all", f"each_{self.start}"
         self.variants = f"{lower(meaning)}Is"
-        self.seen = f"found_{self.name}"
 
     def aliased(self):
-        return {**super().aliased(), self.variants: self.code_type, f"{lower(self.meaning)}Found": self.found}
+        return {self.variants: self.code_type}
 
     def code(self):
         return [
             self.enum_code(),
-            f"{COPIED}pub enum {self.found} {{\n    None,\n    Is({self.code_type}),\n}}",
             self.numbers_code(),
-            self.answer_code(),
             f"""{self.at_head()}
 {{
-    let r1 = u32_at(src, at);
-    let U32Read::Took {{ value: v, next: n }} = r1 else {{
-        return {self.answer}::Refused(r1.refusal());
+    let v = u32_at(src, at)?;
+    let Some(x) = {self.code_type}::of(v.value) else {{
+        return Err(Refusal::Undeclared(at));
     }};
-    let f = {self.code_type}::of(v);
-    let {self.found}::Is(x) = f else {{
-        return {self.answer}::Refused(Refusal::Undeclared(at));
-    }};
-    {self.answer}::Took {{ value: x, next: n }}
+    Ok(Took {{ value: x, next: v.next, plain: true }})
 }}""",
             f"{self.put_head()}\n{{\n    put_u32(v.number(), out);\n}}",
             *self.public_code(),
         ]
 
     def write_code(self):
-        return f"""pub fn write_{self.name}(v: {self.code_type}, out: &mut [u8], at: usize) -> Wrote
-    ensures {{ Writes (exactly {self.meaning}) [] v at out.old (view_wrote result) out.new }}
-{{
-    write_u32(v.number(), out, at)
-}}"""
+        return f"{self.write_head()}\n{{\n    write_u32(v.number(), out, at)\n}}"
 
     def enum_code(self):
         comment = f"// {self.declared.comment}\n" if self.declared.comment else ""
@@ -55,17 +43,17 @@ class Enumeration(Kind):
         return f"{comment}{COPIED}pub enum {self.code_type} {{\n{cases}}}"
 
     def numbers_code(self):
-        cases = "".join(f"            {number} => {self.found}::Is({self.case_code(name)}),\n" for name, number in self.declared.parts)
+        cases = "".join(f"            {number} => Some({self.case_code(name)}),\n" for name, number in self.declared.parts)
         size = self.size_code().rstrip("}").rstrip()
         return f"""{size}
 
 {self.number_code(self.number, self.numbers())}
 
-    pub fn of(v: u32) -> {self.found}
-        ensures {{ {self.seen} result ≡ among {self.number} {self.all} v }}
+    pub fn of(v: u32) -> Option<{self.code_type}>
+        ensures {{ view_found result ≡ among {self.number} {self.all} v }}
     {{
         match v {{
-{cases}            _ => {self.found}::None,
+{cases}            _ => None,
         }}
     }}
 }}"""
@@ -96,25 +84,18 @@ class Enumeration(Kind):
         numbers = "\n".join(f"{self.number} {self.variant(name)} = {number}" for name, number in self.declared.parts)
         each = "\n".join(f"{self.each} {name} = refl" for name in names)
         every = " ∷ ".join([name.strip("()") for name in names] + ["[]"])
-        found = f"{lower(m)}Found"
         return [
             f"-- {self.code_type}\nabbrev pub {self.number} : {T} → ℕ\n{numbers}",
             f"abbrev pub {self.all} : List {T}\n{self.all} = {every}",
             f"pub {self.each} : (a : {T}) → among {self.number} {self.all} ({self.number} a) ≡ means a []\n{each}",
             f"unfoldable pub {m} : Codec {T}\n{m} = closed {self.number} {self.all} {self.each}",
-            f"""abbrev pub {self.seen} : {self.found} → Seen {T}
-{self.seen} {found}.None = undeclared
-{self.seen} ({found}.Is a) = means a []""",
-            self.views(),
         ]
 
     def laws(self):
         m, law, T = self.meaning, self.head, self.type
         of = f"{self.number} {self.all} {self.each}"
         return [
-            f"-- {self.code_type}\n{self.step_laws()}",
-            self.told_law(),
-            f"pub {law}-within : Within 0 {m}.kind\nunfolding {m}\n{law}-within = closed-within {of}",
+            f"-- {self.code_type}\npub {law}-within : Within 0 {m}.kind\nunfolding {m}\n{law}-within = closed-within {of}",
             self.unpadded_law(f"closed-unpadded {of}"),
             f"pub {law}-fixed : Fixed 4 {m}\nunfolding {m}\n{law}-fixed = seen-fixed word-fixed _ _ _ _",
             f"""pub {law}-writes : (a : {T}) {{v : ℕ}} (at : ℕ) (o : List ℕ) {{w : Written}} {{o' : List ℕ}} → v ≡ {self.number} a → Writes (exactly word) [] v at o w o'
@@ -133,18 +114,22 @@ unfolding {m}
 
     def proofs(self):
         m, law = self.meaning, self.head
-        tags = f"{self.number} {self.all} {self.each} {self.seen}"
-        proofs = {
-            f"{self.name}_at": Proof(
-                rules(4) + [f"(λ c. search (tag-lost {tags}))"] + rules(3) + [f"(λ c. search (tag-none {tags}))", f"(λ c. search (tag_is {tags}))"],
-                unfolding=m,
+        tags = f"{self.number} {self.all} {self.each}"
+        return {
+            f"{self.name}_at": Answers(
+                {
+                    exit_of("v"): f"search (tag-lost {tags}, tries, {first_exit()})",
+                    "returns-in_default": f"search (tag-none {tags}, tries)",
+                    "returns": f"search (tag_is {tags}, tries)",
+                },
+                m,
             ),
             f"put_{self.name}": Proof(rules(3) + [f"(λ c. search (lays, {law}-bytes))"]),
             **self.common_proofs(),
         }
-        if self.public:
-            proofs[f"write_{self.name}"] = Proof(rules(3) + [f"(λ c. search {law}-writes)"])
-        return proofs
+
+    def write_proof(self):
+        return Proof(rules(3) + [f"(λ c. search {self.head}-writes)"])
 
 
 class Statuses(Enumeration):
@@ -160,7 +145,7 @@ class Statuses(Enumeration):
             raise Trouble(f"{topic.path}: {self.code_type} has no `stat` in its name or its meaning, in whose place its failures have `fail`")
         self.failing_number, self.failing_variants = f"{of_definitions(failing)}_number", f"{lower(failing)}Is"
         start = self.start
-        self.failure, self.status = f"{start}_failure", Status(self.code_type, self.ok, self.failures, meaning, f"{start}_or", f"{start}_for", self.answer)
+        self.failure, self.status = f"{start}_failure", Status(self.code_type, self.ok, self.failures, meaning, f"{start}_or", f"{start}_for")
 
     def passed_on(self):
         return [self.failures, *super().passed_on()]
@@ -210,20 +195,6 @@ class Statuses(Enumeration):
             f"pub {start}_of_to : (o : Option {E}) → {self.failure} ({status.to} o) ≡ o\n{start}_of_to none = refl\n{start}_of_to (some f) = refl",
             f"""abbrev pub {status.success} : Status {T} {E}
 {status.success} = record {{ of = {self.failure}; to = {status.to}; to_of = {start}_to_of; of_to = {start}_of_to }}""",
-        ]
-
-    def laws(self):
-        """A result, by the answer of the call that reads its status: what that refuses, and what it says."""
-        m, law, E, success, view, lost = self.meaning, self.head, escaped(self.failures), self.status.success, self.view, self.lost
-        of = f"{{M N S T R : Type 0}} {{F : Format M S}} {{G : Format N T}} {{W : Arms {E} S T R}} {{D : Format (Result {E} M N) R}} (X : OnStatus {m} {success} F G W D) (s : List ℕ) (p : ℕ) (r : {self.answer})"
-        took = f"{self.alias}.Took a n"
-        return super().laws() + [
-            f"""pub {law}-lost : {of} (u q : Refusal) → q ≡ {lost} r → {view} r ≡ {m}.kind.read s p → r ≡ {self.alias}.Refused u
-    → refused q ≡ D.held.read s p
-{law}-lost X s p r u q g e f = status-lost {view} X s p r {lost} ({self.alias}.Refused u) q g e f refl""",
-            f"""pub {law}-took : {of} (a c : {self.type}) (n : ℕ) (z : Answer R) → {view} r ≡ {m}.kind.read s p → r ≡ {took} → a ≡ c
-    → z ≡ run (arm_by {m} {success} F G W ({success}.of c)) s n true → z ≡ D.held.read s p
-{law}-took X s p r a c n z e f h k = status-took {view} X s p r ({took}) a c n z refl e f h k""",
         ]
 
     # ------------------------------------------------ proofs

@@ -1,8 +1,11 @@
-"""The text that every declared kind has: its answer, its public functions, and what follows from them."""
+"""The text that every declared kind has: its public functions, and what follows from them."""
 
 from generator.known import bracket, camel, escaped, law_head, stem
 
 RULES = "(search rules)"
+
+# How deep a plan is followed.
+DEEP = "depth 20"
 
 # Before each type: its values are plain, so they are copied, and may be let go.
 COPIED = "#[derive(Clone, Copy)]\n"
@@ -66,22 +69,18 @@ class Kind:
         self.start = of_definitions(meaning)  # how the names of its definitions begin
         self.head = law_head(meaning)  # how those of its laws do
         self.topic = topic
-        self.camel = camel(self.name)
-        self.answer = f"{self.camel}Read"
         self.type = escaped(declared.name)
-        self.alias = self.camel
         self.dashed = self.name.replace("_", "-")
-        self.view, self.lost = f"view_{self.name}", f"lost_{self.name}"
 
     # ------------------------------------------------ what others see
 
     def passed_on(self):
         """The names that the crate passes on."""
-        return [self.code_type, self.answer, f"read_{self.name}", f"write_{self.name}"] if self.public else [self.code_type]
+        return [self.code_type, f"read_{self.name}", f"write_{self.name}"] if self.public else [self.code_type]
 
     def aliased(self):
         """Short names for types whose cases the specifications name."""
-        return {self.alias: self.answer}
+        return {}
 
     def goods(self):
         """The laws that every value is in range."""
@@ -97,67 +96,48 @@ class Kind:
     def read_by(self):
         return f"{self.meaning}.kind.read" if self.known.codec else f"{self.meaning}.held.read"
 
-    def took(self, **values):
-        fields = [f"{field}: {values[field]}" for field in ("value", "next", "plain") if field != "plain" or self.known.plain]
-        return ", ".join(fields)
-
-    def answer_code(self):
-        return f"""{COPIED}pub enum {self.answer} {{
-    Refused(Refusal),
-    Took {{ {self.took(value=self.code_type, next="usize", plain="bool")} }},
-}}
-
-impl {self.answer} {{
-    pub fn refusal(self) -> Refusal
-        ensures {{ result ≡ {self.lost} self }}
-    {{
-        match self {{
-            {self.answer}::Refused(r) => r,
-            {self.answer}::Took {{ {self.took(value="_", next="_", plain="_")} }} => Refusal::PastEnd,
-        }}
-    }}
-}}"""
+    @property
+    def answer(self):
+        """What a reader returns."""
+        return f"Result<Took<{self.code_type}>, Refusal>"
 
     def at_head(self):
         return f"""pub fn {self.name}_at(src: &[u8], at: usize) -> {self.answer}
-    ensures {{ {self.view} result ≡ {self.read_by} src.now at }}"""
+    ensures {{ view result ≡ {self.read_by} src.now at }}"""
 
     def public_code(self):
         return [self.read_code(), self.write_code()] if self.public else []
 
     def read_code(self):
         return f"""pub fn read_{self.name}(src: &[u8], at: usize) -> {self.answer}
-    ensures {{ Answers {bracket(self.format)} src.now at ({self.view} result) }}
+    ensures {{ Answers {bracket(self.format)} src.now at (view result) }}
 {{
-    match open_at(src, at) {{
-        Opening::Refused(r) => {self.answer}::Refused(r),
-        Opening::Open => {self.name}_at(src, at),
-    }}
+    open_at(src, at)?;
+    {self.name}_at(src, at)
 }}"""
 
     def write_code(self):
         """Behind the tests of the order of refusals, the inner writer."""
         if self.known.codec:
-            return f"""pub fn write_{self.name}(v: {self.code_type}, out: &mut [u8], at: usize) -> Wrote
-    ensures {{ Writes (exactly {self.meaning}) [] v at out.old (view_wrote result) out.new }}
+            return f"""{self.write_head()}
 {{
-    let w = room(out.len(), at, {self.known.size_of("v")});
-    let Wrote::Done(_) = w else {{
-        return w;
-    }};
+    let end = room(out.len(), at, {self.known.size_of("v")})?;
     put_{self.name}(v, &mut out[at..]);
-    w
+    Ok(end)
 }}"""
-        return f"""pub fn write_{self.name}(src: &[u8], x: {self.code_type}, out: &mut [u8], at: usize) -> Wrote
-    ensures {{ Writes {self.meaning} src.now x at out.old (view_wrote result) out.new }}
+        return f"""{self.write_head()}
 {{
-    let w = place(src.len(), {self.name}_inside(src, x), {self.name}_size(x), out.len(), at);
-    let Wrote::Done(_) = w else {{
-        return w;
-    }};
+    let end = place(src.len(), {self.name}_inside(src, x), {self.name}_size(x), out.len(), at)?;
     put_{self.name}(src, x, &mut out[at..]);
-    w
+    Ok(end)
 }}"""
+
+    def write_head(self):
+        if self.known.codec:
+            return f"""pub fn write_{self.name}(v: {self.code_type}, out: &mut [u8], at: usize) -> Result<usize, Refusal>
+    ensures {{ Writes (exactly {self.meaning}) [] v at out.old (view_wrote result) out.new }}"""
+        return f"""pub fn write_{self.name}(src: &[u8], x: {self.code_type}, out: &mut [u8], at: usize) -> Result<usize, Refusal>
+    ensures {{ Writes {self.meaning} src.now x at out.old (view_wrote result) out.new }}"""
 
     def size_code(self):
         """The constant of a fixed kind, and the contract that holds it to the kind."""
@@ -221,40 +201,6 @@ impl {self.answer} {{
 
     # ------------------------------------------------ the specifications that all have
 
-    def case(self, name, *values):
-        return f"({self.alias}.{name} {' '.join(values)})"
-
-    def took_case(self, mark=""):
-        values = [f"v{mark}", f"n{mark}"] + ([f"p{mark}"] if self.known.plain else [])
-        return self.case("Took", *values)
-
-    def views(self):
-        plain = "p" if self.known.plain else "true"
-        refused = self.case("Refused", "r")
-        return f"""abbrev pub {self.view} : {self.answer} → Answer {self.type}
-{self.view} {refused} = refused r
-{self.view} {self.took_case()} = took v n {plain}
-
-abbrev pub {self.lost} : {self.answer} → Refusal
-{self.lost} {refused} = r
-{self.lost} {self.took_case()} = PastEnd"""
-
-    def step_laws(self):
-        return f"""pub step-{self.head} : Step {self.view}
-step-{self.head} U = step {self.view}
-
-pub lost-{self.head} : Loses {self.lost}
-lost-{self.head} A = lost-at {self.lost}"""
-
-    def told_law(self):
-        name = f"{self.dashed}-told"
-        refused, other = self.case("Refused", "r"), self.case("Refused", "r'")
-        return f"""pub {name} : Told {self.view}
-{name} {self.took_case()} {self.took_case("'")} e = cc
-{name} {self.took_case()} {refused} e = cc
-{name} {refused} {self.took_case()} e = cc
-{name} {refused} {other} e = cc"""
-
     def good_of(self, field):
         """The law of a field's range. That of a kind with pieces has the source, unless it stands in the same module."""
         own = field.type in {declared.name for declared in self.topic.declared}
@@ -298,25 +244,25 @@ lost-{self.head} A = lost-at {self.lost}"""
         return proofs
 
     def public_proofs(self):
-        proofs = {f"read_{self.name}": Proof("tie.spec " + " ".join(["(search reads)"] * 4 + ["(λ c. search reads)"] * 2))}
+        return {f"read_{self.name}": Answers({exit_of("open_at"): f"search (reads, tries, {first_exit()})", "returns": "search (reads, tries)"}), f"write_{self.name}": self.write_proof()}
+
+    def write_proof(self):
+        """That of a writer behind the tests: what it refuses, that the place is in the buffer, and what it writes."""
         m, law, good = self.meaning, self.head, self.known.good
         if not self.known.codec:
-            how = "write-in" if self.known.inside else "write-on"
-            proofs[f"write_{self.name}"] = Proof(
-                rules(5) + [f"(λ c. search (write-off {law}-writer))"] + [f"(λ c. search (write-place {law}-writer))"] * 2 + rules(3)
-                + [f"(λ c. search ({how} {law}-writer, {good}))"]
-            )  # fmt: skip
+            off, place, on = f"write-off {law}-writer", f"write-place {law}-writer", f"{'write-in' if self.known.inside else 'write-on'} {law}-writer"
         elif self.known.fixed:
-            proofs[f"write_{self.name}"] = Proof(
-                rules(3) + [f"(λ c. search (rules, fixed_off {law}-fixed))"] + ["(λ c. search rooms)"] * 2 + rules(3)
-                + [f"(λ c. search (rules, fixed_on {law}-fixed, {good}))"]
-            )  # fmt: skip
+            off, place, on = f"fixed_off {law}-fixed, rules", "rooms", f"fixed_on {law}-fixed, rules"
         else:
-            proofs[f"write_{self.name}"] = Proof(
-                rules(4) + [f"(λ c. search (plain-off {m} {law}-small))"] + ["(λ c. search rooms)"] * 2 + rules(3)
-                + [f"(λ c. search (plain-on {m} {law}-small, {good}))"]
-            )  # fmt: skip
-        return proofs
+            off, place, on = f"plain-off {m} {law}-small", "rooms", f"plain-on {m} {law}-small"
+        return Answers(
+            {
+                exit_of("end"): f"search ({off}, tries, {first_exit()})",
+                f"slice_bounds-put_{self.name}-count": f"search ({place}, c.in_ok-end.was)",
+                f"slice_bounds-put_{self.name}-start": f"search ({place}, c.in_ok-end.was)",
+                "returns": f"search ({on}, {good}, tries)",
+            }
+        )
 
 
 class Proof:
@@ -354,6 +300,33 @@ class Answers:
         return "\n".join(lines) + "\n\n" + "\n".join(answers)
 
 
-def goals_in_order(count):
-    """The goals of a function that takes so many parts one after another: that of each early return, and that of the last."""
-    return ["returns-in_default", *(f"returns-in_default-r{at}" for at in range(2, count + 1)), "returns"]
+def exit_of(call):
+    """The goal of a `?`: that what it returns is as the contract says."""
+    return f"returns-in_err-{call}"
+
+
+def first_exit():
+    """That the first `?` returns the refusal that it was handed."""
+    return "exit c.from_residual.ensures.1"
+
+
+def told_by(calls):
+    """What each call has told where it took something."""
+    return [f"c.in_ok-{call}.ensures" for call in calls]
+
+
+def plan_answers(plan, calls):
+    """The answers of a reader that makes the calls one after another: what each exit refuses, and what it takes in the end."""
+    answers = {exit_of(call): exit_by_plan(plan, calls[:at], call, at == 0) for at, call in enumerate(calls)}
+    return {**answers, "returns": search_by_plan(plan, told_by(calls))}
+
+
+def exit_by_plan(plan, before, call, first):
+    """That what a `?`, which may be the first, returns is the refusal of the plan, after the calls before it."""
+    residual = "c.from_residual" if first else f"c.from_residual-in_err-{call}"
+    return f"exits _ {residual}.ensures.1 ({search_by_plan(plan, [*told_by(before), f'c.in_err-{call}.ensures'])})"
+
+
+def search_by_plan(plan, facts):
+    """A plan followed. With its facts named, the search is found among many steps."""
+    return f"search ({', '.join([plan, 'asks', *facts])}) {DEEP}"

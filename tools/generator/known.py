@@ -68,8 +68,6 @@ class Known:
 
     name: str
     type: str  # of the code
-    answer: str
-    plain: bool  # its answer says whether the reading is plain
     codec: bool  # the code holds the message itself; else it holds something in place of bytes
     meaning: str
     message: str  # the type of its message, in the specifications
@@ -118,11 +116,6 @@ class Known:
         return f"{self.head}-small" if self.codec else f"{self.head}-most"
 
     @property
-    def steps(self):
-        """The steps of a plan; those of items are in the plans' own rule set."""
-        return () if self.name in ITEMS else (f"step-{self.head}", f"lost-{self.head}")
-
-    @property
     def within(self):
         return self.piece.within if self.piece else f"{self.head}-within"
 
@@ -163,11 +156,11 @@ class Known:
 
 
 ITEMS = {
-    "u32": Known("u32", "u32", "U32Read", False, True, "word", "ℕ", "ℕ", 4, "word_good"),
-    "u64": Known("u64", "u64", "U64Read", False, True, "hyper", "ℕ", "ℕ", 8, "hyper-good"),
-    "bool": Known("bool", "bool", "BoolRead", True, True, "flag", "Bool", "Bool", 4, "flag-good"),
-    "opaque": Known("opaque", "Piece", "PieceRead", True, False, "bytes", "List ℕ", "Piece", 0, "piece-good", 4, 1 << 21, paths=((),), seen=("piece_held",)),
-    "words": Known("words", "Piece", "PieceRead", True, False, "word_list", "List ℕ", "Piece", 0, "words-good", 4, 1 << 23, inside=True, paths=((),), seen=("words_held",)),
+    "u32": Known("u32", "u32", True, "word", "ℕ", "ℕ", 4, "word_good"),
+    "u64": Known("u64", "u64", True, "hyper", "ℕ", "ℕ", 8, "hyper-good"),
+    "bool": Known("bool", "bool", True, "flag", "Bool", "Bool", 4, "flag-good"),
+    "opaque": Known("opaque", "Piece", False, "bytes", "List ℕ", "Piece", 0, "piece-good", 4, 1 << 21, paths=((),), seen=("piece_held",)),
+    "words": Known("words", "Piece", False, "word_list", "List ℕ", "Piece", 0, "words-good", 4, 1 << 23, inside=True, paths=((),), seen=("words_held",)),
 }
 
 OPAQUE = ITEMS["opaque"]
@@ -188,15 +181,17 @@ SPECS = (
     ("Rattle.std.proofs.Math.Option", "Option none some"),
     (PRELUDE, "List [] ∷"),
     (PRELUDE, "ℕ + ≤"),
+    (PRELUDE, "Some None"),
+    (PRELUDE + " as std", "std"),
     (COMMON, "arith"),
     (PRELUDE, "length"),
     ("mir.Val", "Val"),
     ("denote.Laws", "Is"),
     (COMMON, "rules"),
-    (XDR + "Meaning.Answer", "Answer took refused most Written"),
+    (XDR + "Meaning.Answer", "Answer most Written"),
     (XDR + "Meaning.Bytes", "Bytes"),
     (XDR + "Meaning.Kind", "Codec"),
-    (XDR + "Meaning.Combinators", "Seen means undeclared among"),
+    (XDR + "Meaning.Combinators", "means among"),
     (XDR + "Meaning.Codecs", "⨾ mapped void"),
     (XDR + "Meaning.Items", "word hyper verifier flag closed"),
     (XDR + "Meaning.Format", "Format Renaming exactly ⨟ named optional flagged if_format"),
@@ -208,7 +203,7 @@ SPECS = (
     (XDR + "Meaning.Sizes", "OfSize"),
     (XDR + "Meaning.Public", "Answers Writes output laid laid_of"),
     (XDR + "Meaning.Marks", "Marked MarksAre"),
-    (XDR + "Meaning.Views", "view_wrote view_marks"),
+    (XDR + "Meaning.Views", "view view_found view_marks view_wrote"),
     (XDR + "Laws.Padding", "size_small words_small"),
     (XDR + "Laws.Marks", "and_left and_right"),
     (XDR + "Laws.Pieces", "piece-good"),
@@ -216,27 +211,27 @@ SPECS = (
     (XDR + "Laws.Ranges", "word_good hyper-good flag-good"),
     (XDR + "Laws.Closed", "by_number"),
     (XDR + "Laws.Fixed", "Fixed word-fixed hyper-fixed flag-fixed pair-fixed seen-fixed of_size"),
-    (XDR + "Laws.One", "Told"),
-    (XDR + "Laws.Plans", "Planned planned plan at then next Step Loses step lost-at asks optionally reads run"),
-    (XDR + "Laws.Records", "ByPlan by-plan fields one"),
+    (XDR + "Laws.One", "told"),
+    (XDR + "Laws.Plans", "Planned planned plan at then next asks optionally reads"),
+    (XDR + "Laws.Records", "ByPlan by-plan fields one still"),
     (XDR + "Laws.Tags", "tag-lost tag-none tag_is"),
     (XDR + "Laws.Numbers", "found_at found_none numbered"),
     (XDR + "Laws.Lengths", "Within void-within chain-within pair-within view-within mapped-within closed-within no_default word-within hyper-within flag-within opaque-within words-within"),
     (XDR + "Laws.Write", "Ready of-long"),
     (XDR + "Laws.Writers", "Writer bytes-writer words-writer put-outside put-short write-off write-place write-on write-in plain-on"),
     (XDR + "Laws.Lays", "sums by-words lays rooms size_is fixed_on"),
-    (XDR + "Laws.Fields", "fixed-writer codec-writer pair-writer pair-sized named-sized Lays lays-of lays-codec lays-none lays-both lays-named lays_all lays-plain marked"),
+    (XDR + "Laws.Fields", "fixed-writer codec-writer pair-writer pair-sized named-sized Lays lays-of lays-codec lays-none lays-both lays-named lays_all lays-plain"),
     (XDR + "Laws.Optional", "Between maybe-plan maybe-between maybe-within held-within Optional OptionalHeld lays-void lays-value none-bytes none-size some_word some-hyper some_size option-writer option_size void-inside value-inside held-void held-value held-sized void-size value-size void-marks value-marks"),
-    (XDR + "Laws.Status", "OnStatus ok-inside failed-inside alone-inside ok-marks failed-marks alone-marks ok-lays failed-lays alone-lays result_size status-sized ok-size failed-size alone-size ok-fixed failed-fixed status-within arm_by status-lost status-took"),
+    (XDR + "Laws.Status", "OnStatus ok-inside failed-inside alone-inside ok-marks failed-marks alone-marks ok-lays failed-lays alone-lays result_size status-sized ok-size failed-size alone-size ok-fixed failed-fixed status-within status-lost status-took"),
     (XDR + "Laws.Unpadded", "Unpadded void-unpadded pair-unpadded view-unpadded closed-unpadded word-unpadded hyper-unpadded flag-unpadded no-marks"),
     (XDR + "Laws.Marked", "plain-marked pair-marked named-marked status-marked bytes-marked words-marked piece-marks words-marks"),
     (XDR + "Laws.Programs", "for-lost for-took by-procedure by-none"),
+    (XDR + "Laws.Answers", "tries exit exits"),
     ("Rattle.xdr.proofs.Refused", "plain-off fixed_off"),
     ("Rattle.xdr.proofs.Flagged", "option-unpadded maybe-marked"),
-    ("Rattle.nfsattr.specs.Laws.Status", "nfsstat-lost nfsstat-took"),
     (XDR + "declared.piece.Piece", "Piece"),
+    (XDR + "declared.answer.Took", "Took"),
     (XDR + "declared.refusal.Refusal", "Refusal"),
-    (XDR + "declared.refusal.Refusal.TheVariants", "PastEnd"),
 )
 IN_PROOFS = {
     name: module
@@ -253,9 +248,9 @@ IN_PROOFS = {
     for name in names.split()
 }
 CODE = {
-    "xdr": "MOST Marks Piece PieceRead BoolRead U32Read U64Read Refusal Wrote inside words_inside write_u32",
+    "xdr": "MOST Marks Piece Refusal Took inside words_inside write_u32",
     "xdr::inner": "u32_at u64_at bool_at opaque_at opaque_size words_at words_size put_u32 put_u64 put_u32_pair put_u32_u64 put_bool put_opaque put_words",
-    "xdr::order": "Opening open_at place room",
+    "xdr::order": "open_at place room",
 }
 
 
@@ -276,7 +271,7 @@ class Words:
             module = IN_PROOFS.get(name, self.specs[name]) if proofs else self.specs[name]
             found.setdefault(module, []).append(operator(name))
         start, end = ("ghost use ", ";") if ghost else ("use ", "")
-        return [f"{start}{module}.{{{', '.join(names)}}}{end}" for module, names in found.items()]
+        return [f"{start}{module}{end}" if " as " in module else f"{start}{module}.{{{', '.join(names)}}}{end}" for module, names in found.items()]
 
     def code_paths(self, text, own=()):
         """The paths of the names of a text of code."""

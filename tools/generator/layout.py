@@ -95,7 +95,7 @@ def laid_out(text):
 def laid(line):
     if re.match(r" *(//|#|ensures |$)", line):
         return [line]
-    head = re.fullmatch(r"( *(?:pub )?fn \w+)\((.*)\)( -> \w+)?", line)
+    head = re.fullmatch(r"( *(?:pub )?fn \w+)\((.*)\)( -> .+)?", line)
     if head:
         return signature(head[1], parted(head[2]), head[3] or "")
     for broken in (broken_braces, broken_sum, broken_call):
@@ -132,7 +132,7 @@ def broken_call(line):
     for opened in re.finditer(r"(?<=\w)\(", line):
         close = closing(line, opened.start())
         arguments, behind = line[opened.end() : close], line[close + 1 :]
-        if behind in ("", ",", ";") and (len(arguments) > WIDE_ARGUMENTS or len(line) > WIDE):
+        if behind in ("", ",", ";", "?;") and (len(arguments) > WIDE_ARGUMENTS or len(line) > WIDE):
             case, arrow, result = line.partition(" => ")
             if arrow and opened.end() > WIDE:
                 return [f"{case} =>", *laid(f"{blanks(line)}    {result}")]

@@ -1,4 +1,4 @@
-"""The lists of kinds: the copiers of the crate door and their proofs, and a region of each other file that lists the kinds. And the
+"""The lists of kinds: the kinds of the crate door and their proofs, and a region of each other file that lists the kinds. And the
 version, which stands in the file VERSION.
 
 Not made here: the oracle's lists, which must not come from the same hand as what they judge, and what the oracle makes.
@@ -10,18 +10,18 @@ import textwrap
 from generator.crates import Crates
 from generator.known import stem
 from generator.language import read_topic
-from generator.layout import call, in_order, signature, use_lines
+from generator.layout import in_order, signature, use_lines
 from generator.table import MOST_PIECES, Trouble, read_pieces, read_table, read_text
 
 HEADER = "made by tools/generate from kinds.txt"
 
-# The files of copiers: a name, what the first comment says, and the crates whose kinds they have.
-COPIERS = (
-    ("items", "Each item, copied.", ("xdr",)),
-    ("messages", "Each kind of RFC 5531, copied.", ("rpc",)),
-    ("files", "Each kind of RFC 1813, copied.", ("nfsattr", "nfs")),
-    ("procedures", "The arguments and results of procedures of RFC 1813, copied.", ("nfsfile", "nfsdata")),
-    ("mounts", "Each kind of the mount protocol and of the port mapper, copied.", ("mount",)),
+# The files of the door's kinds: a name, what the first comment says, and the crates whose kinds they have.
+FILES = (
+    ("items", "Each item, as a kind.", ("xdr",)),
+    ("messages", "Each kind of RFC 5531, as a kind.", ("rpc",)),
+    ("files", "Each kind of RFC 1813, as a kind.", ("nfsattr", "nfs")),
+    ("procedures", "The arguments and results of procedures of RFC 1813, as a kind.", ("nfsfile", "nfsdata")),
+    ("mounts", "Each kind of the mount protocol and of the port mapper, as a kind.", ("mount",)),
 )
 
 # The kinds that take no word 00000002, so that their second message is of zeros: bool, and the closed enumerations without a 2. Those of
@@ -43,10 +43,16 @@ NOTES = {
 
 C_HEADER = "include/yugerzat.h"
 
-# What every copier takes.
+# What copying takes.
 PARAMETERS = ("src: &[u8]", "at: usize", "out: &mut [u8]", "start: usize")
 
 EXACTLY = "Rattle.xdr.specs.Meaning.Format.{exactly}"
+
+RULES = "borrow.Author.Rules.{rules}"
+COPY_LAWS = "Rattle.door.specs.Laws.Copy"
+
+# Eight fixed bytes are no codec, and have no pieces.
+EIGHT = "eight_bytes"
 
 # No rewriting is longer than the larger of this and the bytes read (`every_length`).
 LONGEST = 40
@@ -58,27 +64,16 @@ def outputs(root):
     crates = Crates(root)
     facts = [crates.facts(kind) for kind in kinds]
     order = list(crates.uses)
-    copiers = copied_by(kinds)
     made = []
-    for file, comment, of in COPIERS:
-        own = [fact for fact in facts if fact.kind.crate in of and copiers[fact.kind.name] == fact.kind.name]
-        made.append((f"crates/door/src/{file}.rt", copier_file(comment, own, order)))
-        made += [(f"crates/door/proofs/{file}/copy_{fact.kind.name}/Proof.antt", copier_proof(file, fact)) for fact in own]
-    made += [(f"crates/door/src/{export.name}.rt", export_file(export, kinds, copiers)) for export in EXPORTS]
+    for file, comment, of in FILES:
+        own = [fact for fact in facts if fact.kind.crate in of]
+        made.append((f"crates/door/src/{file}.rt", kinds_of_file(comment, own, order)))
+        made += [answer for fact in own for answer in kind_answers(file, fact)]
+    made += [(f"crates/door/src/{export.name}.rt", export_file(export, kinds)) for export in EXPORTS]
     made += [(f"crates/door_c/src/{export.name}.rt", c_file(export, kinds)) for export in EXPORTS]
-    made += [
-        (f"crates/door/proofs/{export.name}/{name}/Proof.antt", export_number_proof(export, name, own))
-        for export in EXPORTS
-        for name, own, others in by_number(export, kinds)
-    ]
-    made += [
-        (f"crates/door/proofs/{export.name}/{export.function(kind)}/Proof.antt", export_proof(export, kind))
-        for export in EXPORTS
-        for kind in kinds
-    ]
-    made.append(("crates/door/src/lib.rt", "copiers", modules()))
-    made.append(("crates/door/src/kinds.rt", kinds_file(kinds, groups, copiers)))
-    made += [(f"crates/door/proofs/kinds/{group.function}/Proof.antt", group_proof(group)) for group in groups]
+    made += [(f"crates/door/proofs/{export.name}/{export.name}/Answers.antt", export_answers(export)) for export in EXPORTS]
+    made.append(("crates/door/src/lib.rt", "kinds", modules()))
+    made.append(("crates/door/src/kinds.rt", kinds_file(kinds, groups)))
     made.append(("crates/door/proofs/kinds/copy_kind/Answers.antt", chooser_answers(groups)))
     made += door_meanings(facts, groups, order)
     made += worked_answers(facts, order)
@@ -99,17 +94,12 @@ def outputs(root):
 # ---------------------------------------------------------------- names and imports
 
 
-def copied_by(kinds):
-    """The kind whose copier each kind has: the first of the same meaning."""
-    first = {}
-    return {kind.name: first.setdefault(kind.format, kind.name) for kind in kinds}
-
-
-def file_of(kind):
-    for file, _, of in COPIERS:
+def path_of(kind):
+    """Where the door has the type that stands for a kind."""
+    for file, _, of in FILES:
         if kind.crate in of:
-            return file
-    raise Trouble(f"tools/generator/lists.py: COPIERS has no file for the kinds of the crate {kind.crate}")
+            return f"crate::{file}::{struct_of(kind)}"
+    raise Trouble(f"tools/generator/lists.py: FILES has no file for the kinds of the crate {kind.crate}")
 
 
 def camel_case(name):
@@ -136,134 +126,101 @@ def definition(*parts):
     return lines(*parts, "")
 
 
-# ---------------------------------------------------------------- the copiers
+# ---------------------------------------------------------------- the kinds of the door
 
 
 def has_pieces(fact):
     """Whether what the code holds has pieces, or its type a case that has: it then says which marks it has."""
-    return not fact.kind.exact and fact.kind.meaning != "eight_bytes"
+    return not fact.kind.exact and fact.kind.meaning != EIGHT
 
 
-def copier_file(comment, facts, order):
+def struct_of(kind):
+    """The type that stands for a kind in the code."""
+    return camel_case(kind.name)
+
+
+def kinds_of_file(comment, facts, order):
+    """The kinds of some crates, each as a type that copying takes."""
     ghosts = [EXACTLY] if any(fact.kind.exact for fact in facts) else []
     ghosts += uses([fact.meaning for fact in facts], order)
-    ghosts.append("Rattle.door.specs.Meaning.Copy.{view_copied, Copies}")
-    items = ["crate::copy::Copied", "crate::copy::copied_to", "crate::copy::write_span"] + [f"{fact.answer_crate}::{fact.answer}" for fact in facts]
-    items += [] if all(map(has_pieces, facts)) else ["xdr::Marks"]
+    ghosts.append("Rattle.door.specs.Meaning.Copy.{held_as}")
+    items = ["crate::kind::Kind", "xdr::Marks", "xdr::Refusal", "xdr::Took"]
+    items += ["xdr::Piece"] if any(fact.value == "Piece" for fact in facts) else []
     return lines(
         f"// {HEADER}",
         f"// {comment}",
         *(f"ghost use {ghost};" for ghost in ghosts),
         "",
         *use_lines(items),
-    ) + "".join("\n" + copier(fact) for fact in facts)
+    ) + "".join("\n" + kind_code(fact) for fact in facts)
 
 
-def copier(fact):
-    name = fact.kind.name
+def kind_code(fact):
+    kind, value, name = fact.kind, fact.value, struct_of(fact.kind)
+    source, given = ("src", "src, ") if fact.source else ("_src", "")
+    x, marks = ("x", "x.marks()") if has_pieces(fact) else ("_x", "Marks::None")
     return lines(
-        *signature(f"pub(crate) fn copy_{name}", PARAMETERS, " -> Copied"),
-        f"    ensures {{ Copies {fact.kind.format} src.now at start out.old (view_copied result) out.new }}",
-        "{",
-        f"    match {fact.called}::read_{name}(src, at) {{",
-        f"        {fact.answer}::Refused(r) => Copied::Unread(r),",
-        *took(fact),
+        f"pub(crate) struct {name};",
+        "",
+        f"impl Kind for {name} {{",
+        f"    type Value = {value};",
+        "",
+        f"    ghost number = {{ {kind.number} }};",
+        "",
+        f"    ghost held = {{ held_as {kind.format} }};",
+        "",
+        "    ghost listed = { λ s at start o c o' d. d };",
+        "",
+        *signature("    fn read", ("src: &[u8]", "at: usize"), f" -> Result<Took<{value}>, Refusal> {{"),
+        f"        {fact.called}::read_{kind.name}(src, at)",
+        "    }",
+        "",
+        *signature("    fn write", (f"{source}: &[u8]", f"x: {value}", "out: &mut [u8]", "at: usize"), " -> Result<usize, Refusal> {"),
+        f"        {fact.called}::write_{kind.name}({given}x, out, at)",
+        "    }",
+        "",
+        *signature("    fn marks", (f"{x}: {value}",), " -> Marks {"),
+        f"        {marks}",
         "    }",
         "}",
     )
 
 
-def took(fact):
-    """The arm of a reading that was taken. What was plain is copied as it stands, and only what was not is written anew."""
-    span = "write_span(src, at, n, out, start)"
-    write = f"{fact.called}::write_{fact.kind.name}({'src, ' if fact.source else ''}v, out, start)"
-    marks = "v.marks()" if has_pieces(fact) else "Marks::None"
-    if not fact.plain:
-        value = "v" if has_pieces(fact) else "_"
-        head = f"{fact.answer}::Took {{ value: {value}, next: n }} => copied_to"
-        return call(" " * 8, head, ("n", "true", marks, span), ",")
-    return [
-        f"        {fact.answer}::Took {{",
-        "            value: v,",
-        "            next: n,",
-        "            plain: p,",
-        "        } => {",
-        "            if p {",
-        *call(" " * 16, "return copied_to", ("n", "p", marks, span), ";"),
-        "            }",
-        *call(" " * 12, "copied_to", ("n", "p", marks, write), ""),
-        "        }",
-    ]
-
-
-def span_law(fact):
-    """The law that the bytes of what was plain are the copy, what the proof is to search with, and what that takes from elsewhere."""
-    kind, view = fact.kind, fact.view.name
-    if kind.exact:
-        none = "Rattle.xdr.specs.Laws.Unpadded.{no-marks}"
-        return "bare-read", f"(bare-read {kind.format} (no-marks {kind.meaning}) {view})", [none]
-    if not has_pieces(fact):
-        return "bare-read", f"(bare-read {kind.format} eight-marks {view})", []
-    if fact.marks:
-        return "span-read", f"(span-read {kind.format} {view}, {fact.marks.name})", [f"{fact.marks.module}.{{{fact.marks.name}}}"]
-    return "span-read", f"(span-read {kind.format} {view})", []
-
-
-def written_law(fact):
-    """The law that what was read and written anew is the copy, and what the proof is to search with."""
-    meaning, view = fact.kind.meaning, fact.view.name
-    marks = f", {fact.marks.name}" if fact.marks else ""
-    if fact.kind.exact:
-        return "plain-read", f"(plain-read {meaning} {view})"
+def kind_answers(file, fact):
+    """The files of answers of a kind's functions that are not proved by themselves: (path, text)."""
+    found = {}
+    written = f"c.requires c.write_{fact.kind.name}.ensures"
     if fact.bounded:
-        return "bounded-read", f"(bounded-read {fact.bounded.name} {view}{marks})"
-    return "was_read", f"(was_read {meaning} {view}{marks})"
+        imports = [f"{fact.bounded.module}.{{{fact.bounded.name}}}", f"{COPY_LAWS}.{{bounded}}"]
+        found["write"] = imports, f"bounded {fact.bounded.name} _ _ _ {written}", ""
+    elif fact.kind.meaning == EIGHT:
+        imports = [RULES, f"{fact.meaning.module}.{{{EIGHT}, eight_held}}", "Rattle.std.proofs.Common.{refl}", f"{COPY_LAWS}.{{unsourced-free}}"]
+        found["write"] = imports, f"unsourced-free {EIGHT} _ _ _ (λ t. (refl, refl)) {written} (search rules)", "eight_held"
+        found["marks"] = [RULES, "Rattle.door.specs.Laws.Span.{eight-marks}"], "search (rules, eight-marks)", ""
+    elif not fact.source:
+        # A writer that takes no source writes alike with any.
+        found["write"] = [RULES, f"{COPY_LAWS}.{{unsourced}}"], f"unsourced _ _ _ _ {written} (search rules)", ""
+    if fact.marks:
+        found["marks"] = [RULES, f"{fact.marks.module}.{{{fact.marks.name}}}"], f"search (rules, {fact.marks.name})", ""
+    name = f"{struct_of(fact.kind)}Kind"
+    for function, (imports, term, unfolding) in found.items():
+        text = answers(f"{file}.{name}.{function}", imports, {"returns": ("c", term)}, unfolding)
+        yield f"crates/door/proofs/{file}/{name}/{function}/Answers.antt", text
 
 
-def copier_proof(file, fact):
-    """What was refused, what was plain, and what was written anew is as the contract says."""
-    kind, view = fact.kind, fact.view.name
-    law, given = written_law(fact)
-    span, stood, taken = span_law(fact)
-    copy = ["not-read", law] if fact.plain else ["not-read"]
-    spans = sorted(["span-in", span] + (["eight-marks"] if kind.meaning == "eight_bytes" else []))
-    imports = ["borrow.Author.Rules.{rules}", f"{fact.meaning.module}.{{{kind.meaning}}}"]
-    imports += [EXACTLY] if kind.exact else []
-    imports.append(f"{fact.view.module}.{{{view}}}")
-    imports += [f"{fact.bounded.module}.{{{fact.bounded.name}}}"] if fact.bounded and fact.plain else []
-    imports += taken
-    imports.append(f"Rattle.door.specs.Laws.Copy.{{{', '.join(copy)}}}")
-    imports.append(f"Rattle.door.specs.Laws.Span.{{{', '.join(spans)}}}")
-    rules = ["(search rules)"]
-    pieces = rules if has_pieces(fact) else []
-    inside = [f"(λ c κs. search (span-in {kind.format} {view}))"]
-    refused = [f"(λ c. search (not-read {kind.format} {view}))"]
-    plain, anew = [f"(λ c. search {stood})"], [f"(λ c. search {given})"]
-    if fact.plain:
-        answers = [*pieces, *inside, *rules * 2, *plain, *pieces, *rules * 2, *refused, *rules, *anew]
-    else:
-        answers = [*pieces, *inside, *rules, *refused, *rules, *plain]
-    return proof(file, f"copy_{kind.name}", imports, [f"tie.close (tie.spec {' '.join(rules * 3 + answers)})"])
-
-
-def proof(file, function, imports, term, laws=()):
-    """A proof file: its imports, its laws, and the term of its statement, which stands in one line or below its name."""
-    module = f"Rattle.door.proofs.{file}.{function}"
-    spec = f"{function}_spec"
+def answers(function, imports, terms, unfolding=""):
+    """A file of answers: its imports, what each goal takes and is answered by, and what is unfolded."""
+    unfolded = [f"unfolding {unfolding}"] if unfolding else []
     return lines(
         f"-- {HEADER}",
         *(f"use {name}" for name in imports),
-        f"use {module}.Statement.{{statement}}",
-        f"use {module}.Tie as tie",
-        "",
-        *laws,
-        f"pub {spec} : {{M : Type 1}} → statement M",
-        *([f"{spec} = {term[0]}"] if len(term) == 1 else [f"{spec} =", *(f"    {line}" for line in term)]),
+        f"use Rattle.door.proofs.{function}.Goals as goal",
+        *(line for goal, (taken, term) in terms.items() for line in ("", f"pub {goal} : goal.{goal}", *unfolded, f"{goal} {taken} = {term}")),
     )
 
 
 def modules():
-    return lines(*(f"mod {name};" for name in in_order([file for file, _, _ in COPIERS] + ["kinds"])))
+    return lines(*(f"mod {name};" for name in in_order([file for file, _, _ in FILES] + ["kind", "kinds"])))
 
 
 # ---------------------------------------------------------------- the functions of each kind for other programs
@@ -273,8 +230,8 @@ class Export:
     """A function that the door has for each kind, and one that takes a kind's number and calls that of the kind. The crate door_c
     exports them for C."""
 
-    def __init__(self, name, comment, does, called, tell, out):
-        self.name, self.comment, self.does, self.called, self.tell, self.out = name, comment, does, called, tell, out
+    def __init__(self, name, comment, of_each, does, called, tell, out):
+        self.name, self.comment, self.of_each, self.does, self.called, self.tell, self.out = name, comment, of_each, does, called, tell, out
         self.given = ("src", "at", *(["out"] if out else []), "info")
         self.parameters = ("src: &[u8]", "at: usize", *(["out: &mut [u8]"] if out else []), "info: &mut [u64]")
 
@@ -294,6 +251,7 @@ EXPORTS = (
     Export(
         "rewrite",
         "Rewriting, by the number of a kind and for each kind by itself.",
+        "What is read of a kind, written anew from the start of a buffer.",
         (
             "Reads a message of a kind from place `at` of src, and writes it in published form from the start of out. 0: info holds the place after",
             "what was read, 1 if that was in published form and else 0, and the count of bytes written. A refusal of the reading: info holds its",
@@ -306,6 +264,7 @@ EXPORTS = (
     Export(
         "judge",
         "Judging, by the number of a kind and for each kind by itself.",
+        "What is read of a kind, and nothing written.",
         (
             "Reads a message of a kind from place `at` of src, and writes nothing. 0: info holds the place after what was read, 1 if that was in",
             "published form and else 0, and how many bytes its rewriting has. A refusal: its place, how many bytes it wants, and 0.",
@@ -321,21 +280,39 @@ EXPORTS = (
 BY_HAND = {("rewrite", "sattr3"): "settle"}
 
 
-def export_file(export, kinds, copiers):
-    by_name = {kind.name: kind for kind in kinds}
+def export_file(export, kinds):
     by_hand = {name: file for (what, name), file in BY_HAND.items() if what == export.name}
-    called = {f"crate::{file_of(by_name[name])}::copy_{name}" for name in copiers.values() if name not in by_hand}
+    called = {path_of(kind) for kind in kinds if kind.name not in by_hand}
     called |= {f"crate::{file}::{export.name}_{name}" for name, file in by_hand.items()}
-    items = {"crate::exports::SHORT_LIST", f"crate::exports::{export.name}_any", f"crate::exports::{export.tell}", *called}
+    called |= {f"crate::exports::{name}" for name in ("SHORT_LIST", f"{export.name}_any", export.tell)}
+    items = called | {"crate::kind::Kind", "crate::kind::copy"}
     return lines(
         f"// {HEADER}",
         f"// {export.comment}",
         f"ghost use Rattle.door.specs.Meaning.Exports.{{{export.called}}};",
         "",
         *use_lines(items),
+        *export_of_any(export),
         *export_by_number(export, kinds),
-        *(line for kind in kinds for line in export_function(export, kind, copiers[kind.name])),
+        *(line for kind in kinds for line in export_function(export, kind)),
     )
+
+
+def export_of_any(export):
+    """What each function of a kind calls."""
+    return [
+        "",
+        f"// {export.of_each}",
+        *signature(f"fn {export.name}<K: Kind>", export.parameters, " -> u32"),
+        f"    ensures {{ {export.promise('K.number')} }}",
+        "{",
+        "    if info.len() < 3 {",
+        "        return SHORT_LIST;",
+        "    }",
+        f"    let c = copy::<K>(src, at, {'out' if export.out else '&mut []'}, 0);",
+        f"    {export.tell}(c, info)",
+        "}",
+    ]
 
 
 def by_number(export, kinds):
@@ -393,76 +370,51 @@ def c_function(export, name, number, parameters, given):
     ]
 
 
-def export_number_proof(export, name, kinds):
-    imports = [
-        "borrow.Author.Rules.{rules}",
-        f"Rattle.door.specs.Laws.Exports.{{{export.name}-at}}",
-    ]
-    arms = len(kinds) + 1
-    asked = ["(search rules)"] * arms
-    told = ["(search rules)"] * (2 if export.out else 1) + [f"(λ c. search {export.name}-at)"]
-    return proof(export.name, name, imports, [f"tie.close (tie.spec {' '.join(asked + told * arms)})"])
-
-
-def export_function(export, kind, copier):
-    if (export.name, kind.name) in BY_HAND:
-        body = [f"    {export.name}_{kind.name}({', '.join(export.given)})"]
-    else:
-        out = "out" if export.out else "&mut []"
-        body = [
-            "    if info.len() < 3 {",
-            "        return SHORT_LIST;",
-            "    }",
-            f"    let c = copy_{copier}(src, at, {out}, 0);",
-            f"    {export.tell}(c, info)",
-        ]
+def export_function(export, kind):
+    called = f"_{kind.name}" if (export.name, kind.name) in BY_HAND else f"::<{struct_of(kind)}>"
     return [
         "",
         *signature(f"pub fn {export.function(kind)}", export.parameters, " -> u32"),
         f"    ensures {{ {export.promise(kind.number)} }}",
         "{",
-        *body,
+        f"    {export.name}{called}({', '.join(export.given)})",
         "}",
     ]
 
 
-def export_proof(export, kind):
-    """That of the function that takes a number, at this one."""
-    if (export.name, kind.name) in BY_HAND:
-        rules = ["(search rules)"] * (3 if export.out else 2)
-        return proof(export.name, export.function(kind), ["borrow.Author.Rules.{rules}"], [f"tie.close (tie.spec {' '.join(rules)} (λ c. search rules))"])
-    imports = [
-        "borrow.Author.Rules.{rules}",
-        f"Rattle.door.specs.Laws.Exports.{{{export.name}-short, {export.name}-told}}",
-    ]
-    short = f"(λ c. search ({export.name}-short, rules))"
-    told = f"(λ c. search ({export.name}-told {kind.number}, rules))"
-    rules = ["(search rules)"] * 4
-    return proof(export.name, export.function(kind), imports, [f"tie.close (tie.spec {' '.join([short, *rules, told])})"])
+def export_answers(export):
+    """That of what each function of a kind calls: the kind stands in the list under its number."""
+    short, told = f"{export.name}-short", f"{export.name}-told"
+    return answers(
+        f"{export.name}.{export.name}",
+        [RULES, f"Rattle.door.specs.Laws.Exports.{{{short}, {told}}}"],
+        {
+            "returns-then-info-lt3": ("g c", f"search ({short}, rules)"),
+            "returns": ("g c", f"search ({told}, rules, g.met.K.Kind.listed)"),
+        },
+    )
 
 
 # ---------------------------------------------------------------- the kinds by their numbers
 
 
-def kinds_file(kinds, groups, copiers):
+def kinds_file(kinds, groups):
     lists = ", ".join(group.list for group in groups)
-    by_name = {kind.name: kind for kind in kinds}
-    called = {f"crate::{file_of(by_name[name])}::copy_{name}" for name in copiers.values()}
     return lines(
         f"// {HEADER}",
         "// A message of a kind that is named by its number.",
         "ghost use Rattle.door.specs.Meaning.Copy.{view_copied};",
         f"ghost use Rattle.door.specs.Meaning.Kinds.{{{lists}, kinds, CopiesOf, CopiesIn}};",
         "",
-        *use_lines({"crate::copy::Copied", *called}),
-        *(line for group in groups for line in group_function(group, copiers)),
+        *use_lines({"crate::copy::Copied", "crate::kind::copy", *map(path_of, kinds)}),
+        *(line for group in groups for line in group_function(group)),
         "",
         *chooser(groups),
     )
 
 
-def group_function(group, copiers):
-    arms = [f"        {at} => copy_{copiers[kind.name]}(src, at, out, start)," for at, kind in enumerate(group.kinds)]
+def group_function(group):
+    arms = [f"        {at} => copy::<{struct_of(kind)}>(src, at, out, start)," for at, kind in enumerate(group.kinds)]
     return [
         "",
         f"// {group.comment[:1].upper()}{group.comment[1:]}.",
@@ -497,19 +449,10 @@ def group_call(group):
     return f"{group.function}({kind}, src, at, out, start)"
 
 
-def group_proof(group):
-    """A test for each arm, and the kind of each arm that is entered."""
-    count = len(group.kinds)
-    tests = " ".join(["(search rules)"] * (count + 1))
-    arms = " (search rules) ".join(["(λ c. search of-kind)"] * count)
-    imports = ["borrow.Author.Rules.{rules}", "Rattle.door.specs.Laws.Copy.{of-kind, no_kind}"]
-    return proof("kinds", group.function, imports, [f"tie.close (tie.spec {tests} {arms} (λ c. search no_kind))"])
-
-
 def chooser_answers(groups):
     """What copy_kind returns is the kind of the joined list: a law for the first group, for each amid, and for the last."""
     lists = [group.list for group in groups]
-    answers = []
+    terms = {}
     for at, group in enumerate(groups):
         last = at + 1 == len(groups)
         name = "returns" if last else f"returns-then-kind-lt{groups[at + 1].first}"
@@ -521,15 +464,13 @@ def chooser_answers(groups):
             law = f"kind-last {before} {group.list} _ {group.first} {given} (omega arith) refl"
         else:
             law = f"kind-amid {before} {group.list} _ {group.first} {behind} {given} (omega arith) (omega arith) refl"
-        answers += ["", f"pub {name} : goal.{name}", f"{name} c = {law}"]
-    return lines(
-        f"-- {HEADER}",
-        "use Rattle.std.proofs.Common.{refl, ◌++◌, arith}",
-        f"use Rattle.door.specs.Meaning.Kinds.{{{', '.join(lists)}}}",
-        "use Rattle.door.specs.Laws.Copy.{kind-first, kind-amid, kind-last}",
-        "use Rattle.door.proofs.kinds.copy_kind.Goals as goal",
-        *answers,
-    )
+        terms[name] = "c", law
+    imports = [
+        "Rattle.std.proofs.Common.{refl, ◌++◌, arith}",
+        f"Rattle.door.specs.Meaning.Kinds.{{{', '.join(lists)}}}",
+        f"{COPY_LAWS}.{{kind-first, kind-amid, kind-last}}",
+    ]
+    return answers("kinds.copy_kind", imports, terms)
 
 
 def joined(lists):
@@ -567,14 +508,9 @@ def chain(sign, entries):
 
 def worked_answers(facts, order):
     path = "crates/worked/specs/EveryAnswer.antt"
-    views = uses([fact.view for fact in facts], order)
-    told = uses([fact.told for fact in facts], order)
-    bounds = uses([fact.within for fact in facts], order)
-    readers = [f"by {fact.view.name} {fact.told.name}" for fact in facts] + ["tt"]
     lengths = [within(fact) for fact in facts] + ["tt"]
     return [
-        (path, "uses", lines(*(f"use {use}" for use in views + told + bounds))),
-        (path, "readers", definition("abbrev pub readers : Readers kinds", "readers =", *chain("next", readers))),
+        (path, "uses", lines(*(f"use {use}" for use in uses([fact.within for fact in facts], order)))),
         (path, "every_within", definition("every_within : EachWithin kinds", "every_within =", *chain("also", lengths))),
     ]
 

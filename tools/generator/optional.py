@@ -1,6 +1,6 @@
 """The text of a value that a flag says is there."""
 
-from generator.kind import COPIED, RULES, Kind, Proof, bracket, lower, most_of, rules
+from generator.kind import COPIED, RULES, Answers, Kind, Proof, bracket, exit_by_plan, exit_of, lower, most_of, rules, search_by_plan, told_by
 from generator.known import OPAQUE, Known, escaped
 
 
@@ -15,16 +15,16 @@ class Optional(Kind):
         self.value = declared.parts[0].name
         self.value_type = type
         message = self.type if field.codec else f"Option {bracket(field.message)}"
-        self.known = Known(self.name, self.code_type, self.answer, True, field.codec, meaning, message, self.type, 0, f"{self.head}-good", 4, 4 + most_of(field), inside=field.inside, paths=() if field.codec else None)
+        self.known = Known(self.name, self.code_type, field.codec, meaning, message, self.type, 0, f"{self.head}-good", 4, 4 + most_of(field), inside=field.inside, paths=() if field.codec else None)
         self.variable = "v" if field.codec else "x"
         self.cases = f"{self.start}_cases"
         self.variants = f"{lower(meaning)}Is"
 
     def aliased(self):
-        return {**super().aliased(), self.variants: self.code_type}
+        return {self.variants: self.code_type}
 
     def code(self):
-        parts = [self.enum_code(), self.answer_code(), self.at_code()]
+        parts = [self.enum_code(), self.at_code()]
         if not self.known.codec:
             parts += [self.marks_code(), self.inside_code()]
         links = [] if self.number else [self.link_code()]
@@ -39,22 +39,14 @@ class Optional(Kind):
         return f"{comment}{COPIED}pub enum {self.code_type} {{\n    Void,\n    {self.value}({self.value_type}),\n}}"
 
     def at_code(self):
-        field = self.field
-        plain, mark = (", plain: p2", "p1 & p2") if field.plain else ("", "p1")
         return f"""{self.at_head()}
 {{
-    let r1 = bool_at(src, at);
-    let BoolRead::Took {{ value: follows, next: n1, plain: p1 }} = r1 else {{
-        return {self.answer}::Refused(r1.refusal());
-    }};
-    if !follows {{
-        return {self.answer}::Took {{ value: {self.code_type}::Void, next: n1, plain: p1 }};
+    let follows = bool_at(src, at)?;
+    if !follows.value {{
+        return Ok(Took {{ value: {self.code_type}::Void, next: follows.next, plain: follows.plain }});
     }}
-    let r2 = {field.reader}(src, n1);
-    let {field.answer}::Took {{ value: v, next: n2{plain} }} = r2 else {{
-        return {self.answer}::Refused(r2.refusal());
-    }};
-    {self.answer}::Took {{ value: {self.code_type}::{self.value}(v), next: n2, plain: {mark} }}
+    let v = {self.field.reader}(src, follows.next)?;
+    Ok(Took {{ value: {self.code_type}::{self.value}(v.value), next: v.next, plain: follows.plain & v.plain }})
 }}"""
 
     def match_code(self, void, some, binder="f"):
@@ -108,7 +100,6 @@ class Optional(Kind):
             f"""abbrev pub {self.cases} : Cases {bracket(held)} {T}
 {self.cases} = record {{ to = {start}_to; from = {start}_from; from_to = {start}_from_to; to_from = {start}_to_from }}""",
             f"unfoldable pub {m} : {made} {T}\n{m} = {how} {self.field.meaning} {self.cases}",
-            self.views(),
         ]
 
     def laws(self):
@@ -140,7 +131,7 @@ unfolding {m}
                 self.most_law(size),
                 self.marked_law(f"maybe-marked {bracket(field.format)} {bracket(field.marked)} {self.cases}"),
             ]
-        return [plan, self.step_laws(), self.told_law(), within] + own
+        return [plan, within] + own
 
     def ranges(self):
         m, law, T, field = self.meaning, self.head, self.type, self.field
@@ -159,8 +150,13 @@ unfolding {m} {self.pieces(OPAQUE, field)}
     def proofs(self):
         m, law, field = self.meaning, self.head, self.field
         by = f"by-plan {law}-plan" if self.known.codec else f"planned {law}-plan"
-        one = f"(λ c. search ({', '.join([by, 'asks', 'marked', *field.steps])}) depth 20)"
-        proofs = {f"{self.name}_at": Proof(rules(4) + [one, one] + rules(4) + [one, one], unfolding=m)}
+        answers = {
+            exit_of("follows"): exit_by_plan(by, [], "follows", first=True),
+            "returns-then-not-follows": search_by_plan(by, told_by(["follows"])),
+            exit_of("v"): exit_by_plan(by, ["follows"], "v", first=False),
+            "returns": search_by_plan(by, told_by(["follows", "v"])),
+        }
+        proofs = {f"{self.name}_at": Answers(answers, m)}
         if self.number:
             _, some = WITH_FLAG[field.name]
             proofs[f"{self.name}_size"] = Proof(

@@ -2,7 +2,7 @@
 
 from itertools import takewhile
 
-from generator.kind import COPIED, RULES, Answers, Kind, Proof, bracket, folded, goals_in_order, least_of, most_of, nested, product, projections, rules
+from generator.kind import COPIED, RULES, Answers, Kind, Proof, bracket, folded, least_of, most_of, nested, plan_answers, product, projections, rules
 from generator.known import OPAQUE, Known, camel, escaped
 from generator.table import Trouble
 
@@ -14,9 +14,6 @@ LENGTH_WORD = 4
 
 # The cases of xdr's type Marks, by how many marks each has.
 MARKS = ("None", "One", "Two")
-
-# A reader of more calls than these is proved goal by goal.
-MOST_BY_CALLS = 4
 
 
 def projected(value, field):
@@ -34,12 +31,11 @@ class Record(Kind):
         self.names = [field.name for field in declared.parts]
         codec = all(field.codec for field in fields)
         fixed = sum(field.fixed for field in fields) if all(field.fixed for field in fields) else 0
-        plain = any(field.plain for field in fields)
         message = self.type if codec else camel(meaning)
         least, most = sum(map(least_of, fields)), sum(map(most_of, fields))
         inside = any(field.inside for field in fields)
         paths, seen = self.piece_paths(), (meaning, *dict.fromkeys(name for field in fields for name in field.seen))
-        self.known = Known(self.name, self.code_type, self.answer, plain, codec, meaning, message, self.type, fixed, f"{self.head}-good", least, most, inside=inside, paths=paths, seen=() if codec else seen)
+        self.known = Known(self.name, self.code_type, codec, meaning, message, self.type, fixed, f"{self.head}-good", least, most, inside=inside, paths=paths, seen=() if codec else seen)
         self.variable = "v" if codec else "x"
         self.locals = [f"f{at}" for at in range(1, len(fields) + 1)]
 
@@ -78,7 +74,7 @@ class Record(Kind):
         parts = [self.struct_code()]
         if self.known.fixed:
             parts.append(self.size_code())
-        parts += [self.answer_code(), self.at_code()]
+        parts.append(self.at_code())
         if not self.known.codec:
             parts += [self.marks_code(), self.inside_code()]
         if not self.known.fixed:
@@ -114,16 +110,9 @@ class Record(Kind):
     def steps_code(self, head, run=None):
         steps = ""
         place = "at"
-        marks = []
         for at, (name, field) in enumerate(zip(self.names, self.fields), 1):
-            plain = f", plain: p{at}" if field.plain else ""
-            marks += [f"p{at}"] * field.plain
-            steps += f"""    let r{at} = {field.reader}(src, {place});
-    let {field.answer}::Took {{ value: {name}, next: n{at}{plain} }} = r{at} else {{
-        return {self.answer}::Refused(r{at}.refusal());
-    }};
-"""
-            place = f"n{at}"
+            steps += f"    let {name} = {field.reader}(src, {place})?;\n"
+            place = f"{name}.next"
             if run and run[0] == at:
                 steps += f"""    if src.len() < {run[1]} {{
         return {self.name}_cut(src, at);
@@ -132,8 +121,9 @@ class Record(Kind):
         return {self.name}_cut(src, at);
     }}
 """
-        took = self.took(value=f"{self.code_type} {{ {', '.join(self.names)} }}", next=place, plain=" & ".join(marks))
-        return f"{head}\n{{\n{steps}    {self.answer}::Took {{ {took} }}\n}}"
+        values = ", ".join(f"{name}: {name}.value" for name in self.names)
+        plain = " & ".join(f"{name}.plain" for name in self.names)
+        return f"{head}\n{{\n{steps}    Ok(Took {{ value: {self.code_type} {{ {values} }}, next: {place}, plain: {plain} }})\n}}"
 
     def marks_code(self):
         """The mark of each piece, reached field by field."""
@@ -219,7 +209,7 @@ class Record(Kind):
         if self.known.codec:
             return [f"""-- {self.code_type}
 unfoldable pub {m} : Codec {self.type}
-{m} = mapped ({self.defined}) ({to}) ({back}) (λ x. refl) (λ m. refl)""", self.views()]  # fmt: skip
+{m} = mapped ({self.defined}) ({to}) ({back}) (λ x. refl) (λ m. refl)"""]  # fmt: skip
         names_of = self.names_of
         messages = [field.message for field in self.fields]
         record = "".join(f"  pub {name} : {message}\n" for name, message in zip(names, messages))
@@ -239,13 +229,12 @@ unfoldable pub {m} : Codec {self.type}
       pieces_hold = λ y. refl;
     }}""",
             f"unfoldable pub {m} : Format {self.known.message} {self.type}\n{m} = named {bracket(self.defined)} {names_of}",
-            self.views(),
         ]
 
     # ------------------------------------------------ laws
 
     def laws(self):
-        return [self.plan_law(), self.step_laws(), self.told_law(), self.within_law(), *self.mark_laws()] + (self.codec_laws() if self.known.codec else self.held_laws())
+        return [self.plan_law(), self.within_law(), *self.mark_laws()] + (self.codec_laws() if self.known.codec else self.held_laws())
 
     def plan_law(self):
         m, law = self.meaning, self.head
@@ -411,14 +400,8 @@ unfolding {m} {self.pieces(OPAQUE, *self.fields)}
 
     def proofs(self):
         m, law, count = self.meaning, self.head, len(self.fields)
-        steps = [step for field in self.fields for step in field.steps]
         by = f"by-plan {law}-plan" if self.known.codec else f"planned {law}-plan"
-        search = f"search ({', '.join(dict.fromkeys([by, 'asks', 'marked'] + steps))}) depth 20"
-        one = f"(λ c. {search})"
-        if count > MOST_BY_CALLS:
-            proofs = {f"{self.name}_at": Answers(dict.fromkeys(goals_in_order(count), f"{search} fits 20000"), m)}
-        else:
-            proofs = {f"{self.name}_at": Proof((rules(4) + [one]) * count + [one], unfolding=m)}
+        proofs = {f"{self.name}_at": Answers(plan_answers(by, self.names), m)}
         if self.run:
             proofs[f"{self.name}_cut"] = proofs[f"{self.name}_at"]
         if not self.known.fixed:

@@ -2,7 +2,7 @@
 
 from dataclasses import dataclass
 
-from generator.kind import COPIED, RULES, Kind, Proof, bracket, least_of, lower, most_of, rules
+from generator.kind import COPIED, RULES, Answers, Kind, Proof, bracket, exit_by_plan, exit_of, first_exit, least_of, lower, most_of, rules, search_by_plan, told_by
 from generator.known import OPAQUE, Known, escaped, law_head, stem
 
 # The bytes of a status.
@@ -20,7 +20,6 @@ class Status:
     meaning: str
     success: str  # that one case is success, and each other one is a failure
     to: str  # the status of a failure, or of none
-    answer: str
 
     @property
     def name(self):
@@ -32,7 +31,7 @@ class Status:
 
 
 # The one that is written by hand.
-NFS = Status("nfsstat3", "NFS3_OK", "nfsfail3", "nfsstat", "success_or", "status_for", "Nfsstat3Read")
+NFS = Status("nfsstat3", "NFS3_OK", "nfsfail3", "nfsstat", "success_or", "status_for")
 
 
 class Result(Kind):
@@ -46,20 +45,19 @@ class Result(Kind):
         there = [arm for arm in arms if arm]
         sizes = [(least_of(arm), most_of(arm)) if arm else (0, 0) for arm in arms]
         message = f"Result {escaped(status.failures)} {' '.join(bracket(arm.message) if arm else NOTHING for arm in arms)}"
-        plain = any(arm.plain for arm in there)
         least, most = BYTES + min(size[0] for size in sizes), BYTES + max(size[1] for size in sizes)
-        self.known = Known(self.name, self.code_type, self.answer, plain, False, meaning, message, self.type, 0, f"{self.head}-good", least, most, inside=any(arm.inside for arm in there), paths=None)
+        self.known = Known(self.name, self.code_type, False, meaning, message, self.type, 0, f"{self.head}-good", least, most, inside=any(arm.inside for arm in there), paths=None)
         self.variants = f"{lower(meaning)}Is"
         self.law = f"{self.head}-status"
 
     # ------------------------------------------------ code
 
     def aliased(self):
-        return {**super().aliased(), self.variants: self.code_type}
+        return {self.variants: self.code_type}
 
     def code(self):
         links = [self.link_code(at) for at in (0, 1) if self.arms[at]]
-        return [self.enum_code(), self.answer_code(), self.at_code(), self.marks_code(), self.inside_code(), self.sum_code(), *links, self.put_code(), *self.public_code()]
+        return [self.enum_code(), self.at_code(), self.marks_code(), self.inside_code(), self.sum_code(), *links, self.put_code(), *self.public_code()]
 
     def enum_code(self):
         comment = f"// {self.declared.comment}\n" if self.declared.comment else ""
@@ -80,11 +78,8 @@ class Result(Kind):
         arms = "".join(f"        {status} => {{\n{self.follow_code(at)}        }}\n" for at, status in enumerate(self.statuses()))
         return f"""{self.at_head()}
 {{
-    let r1 = {self.status.name}_at(src, at);
-    let {self.status.answer}::Took {{ value: status, next: n1 }} = r1 else {{
-        return {self.answer}::Refused(r1.refusal());
-    }};
-    match status {{
+    let status = {self.status.name}_at(src, at)?;
+    match status.value {{
 {arms}    }}
 }}"""
 
@@ -92,14 +87,9 @@ class Result(Kind):
         """What follows the status, read."""
         field = self.arms[at]
         if not field:
-            return f"            {self.answer}::Took {{ {self.took(value=self.arm_code(at, ''), next='n1', plain='true')} }}\n"
-        plain, mark = (", plain: p2", "p2") if field.plain else ("", "true")
-        took = self.took(value=self.arm_code(at, "v"), next="n2", plain=mark)
-        return f"""            let r2 = {field.reader}(src, n1);
-            let {field.answer}::Took {{ value: v, next: n2{plain} }} = r2 else {{
-                return {self.answer}::Refused(r2.refusal());
-            }};
-            {self.answer}::Took {{ {took} }}
+            return f"            Ok(Took {{ value: {self.arm_code(at, '')}, next: status.next, plain: status.plain }})\n"
+        return f"""            let v = {field.reader}(src, status.next)?;
+            Ok(Took {{ value: {self.arm_code(at, "v.value")}, next: v.next, plain: status.plain & v.plain }})
 """
 
     def marks_code(self):
@@ -176,7 +166,6 @@ class Result(Kind):
             f"""abbrev pub {start}_arms : Arms {self.held()} {T}
 {start}_arms = record {{ to = {start}_to; from = {start}_from; from_to = {start}_from_to; to_from = {start}_to_from }}""",
             f"unfoldable pub {m} : Format ({self.known.message}) {T}\n{m} = on_status {self.status.meaning} {self.status.success} {self.formats()} {start}_arms",
-            self.views(),
         ]
 
     # ------------------------------------------------ laws
@@ -196,8 +185,6 @@ class Result(Kind):
             bounds += f"\n{law}-bound {own} = omega {f'(arith, {small})' if small else 'arith'}"
         return [
             f"-- {self.code_type}\npub {self.law} : OnStatus {of} {m}\nunfolding {m}\n{self.law} = record {{ is = refl }}",
-            self.step_laws(),
-            self.told_law(),
             self.marked_law(f"status-marked {of} {self.status.head}-unpadded {marked}"),
             f"pub {law}-within : Within 0 {m}.codec.kind\nunfolding {m}\n{law}-within = status-within {of} {self.status.head}-within {within}",
             f"abbrev pub {size} : {T} → ℕ\n{size} x = result_size {self.sizes()} ({start}_from x)",
@@ -225,7 +212,7 @@ unfolding {m} {self.pieces(OPAQUE, *self.arms)}
     def proofs(self):
         head, count = self.head, len(self.arms)
         status = f"(fixed-writer {self.status.head}-fixed)"
-        proofs = {f"{self.name}_at": Proof(self.at_proof())}
+        proofs = {f"{self.name}_at": self.at_proof()}
         asked = [bool(arm and not arm.codec) for arm in self.arms]
         proofs[f"{self.name}_inside"] = Proof(
             rules(count + sum(asked)) + [f"(λ c. search ({law}-inside {self.law}))" for law in self.told], unfolding=self.pieces(*self.arms)
@@ -252,14 +239,16 @@ unfolding {m} {self.pieces(OPAQUE, *self.arms)}
 
     def at_proof(self):
         """The status, each arm with its own refusal, and in the end what each took."""
-        answers = rules(4) + [f"(λ c. search ({self.status.head}-lost {self.law}))"]
-        ends = []
-        for arm in self.arms:
-            given = ", ".join([f"{self.status.head}-took {self.law}", "asks", "marked", *(arm.steps if arm else ())])
-            one = f"(λ c. search ({given}) depth 20)"
-            answers += rules(1) + (rules(4) + [one] if arm else [])
-            ends.append(one)
-        return answers + ends
+        took = f"status-took {self.law}"
+        answers = {exit_of("status"): f"search (status-lost {self.law}, tries, {first_exit()})"}
+        for arm, case in zip(self.arms, (self.status.ok, "Failed")):
+            value = f"v-in-{case}"
+            if arm:
+                answers[exit_of(value)] = exit_by_plan(took, [], value, first=False)
+                answers[f"returns-in_ok-{value}"] = search_by_plan(took, told_by([value]))
+            else:
+                answers[f"returns-in-{case}"] = search_by_plan(took, ["still"])
+        return Answers(answers)
 
     def size_proof(self):
         answers = []

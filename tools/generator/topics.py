@@ -56,8 +56,7 @@ class Library:
         self.below = read_uses(root)
         self.known = dict(ITEMS)
         self.aliases = {}
-        self.found = {}
-        self.code, self.specs, self.bounds = {}, {}, {}
+        self.code, self.specs, self.sizes, self.bounds = {}, {}, {}, {}
         for crate in self.below:
             self.scan(crate)
         self.statuses = {NFS.type: NFS}
@@ -82,8 +81,8 @@ class Library:
                 specs.setdefault(escaped(name), f"Rattle.{crate}.specs.declared.{'.'.join(module)}.{name}")
             for name, alias in re.findall(r"^pub type (\w+) = (\w+);", text, re.M):
                 self.aliases.setdefault(name, {"Piece": "opaque"}.get(alias, alias))
-            self.found.update({(crate, name): text for name in re.findall(r"^pub (?:struct|enum) (\w+)", text, re.M)})
-            self.found.update({(crate, name): text for name in re.findall(r"^impl (\w+)", text, re.M) if f"impl {name} {{\n    pub const SIZE" in text})
+            for name, size in re.findall(r"^impl (\w+) {\n    pub const SIZE: usize = (\d+);", text, re.M):
+                self.sizes[(crate, name)] = int(size)
         for part in ("specs", "proofs"):
             for path in sorted((folder / part).rglob("*.antt")):
                 if path.name == "Proof.antt":
@@ -125,19 +124,15 @@ class Library:
         row = self.kinds.get(name)
         if row is None:
             raise Trouble(f"{topic.path}: there is no kind {name} in kinds.txt, and no topic declares it")
-        answer = f"{camel(name)}Read"
-        text = self.found.get((row.crate, answer), "")
-        cases = re.search(rf"^pub enum {answer} {{\n((?:.*\n)*?)}}", text, re.M)
-        if cases is None:
-            raise Trouble(f"crates/{row.crate}/src: there is no `pub enum {answer}`")
-        size = re.search(rf"^impl {name} {{\n    pub const SIZE: usize = (\d+);", self.found.get((row.crate, name), ""), re.M)
-        head = law_head(row.meaning)
+        reader, size, head = f"{name}_at", self.sizes.get((row.crate, name), 0), law_head(row.meaning)
+        if reader not in self.code[row.crate]:
+            raise Trouble(f"crates/{row.crate}/src: there is no `pub fn {reader}`")
         between = self.bounds.get((row.crate, head), (0, 0))
         if not size and not any(between):
             raise Trouble(f"crates/{row.crate}/specs/Laws: there is no law {head}-between, and {name} has no constant SIZE")
         if not row.exact:
             raise Trouble(f"{topic.path}: {name} has pieces and is written by hand, which no field may be yet")
-        return Known(name, name, answer, "plain: bool" in cases.group(1), True, row.meaning, escaped(name), escaped(name), int(size.group(1)) if size else 0, f"{head}-good", *between)
+        return Known(name, name, True, row.meaning, escaped(name), escaped(name), size, f"{head}-good", *between)
 
 
 class Made:

@@ -1,41 +1,15 @@
 // The kinds by name. A kind's number at the door is its place in this list.
+use crate::words::Words;
 
-use crate::words::same;
-
-#[derive(Drop)]
-pub enum KindAt {
-    None,
-    Is { kind: u32, next: usize },
-}
-
-// Which word of a list a word is, counted from 0.
-fn find(list: &[u8], word: &[u8], next: usize) -> KindAt {
-    let mut kind: u32 = 0;
-    let mut at = 0;
-    while at < list.len() {
-        let end = text::word_end(list, at);
-        if same(&list[at..end], word) {
-            return KindAt::Is { kind, next };
-        }
-        if u32::MAX <= kind {
-            return KindAt::None;
-        }
-        kind += 1;
-        at = end + 1;
-    }
-    KindAt::None
-}
-
-pub(crate) fn kind_at(line: &[u8], start: usize) -> KindAt {
-    if line.len() < start {
-        return KindAt::None;
-    }
-    let end = text::word_end(line, start);
-    find(
+fn kinds() -> Words<'static> {
+    Words::new(
         // made by tools/generate: kinds
         b"bool i32 i64 u32 u64 eight opaque nfsstring words msg_type reply_stat accept_stat reject_stat auth_stat auth_flavor time_how nfsstat3 ftype3 auth_unix opaque_auth rpc_msg rpc_body call_body reply_body accepted_reply accept_body rejected_reply mismatch_info specdata3 nfs_fh3 nfstime3 fattr3 fsinfo3 wcc_attr pre_op_attr post_op_attr wcc_data post_op_fh3 set_mode3 set_uid3 set_gid3 set_size3 set_atime set_mtime sattr3 diropargs3 symlinkdata3 stable_how sattrguard3 getattr3args getattr3res setattr3args setattr3res lookup3args lookup3res read3args read3res write3args write3res current_accept_stat current_auth_stat current_accept_body current_accepted_reply current_rejected_reply current_reply_body current_rpc_body current_rpc_msg dirpath mountstat3 mountres3 exports mapping",
         // end of kinds
-        &line[start..end],
-        end + 1,
     )
+}
+
+pub(crate) fn kind_named(word: &[u8]) -> Option<u32> {
+    let place = kinds().position(|name| name == word)?;
+    u32::try_from(place).ok()
 }

@@ -1,36 +1,63 @@
-// The parts of an answer. Each function takes the output, the buffer for it and where that stands, and answers where it then stands.
-use stdio::{Out, Output, say};
+// The parts of an answer.
+use std::io::{Stderr, Stdout};
+use stdio::Printer;
+use xdr::Refusal;
+
+// Standard output.
+pub(crate) type Page = Printer<Stdout, Stderr, 65536>;
 
 // A number, with a space in front.
-pub(crate) fn number(to: &mut Output, out: &mut [u8], at: Out, n: usize) -> Out {
-    let m = say(to, out, at, b" ");
-    stdio::number(to, out, m, n as u64)
+pub(crate) fn number(page: &mut Page, n: usize) {
+    page.say(b" ");
+    page.number(n as u64);
+}
+
+pub(crate) fn numbers(page: &mut Page, all: &[usize]) {
+    for &n in all {
+        number(page, n);
+    }
 }
 
 // A yes or no, with a space in front.
-pub(crate) fn mark(to: &mut Output, out: &mut [u8], at: Out, yes: bool) -> Out {
-    number(to, out, at, yes as usize)
-}
-
-fn pair(to: &mut Output, out: &mut [u8], at: Out, b: u8) -> Out {
-    say(to, out, at, &[text::glyph(b / 16), text::glyph(b % 16)])
+pub(crate) fn mark(page: &mut Page, yes: bool) {
+    number(page, yes as usize);
 }
 
 // Bytes in hex, with a space in front.
-pub(crate) fn hex(to: &mut Output, out: &mut [u8], at: Out, bytes: &[u8]) -> Out {
-    let mut n = say(to, out, at, b" ");
-    if bytes.len() == 0 {
-        return say(to, out, n, b"-");
+pub(crate) fn hex(page: &mut Page, bytes: &[u8]) {
+    page.say(b" ");
+    if bytes.is_empty() {
+        page.say(b"-");
     }
-    let mut i = 0;
-    while i < bytes.len() {
-        n = pair(to, out, n, bytes[i]);
-        i += 1;
+    for byte in bytes {
+        page.say(&[text::glyph(byte / 16), text::glyph(byte % 16)]);
     }
-    n
 }
 
 // What stands between two answers to one line.
-pub(crate) fn parting(to: &mut Output, out: &mut [u8], at: Out) -> Out {
-    say(to, out, at, b"; ")
+pub(crate) fn parting(page: &mut Page) {
+    page.say(b"; ");
+}
+
+// A refusal: its number, its place where it has one, and how many bytes it wants where it wants any.
+pub(crate) fn refusal(page: &mut Page, r: Refusal) {
+    page.say(b"refused");
+    number(page, r.number() as usize);
+    match r {
+        Refusal::Ended { place, wanting } => numbers(page, &[place, wanting]),
+        Refusal::Undeclared(place) | Refusal::LongPath(place) => number(page, place),
+        _ => {}
+    }
+}
+
+// What a writing left in a buffer: the place behind it, or a refusal.
+pub(crate) fn written(page: &mut Page, w: Result<usize, Refusal>, buf: &[u8]) {
+    match w {
+        Ok(next) => {
+            page.say(b"wrote");
+            number(page, next);
+        }
+        Err(r) => refusal(page, r),
+    }
+    hex(page, buf);
 }

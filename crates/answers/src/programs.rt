@@ -1,160 +1,121 @@
-// The lines about calls: `choose`, `current_choose` in the current reading, and `ask`, which goes on with calls to mount and port mapper.
-use crate::buffer::fill;
-use crate::items::refusal;
-use crate::mounts::asked_words;
-use crate::words::{MarkAt, NumberAt, bytes_at, is_end, mark_at, number_at};
-use crate::{print, why};
-use rpc::auth::auth_unix;
-use rpcwire::{Caller, Choice};
-use stdio::{Out, Output, say};
-use xdr::Piece;
+// The lines about calls: `choose`, and `current_choose` in the current reading.
+ghost use Rattle.std.specs.Prelude.{◌≤◌, IfOk};
 
-pub(crate) fn piece(to: &mut Output, out: &mut [u8], at: Out, x: Piece) -> Out {
-    let n = print::number(to, out, at, x.at);
-    print::number(to, out, n, x.count)
+use crate::buffers::{Buffers, cleared};
+use crate::print;
+use crate::print::Page;
+use crate::why::Why;
+use crate::words::Words;
+use rpc::auth_unix;
+use rpcwire::Choice;
+
+// SEEN ROOM HEX
+#[derive(Clone, Copy)]
+pub(crate) struct Call {
+    pub seen: bool,
+    pub room: usize,
+    // How many bytes are at the front of the message.
+    pub count: usize,
 }
 
-fn unix(to: &mut Output, out: &mut [u8], at: Out, a: auth_unix) -> Out {
-    let name = a.machinename;
-    let gids = a.gids;
-    let n = print::number(to, out, at, a.stamp as usize);
-    let n = piece(to, out, n, name);
-    let n = print::number(to, out, n, a.uid as usize);
-    let n = print::number(to, out, n, a.gid as usize);
-    piece(to, out, n, gids)
+impl Call {
+    pub(crate) fn of<'a>(words: &mut Words<'a>, buffers: &mut Buffers) -> Result<Call, Why<'a>>
+        ensures { IfOk result (λ call. call.count ≤ 1100000) }
+    {
+        let call = Call {
+            seen: words.mark()?,
+            room: words.number()?,
+            count: words.bytes(&mut buffers.message)?,
+        };
+        words.end()?;
+        Ok(call)
+    }
 }
 
-pub(crate) fn caller_words(to: &mut Output, out: &mut [u8], at: Out, caller: Caller) -> Out {
+fn print_unix(page: &mut Page, a: auth_unix) {
+    print::numbers(
+        page,
+        &[
+            a.stamp as usize,
+            a.machinename.at,
+            a.machinename.count,
+            a.uid as usize,
+            a.gid as usize,
+            a.gids.at,
+            a.gids.count,
+        ],
+    );
+}
+
+fn print_caller(page: &mut Page, caller: Option<auth_unix>) {
     match caller {
-        Caller::Unnamed => say(to, out, at, b" none"),
-        Caller::Unix(a) => {
-            let n = say(to, out, at, b" unix");
-            unix(to, out, n, a)
+        None => page.say(b" none"),
+        Some(a) => {
+            page.say(b" unix");
+            print_unix(page, a);
         }
     }
 }
 
-pub(crate) fn call_words(
-    to: &mut Output,
-    out: &mut [u8],
-    at: Out,
+// A call that is handed over to a program.
+pub(crate) fn print_hand_over(
+    page: &mut Page,
     prog: u32,
     vers: u32,
     proc: u32,
+    caller: Option<auth_unix>,
     arguments: usize,
-) -> Out {
-    let n = say(to, out, at, b"handover");
-    let n = print::number(to, out, n, prog as usize);
-    let n = print::number(to, out, n, vers as usize);
-    let n = print::number(to, out, n, proc as usize);
-    print::number(to, out, n, arguments)
+) {
+    page.say(b"handover");
+    print::numbers(
+        page,
+        &[prog as usize, vers as usize, proc as usize, arguments],
+    );
+    print_caller(page, caller);
 }
 
-fn choice_words(to: &mut Output, out: &mut [u8], at: Out, c: Choice) -> Out {
-    match c {
-        Choice::Refused(r) => refusal(to, out, at, r),
+fn print_choice(page: &mut Page, choice: Choice) {
+    match choice {
+        Choice::Refused(refusal) => print::refusal(page, refusal),
         Choice::Replied(length) => {
-            let n = say(to, out, at, b"reply");
-            print::number(to, out, n, length)
+            page.say(b"reply");
+            print::number(page, length);
         }
-        Choice::Silent => say(to, out, at, b"silence"),
+        Choice::Silent => page.say(b"silence"),
         Choice::HandOver {
             prog,
             vers,
             proc,
             caller,
             arguments,
-        } => {
-            let n = call_words(to, out, at, prog, vers, proc, arguments);
-            caller_words(to, out, n, caller)
-        }
+        } => print_hand_over(page, prog, vers, proc, caller, arguments),
     }
-}
-
-// Which function a line asks for.
-pub(crate) const CHOOSE: u32 = 0;
-
-pub(crate) const CURRENT_CHOOSE: u32 = 1;
-
-pub(crate) const ASK: u32 = 2;
-
-fn call_into(
-    which: u32,
-    seen: bool,
-    message: &[u8],
-    buf: &mut [u8],
-    to: &mut Output,
-    out: &mut [u8],
-    at: Out,
-) -> Out {
-    match which {
-        CHOOSE => choice_words(to, out, at, rpcwire::choose(message, seen, buf)),
-        CURRENT_CHOOSE => choice_words(to, out, at, rpcwire::current_choose(message, seen, buf)),
-        _ => asked_words(to, out, at, mount::ask(message, seen, buf)),
-    }
-}
-
-fn choose_into(
-    which: u32,
-    seen: bool,
-    message: &[u8],
-    buf: &mut [u8],
-    to: &mut Output,
-    out: &mut [u8],
-    at: Out,
-) -> Out {
-    fill(buf);
-    let n = call_into(which, seen, message, buf, to, out, at);
-    print::hex(to, out, n, buf)
 }
 
 // choose SEEN ROOM HEX
+pub(crate) fn choose<'a>(
+    words: &mut Words<'a>,
+    buffers: &mut Buffers,
+    page: &mut Page,
+) -> Result<(), Why<'a>> {
+    let call = Call::of(words, buffers)?;
+    let buf = cleared(&mut buffers.room, call.room)?;
+    let choice = rpcwire::choose(&buffers.message[..call.count], call.seen, buf);
+    print_choice(page, choice);
+    print::hex(page, buf);
+    Ok(())
+}
+
 // current_choose SEEN ROOM HEX
-// ask SEEN ROOM HEX
-pub(crate) fn choose(
-    which: u32,
-    line: &[u8],
-    start: usize,
-    message: &mut [u8],
-    room: &mut [u8],
-    to: &mut Output,
-    out: &mut [u8],
-    at: Out,
-) -> Out {
-    let w = mark_at(line, start);
-    let MarkAt::Is {
-        value: seen,
-        next: s,
-    } = w
-    else {
-        return why::mark(line, start, to, out, at);
-    };
-    let w = number_at(line, s);
-    let NumberAt::Is {
-        value: length,
-        next: s,
-    } = w
-    else {
-        return why::number(line, s, to, out, at);
-    };
-    let b = bytes_at(line, s, message);
-    if !b.good {
-        return why::bytes(line, s, to, out, at);
-    }
-    if !is_end(line, b.next) {
-        return why::words(to, out, at);
-    }
-    if room.len() < length {
-        return why::room(to, out, at);
-    }
-    let n = b.count;
-    choose_into(
-        which,
-        seen,
-        &message[0..n],
-        &mut room[0..length],
-        to,
-        out,
-        at,
-    )
+pub(crate) fn current_choose<'a>(
+    words: &mut Words<'a>,
+    buffers: &mut Buffers,
+    page: &mut Page,
+) -> Result<(), Why<'a>> {
+    let call = Call::of(words, buffers)?;
+    let buf = cleared(&mut buffers.room, call.room)?;
+    let choice = rpcwire::current_choose(&buffers.message[..call.count], call.seen, buf);
+    print_choice(page, choice);
+    print::hex(page, buf);
+    Ok(())
 }

@@ -1,12 +1,23 @@
-// How to use the program.
-use stdio::{Out, Output, flush, say};
+// How to use the program: the lines, each with an example and its answer; and the kinds.
+use crate::print::Page;
 
-// The lines, each with an example and its answer.
-fn questions(to: &mut Output, out: &mut [u8], at: Out) -> Out {
-    let a = say(
-        to,
-        out,
-        at,
+pub(crate) fn print(page: &mut Page) {
+    questions(page);
+    questions_of_calls(page);
+    kinds(page);
+    page.say(
+        b"
+A refusal is refused 1 PLACE COUNT, where COUNT bytes are wanting to finish the item at PLACE, refused 2 PLACE,
+refused 10 PLACE, and refused N for the others, and for all in writing. Buffers hold EE before anything is written. An empty run is fed once. A line that
+is not of this form gets ? and why, and so does one that has more than 2200000 characters, or whose ROOM or
+LENGTH is over 1048576.
+",
+    );
+    page.flush();
+}
+
+fn questions(page: &mut Page) {
+    page.say(
         b"usage: answers < LINES
 
 Reads lines to the end of the input and writes one line for each. The words of a line are parted by one
@@ -27,10 +38,7 @@ space. Bytes are hex, - for none; numbers are decimal and fit 64 bits.
       wrote 6 80000002abcd
 ",
     );
-    say(
-        to,
-        out,
-        a,
+    page.say(
         b"  feed CAPACITY RUN RUN ..     more USED, complete LENGTH USED RECORD or refused N USED of each feed, and where
                                that leads: state CAPACITY PLACED COUNT VALUE LEFT LAST STOPPED; buffer BUFFER
       feed 4 8000 0002ABCD
@@ -45,14 +53,11 @@ space. Bytes are hex, - for none; numbers are decimal and fit 64 bits.
       stream 4 80000002ABCD80000000 1 0 6
       record 2 abcd; record 0 -; used 10; state 4 0 0 0 0 0 0; buffer abcdeeee
 ",
-    )
+    );
 }
 
-fn questions_of_calls(to: &mut Output, out: &mut [u8], at: Out) -> Out {
-    say(
-        to,
-        out,
-        at,
+fn questions_of_calls(page: &mut Page) {
+    page.say(
         b"  choose SEEN ROOM HEX         handover PROGRAM VERSION PROCEDURE ARGUMENTS, then none or unix STAMP NAMEPLACE
                                NAMECOUNT UID GID GIDSPLACE GIDSCOUNT; reply 24; silence; or a refusal; then BUFFER
       choose 0 24 0000002A00000002
@@ -81,14 +86,11 @@ fn questions_of_calls(to: &mut Output, out: &mut [u8], at: Out) -> Out {
       inside 0000000100000002
 
 ",
-    )
+    );
 }
 
-fn kinds(to: &mut Output, out: &mut [u8], at: Out) -> Out {
-    say(
-        to,
-        out,
-        at,
+fn kinds(page: &mut Page) {
+    page.say(
         // made by tools/generate: names
         b"The kinds:
   bool i32 i64 u32 u64 eight opaque nfsstring words msg_type reply_stat accept_stat reject_stat
@@ -102,24 +104,5 @@ fn kinds(to: &mut Output, out: &mut [u8], at: Out) -> Out {
   mountres3 exports mapping
 ",
         // end of names
-    )
-}
-
-pub(crate) fn print(to: &mut Output, out: &mut [u8]) {
-    let a = Out::new();
-    let a = questions(to, out, a);
-    let a = questions_of_calls(to, out, a);
-    let a = kinds(to, out, a);
-    let a = say(
-        to,
-        out,
-        a,
-        b"
-A refusal is refused 1 PLACE COUNT, where COUNT bytes are wanting to finish the item at PLACE, refused 2 PLACE,
-refused 10 PLACE, and refused N for the others, and for all in writing. Buffers hold EE before anything is written. An empty run is fed once. A line that
-is not of this form gets ? and why, and so does one that has more than 2200000 characters, or whose ROOM or
-LENGTH is over 1048576.
-",
     );
-    flush(to, out, a);
 }

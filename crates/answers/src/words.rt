@@ -1,102 +1,90 @@
-// The words of a line, each read from the place where it starts. The word after one that is read starts at `next`, which is past the line's
-// end where there is none.
-ghost use Rattle.std.specs.Prelude.{◌≤◌, ◌<◌, length};
+// The words of a line, each read by what it has to be.
+ghost use Rattle.std.specs.Prelude.{◌≤◌, ◌+◌, ◌-◌, length, IfOk};
+ghost use Rattle.std.specs.Iterator.{at_most};
 
-use text::{Number, Unhexed};
+use crate::kinds::kind_named;
+use crate::verb::Verb;
+use crate::why::Why;
 
-#[derive(Drop)]
-pub enum NumberAt {
-    None,
-    Is { value: usize, next: usize },
+// What is left of a line. A word that is missing is read as an empty one.
+#[derive(Clone, Copy)]
+pub(crate) struct Words<'a> {
+    line: &'a [u8],
+    start: usize,
 }
 
-pub(crate) fn number_at(line: &[u8], start: usize) -> NumberAt {
-    if line.len() < start {
-        return NumberAt::None;
+impl<'a> Words<'a> {
+    pub(crate) fn new(line: &'a [u8]) -> Words<'a> {
+        Words { line, start: 0 }
     }
-    let end = text::word_end(line, start);
-    let read = text::decimal(&line[start..end]);
-    let Number::Is(value) = read else {
-        return NumberAt::None;
-    };
-    NumberAt::Is {
-        value,
-        next: end + 1,
+
+    fn word(&mut self) -> &'a [u8] {
+        self.next().unwrap_or(&[])
+    }
+
+    pub(crate) fn verb(&mut self) -> Result<Verb, Why<'a>> {
+        let word = self.word();
+        Verb::named(word).ok_or(Why::Question(word))
+    }
+
+    pub(crate) fn kind(&mut self) -> Result<u32, Why<'a>> {
+        let word = self.word();
+        kind_named(word).ok_or(Why::Kind(word))
+    }
+
+    pub(crate) fn number(&mut self) -> Result<usize, Why<'a>> {
+        number(self.word())
+    }
+
+    // A yes or no: `1` or `0`.
+    pub(crate) fn mark(&mut self) -> Result<bool, Why<'a>> {
+        match self.word() {
+            b"0" => Ok(false),
+            b"1" => Ok(true),
+            word => Err(Why::Mark(word)),
+        }
+    }
+
+    // The bytes that a word spells, which are then at the front of a buffer, and how many they are.
+    pub(crate) fn bytes(&mut self, buf: &mut [u8]) -> Result<usize, Why<'a>>
+        ensures { IfOk result (λ n. n ≤ length buf.new) }
+    {
+        bytes(self.word(), buf)
+    }
+
+    // Nothing comes behind the last word.
+    pub(crate) fn end(&self) -> Result<(), Why<'a>> {
+        if self.start <= self.line.len() {
+            return Err(Why::MoreWords);
+        }
+        Ok(())
     }
 }
 
-// Whether a word is another.
-pub(crate) fn same(a: &[u8], b: &[u8]) -> bool {
-    a == b
-}
+// The words are parted by one space each: so the one after a word starts one behind its end, and there is none where that is past the
+// line's end.
+impl<'a> Iterator for Words<'a> {
+    type Item = &'a [u8];
 
-#[derive(Drop)]
-pub enum MarkAt {
-    None,
-    Is { value: bool, next: usize },
-}
+    ghost remaining = { λ words. at_most (length words.line.now + 1 - words.start) };
 
-// A yes or no: `1` or `0`.
-pub(crate) fn mark_at(line: &[u8], start: usize) -> MarkAt {
-    if line.len() < start {
-        return MarkAt::None;
+    fn next(&mut self) -> Option<&'a [u8]> {
+        if self.line.len() < self.start {
+            return None;
+        }
+        let end = text::word_end(self.line, self.start);
+        let word = &self.line[self.start..end];
+        self.start = end + 1;
+        Some(word)
     }
-    let end = text::word_end(line, start);
-    let word = &line[start..end];
-    if same(word, b"0") {
-        return MarkAt::Is {
-            value: false,
-            next: end + 1,
-        };
-    }
-    if same(word, b"1") {
-        return MarkAt::Is {
-            value: true,
-            next: end + 1,
-        };
-    }
-    MarkAt::None
 }
 
-// Bytes that a word spells, which are then at the front of a buffer.
-#[derive(Drop)]
-pub struct BytesAt {
-    pub good: bool,
-    pub count: usize,
-    pub next: usize,
+pub(crate) fn number(word: &[u8]) -> Result<usize, Why<'_>> {
+    text::decimal(word).ok_or(Why::Number(word))
 }
 
-pub(crate) fn bytes_at(line: &[u8], start: usize, message: &mut [u8]) -> BytesAt
-    ensures count_in_bounds { result.count ≤ length message.new }
-    ensures start_lt_next { start ≤ length line.now → start < result.next }
+pub(crate) fn bytes<'a>(word: &'a [u8], buf: &mut [u8]) -> Result<usize, Why<'a>>
+    ensures { IfOk result (λ n. n ≤ length buf.new) }
 {
-    if line.len() < start {
-        return BytesAt {
-            good: false,
-            count: 0,
-            next: start,
-        };
-    }
-    let end = text::word_end(line, start);
-    let read = text::unhex(&line[start..end], message);
-    BytesAt {
-        good: read.good,
-        count: read.count,
-        next: end + 1,
-    }
-}
-
-// Where the word after the one at a place starts.
-pub(crate) fn after(line: &[u8], start: usize) -> usize
-    ensures { start ≤ length line.now → start < result }
-{
-    if line.len() < start {
-        return start;
-    }
-    text::word_end(line, start) + 1
-}
-
-// Whether nothing comes after the word before this place.
-pub(crate) fn is_end(line: &[u8], start: usize) -> bool {
-    line.len() < start
+    text::unhex(word, buf).ok_or(Why::Bytes(word))
 }

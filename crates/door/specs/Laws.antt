@@ -14,7 +14,6 @@ pub mod Laid
 pub mod LaidFattr
 pub mod One
 pub mod Again
-pub mod Replies
 pub mod Span
 pub mod Judged
 pub mod Streams

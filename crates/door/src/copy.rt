@@ -5,7 +5,7 @@ ghost use Rattle.xdr.specs.Meaning.Views.{view_marks, view_wrote};
 ghost use Rattle.door.specs.Meaning.Copy.{Is, view_marking, view_copied, said_of, Span, Stands};
 
 use xdr::order::room;
-use xdr::{Marks, Refusal, Wrote};
+use xdr::{Marks, Refusal};
 
 // The marks of a reading in one case, so that an answer holds them in one byte: those of no piece, of one and of two.
 #[derive(Clone, Copy)]
@@ -94,18 +94,18 @@ pub enum Copied {
 }
 
 // The answer of a reading that was taken, by what its writer says.
-pub(crate) fn copied_to(next: usize, plain: bool, marks: Marks, w: Wrote) -> Copied
+pub(crate) fn copied_to(next: usize, plain: bool, marks: Marks, w: Result<usize, Refusal>) -> Copied
     ensures { Is (said_of next plain (view_marks marks)) (view_wrote w) (view_copied result) }
 {
     let marks = Marking::of(marks);
     match w {
-        Wrote::Refused(r) => Copied::Unwritten {
+        Err(r) => Copied::Unwritten {
             refusal: r,
             next,
             plain,
             marks,
         },
-        Wrote::Done(end) => Copied::Done {
+        Ok(end) => Copied::Done {
             next,
             plain,
             end,
@@ -115,15 +115,18 @@ pub(crate) fn copied_to(next: usize, plain: bool, marks: Marks, w: Wrote) -> Cop
 }
 
 // The bytes from a place up to the next, written as they stand: 9, then 5. What came in published form is its own rewriting.
-pub(crate) fn write_span(src: &[u8], at: usize, next: usize, out: &mut [u8], start: usize) -> Wrote
+pub(crate) fn write_span(
+    src: &[u8],
+    at: usize,
+    next: usize,
+    out: &mut [u8],
+    start: usize,
+) -> Result<usize, Refusal>
     requires { Span src.now at next }
     ensures { Stands (part src.now at next) start out.old (view_wrote result) out.new }
 {
-    let w = room(out.len(), start, next - at);
-    let Wrote::Done(end) = w else {
-        return w;
-    };
+    let end = room(out.len(), start, next - at)?;
     let part = &src[at..next];
     out[start..end].copy_from_slice(part);
-    w
+    Ok(end)
 }

@@ -1,11 +1,11 @@
 // What C and Rust programs call, by the crate door_c, which exports it. Every call gets an answer: a number, 0 or from 100 on where
 // something is handed over, 1 to 10 for a refusal (docs/SCOPE.md, Refusals), and these two.
 ghost use Rattle.std.specs.Prelude.{◌≤◌, length};
-ghost use Rattle.xdr.specs.Meaning.Views.{view_wrote};
+ghost use Rattle.xdr.specs.Meaning.Views.{view_wrote, view_option};
 ghost use Rattle.door.specs.Meaning.Copy.{view_copied};
 ghost use Rattle.rpc.specs.Meaning.Crate.{crate};
 ghost use Rattle.rpc.specs.Meaning.Current.{current};
-ghost use Rattle.rpcwire.specs.Meaning.Views.{view_choice, view_caller, view_fed};
+ghost use Rattle.rpcwire.specs.Meaning.Views.{view_choice, view_fed};
 ghost use Rattle.door.specs.Meaning.Figures.{Shown, Shows, Says};
 ghost use Rattle.door.specs.Meaning.Exports.{code_of, figures, RewriteCalled, size_code, size_figures, judged_code, judged_figures, JudgeCalled, wrote_code, wrote_figures, FragmentCalled, chosen_code, chosen_figures, handed_figures, ChooseCalled, state_list, fed_code, fed_figures, fed_state, FeedCalled};
 
@@ -13,8 +13,9 @@ use crate::copy::Copied;
 use crate::figures::{bit, put_figures};
 use crate::kinds::copy_kind;
 use crate::values_read::tell_refused;
-use rpcwire::{Assembler, Caller, Choice, Fed, choose, current_choose, feed, write_fragment};
-use xdr::{Refusal, Wrote};
+use rpc::auth_unix;
+use rpcwire::{Assembler, Choice, Fed, choose, current_choose, feed, write_fragment};
+use xdr::Refusal;
 
 // The list for the figures is too short.
 pub const SHORT_LIST: u32 = 254;
@@ -120,16 +121,16 @@ pub(crate) fn judge_any(kind: u32, src: &[u8], at: usize, info: &mut [u64]) -> u
 }
 
 // The number of a writer's answer, and its figure.
-pub(crate) fn tell_wrote(w: Wrote, info: &mut [u64]) -> u32
+pub(crate) fn tell_wrote(w: Result<usize, Refusal>, info: &mut [u64]) -> u32
     requires { 1 ≤ length info.old }
     ensures { Says wrote_code wrote_figures (view_wrote w) info.old result info.new }
 {
     match w {
-        Wrote::Done(n) => {
+        Ok(n) => {
             put_figures(&[n as u64], 0, info);
             0
         }
-        Wrote::Refused(r) => {
+        Err(r) => {
             put_figures(&[r.needed() as u64], 0, info);
             r.number()
         }
@@ -184,20 +185,20 @@ fn tell_hand_over(
     prog: u32,
     vers: u32,
     proc: u32,
-    caller: Caller,
+    caller: Option<auth_unix>,
     arguments: usize,
     info: &mut [u64],
 )
     requires { 12 ≤ length info.old }
-    ensures { Shows (handed_figures prog vers proc arguments) (view_caller caller) info.old info.new }
+    ensures { Shows (handed_figures prog vers proc arguments) (view_option caller) info.old info.new }
 {
     match caller {
-        Caller::Unnamed => put_figures(
+        None => put_figures(
             &[prog as u64, vers as u64, proc as u64, arguments as u64],
             8,
             info,
         ),
-        Caller::Unix(a) => {
+        Some(a) => {
             let name = a.machinename;
             let gids = a.gids;
             put_figures(

@@ -12,10 +12,9 @@ ghost use Rattle.door.specs.Laws.TakenFattr.{ids_figures, sizes_figures, times_f
 use crate::figures::{put_three, put_two};
 use crate::sattr3::Step;
 use nfs::fattr3;
-use nfsattr::inner::attr::{IdsRead, ids_at};
+use nfsattr::inner::attr::ids_at;
 use xdr::inner::{u32_pair_at, u64_pair_at};
-use xdr::order::{Opening, open_at};
-use xdr::{U32PairRead, U64PairRead};
+use xdr::order::open_at;
 
 // Six figures from the k-th on.
 fn put_six(a: u64, b: u64, c: u64, d: u64, e: u64, f: u64, info: &mut [u64], k: usize)
@@ -27,165 +26,108 @@ fn put_six(a: u64, b: u64, c: u64, d: u64, e: u64, f: u64, info: &mut [u64], k: 
 }
 
 // The figures of a fattr3 stand from the third of the list on: five, six and six.
-fn take_ids(src: &[u8], at: usize, info: &mut [u64]) -> Step
+fn take_ids(src: &[u8], at: usize, info: &mut [u64]) -> Option<Step>
     requires { 19 ≤ length info.old }
     ensures { Takes ids ids_figures src.now at 2 info.old result info.new }
 {
-    let r1 = ids_at(src, at);
-    let IdsRead::Took { value: v, next: n1 } = r1 else {
-        return Step::Lost;
+    let Ok(ids) = ids_at(src, at) else {
+        return None;
     };
+    let v = ids.value;
     let ftype = v.ftype;
     put_two(ftype.number() as u64, v.mode as u64, info, 2);
     put_three(v.nlink as u64, v.uid as u64, v.gid as u64, info, 4);
-    Step::Took {
-        next: n1,
-        plain: true,
-    }
+    Some(Step {
+        next: ids.next,
+        plain: ids.plain,
+    })
 }
 
 // The words of rdev and of the times are read as pairs: the compiler packs a specdata3 or an nfstime3 into one word, and takes it apart again.
-fn take_sizes(src: &[u8], at: usize, info: &mut [u64]) -> Step
+fn take_sizes(src: &[u8], at: usize, info: &mut [u64]) -> Option<Step>
     requires { 19 ≤ length info.old }
     ensures { Takes sizes sizes_figures src.now at 7 info.old result info.new }
 {
-    let r1 = u64_pair_at(src, at);
-    let U64PairRead::Took {
-        first: size,
-        second: used,
-        next: n1,
-    } = r1
-    else {
-        return Step::Lost;
+    let Ok(sizes) = u64_pair_at(src, at) else {
+        return None;
     };
-    let r2 = u32_pair_at(src, n1);
-    let U32PairRead::Took {
-        first: specdata1,
-        second: specdata2,
-        next: n2,
-    } = r2
-    else {
-        return Step::Lost;
+    let Ok(rdev) = u32_pair_at(src, sizes.next) else {
+        return None;
     };
-    let r3 = u64_pair_at(src, n2);
-    let U64PairRead::Took {
-        first: fsid,
-        second: fileid,
-        next: n3,
-    } = r3
-    else {
-        return Step::Lost;
+    let Ok(file) = u64_pair_at(src, rdev.next) else {
+        return None;
     };
     put_six(
-        size,
-        used,
-        specdata1 as u64,
-        specdata2 as u64,
-        fsid,
-        fileid,
+        sizes.value.0,
+        sizes.value.1,
+        rdev.value.0 as u64,
+        rdev.value.1 as u64,
+        file.value.0,
+        file.value.1,
         info,
         7,
     );
-    Step::Took {
-        next: n3,
-        plain: true,
-    }
+    Some(Step {
+        next: file.next,
+        plain: sizes.plain & rdev.plain & file.plain,
+    })
 }
 
-fn take_times(src: &[u8], at: usize, info: &mut [u64]) -> Step
+fn take_times(src: &[u8], at: usize, info: &mut [u64]) -> Option<Step>
     requires { 19 ≤ length info.old }
     ensures { Takes times times_figures src.now at 13 info.old result info.new }
 {
-    let r1 = u32_pair_at(src, at);
-    let U32PairRead::Took {
-        first: atime_s,
-        second: atime_ns,
-        next: n1,
-    } = r1
-    else {
-        return Step::Lost;
+    let Ok(atime) = u32_pair_at(src, at) else {
+        return None;
     };
-    let r2 = u32_pair_at(src, n1);
-    let U32PairRead::Took {
-        first: mtime_s,
-        second: mtime_ns,
-        next: n2,
-    } = r2
-    else {
-        return Step::Lost;
+    let Ok(mtime) = u32_pair_at(src, atime.next) else {
+        return None;
     };
-    let r3 = u32_pair_at(src, n2);
-    let U32PairRead::Took {
-        first: ctime_s,
-        second: ctime_ns,
-        next: n3,
-    } = r3
-    else {
-        return Step::Lost;
+    let Ok(ctime) = u32_pair_at(src, mtime.next) else {
+        return None;
     };
     put_six(
-        atime_s as u64,
-        atime_ns as u64,
-        mtime_s as u64,
-        mtime_ns as u64,
-        ctime_s as u64,
-        ctime_ns as u64,
+        atime.value.0 as u64,
+        atime.value.1 as u64,
+        mtime.value.0 as u64,
+        mtime.value.1 as u64,
+        ctime.value.0 as u64,
+        ctime.value.1 as u64,
         info,
         13,
     );
-    Step::Took {
-        next: n3,
-        plain: true,
-    }
+    Some(Step {
+        next: ctime.next,
+        plain: atime.plain & mtime.plain & ctime.plain,
+    })
 }
 
-fn take_groups(src: &[u8], at: usize, info: &mut [u64]) -> Step
+fn take_groups(src: &[u8], at: usize, info: &mut [u64]) -> Option<Step>
     requires { 19 ≤ length info.old }
     ensures { Whole fattr fattr3_figures 17 src.now at info.old result info.new }
 {
-    let r1 = take_ids(src, at, info);
-    let Step::Took {
-        next: n1,
-        plain: p1,
-    } = r1
-    else {
-        return Step::Lost;
-    };
-    let r2 = take_sizes(src, n1, info);
-    let Step::Took {
-        next: n2,
-        plain: p2,
-    } = r2
-    else {
-        return Step::Lost;
-    };
-    let r3 = take_times(src, n2, info);
-    let Step::Took {
-        next: n3,
-        plain: p3,
-    } = r3
-    else {
-        return Step::Lost;
-    };
-    Step::Took {
-        next: n3,
-        plain: p1 & (p2 & p3),
-    }
+    let ids = take_ids(src, at, info)?;
+    let sizes = take_sizes(src, ids.next, info)?;
+    let times = take_times(src, sizes.next, info)?;
+    Some(Step {
+        next: times.next,
+        plain: ids.plain & (sizes.plain & times.plain),
+    })
 }
 
 // Where all of it is there, one test of room will do: the compiler then drops the others.
-pub(crate) fn take_fattr3(src: &[u8], at: usize, info: &mut [u64]) -> Step
+pub(crate) fn take_fattr3(src: &[u8], at: usize, info: &mut [u64]) -> Option<Step>
     requires { 19 ≤ length info.old }
     ensures { WholeAnswers fattr fattr3_figures 17 src.now at info.old result info.new }
 {
     if src.len() < fattr3::SIZE {
-        return Step::Lost;
+        return None;
     }
     if src.len() - fattr3::SIZE < at {
-        return Step::Lost;
+        return None;
     }
-    match open_at(src, at) {
-        Opening::Refused(_) => Step::Lost,
-        Opening::Open => take_groups(src, at, info),
-    }
+    let Ok(()) = open_at(src, at) else {
+        return None;
+    };
+    take_groups(src, at, info)
 }

@@ -1,133 +1,201 @@
 // made by tools/generate from kinds.txt
-// Each item, copied.
+// Each item, as a kind.
 ghost use Rattle.xdr.specs.Meaning.Format.{exactly};
 ghost use Rattle.xdr.specs.Meaning.Items.{flag, int, long, word, hyper};
 ghost use Rattle.xdr.specs.Meaning.Formats.{eight_bytes, bytes, word_list};
-ghost use Rattle.door.specs.Meaning.Copy.{view_copied, Copies};
+ghost use Rattle.door.specs.Meaning.Copy.{held_as};
 
-use crate::copy::{Copied, copied_to, write_span};
-use xdr::{BoolRead, I32Read, I64Read, Marks, PieceRead, U32Read, U64Read};
+use crate::kind::Kind;
+use xdr::{Marks, Piece, Refusal, Took};
 
-pub(crate) fn copy_bool(src: &[u8], at: usize, out: &mut [u8], start: usize) -> Copied
-    ensures { Copies (exactly flag) src.now at start out.old (view_copied result) out.new }
-{
-    match xdr::read_bool(src, at) {
-        BoolRead::Refused(r) => Copied::Unread(r),
-        BoolRead::Took {
-            value: v,
-            next: n,
-            plain: p,
-        } => {
-            if p {
-                return copied_to(n, p, Marks::None, write_span(src, at, n, out, start));
-            }
-            copied_to(n, p, Marks::None, xdr::write_bool(v, out, start))
-        }
+pub(crate) struct Bool;
+
+impl Kind for Bool {
+    type Value = bool;
+
+    ghost number = { 0 };
+
+    ghost held = { held_as (exactly flag) };
+
+    ghost listed = { λ s at start o c o' d. d };
+
+    fn read(src: &[u8], at: usize) -> Result<Took<bool>, Refusal> {
+        xdr::read_bool(src, at)
+    }
+
+    fn write(_src: &[u8], x: bool, out: &mut [u8], at: usize) -> Result<usize, Refusal> {
+        xdr::write_bool(x, out, at)
+    }
+
+    fn marks(_x: bool) -> Marks {
+        Marks::None
     }
 }
 
-pub(crate) fn copy_i32(src: &[u8], at: usize, out: &mut [u8], start: usize) -> Copied
-    ensures { Copies (exactly int) src.now at start out.old (view_copied result) out.new }
-{
-    match xdr::read_i32(src, at) {
-        I32Read::Refused(r) => Copied::Unread(r),
-        I32Read::Took { value: _, next: n } => copied_to(
-            n,
-            true,
-            Marks::None,
-            write_span(src, at, n, out, start),
-        ),
+pub(crate) struct I32;
+
+impl Kind for I32 {
+    type Value = i32;
+
+    ghost number = { 1 };
+
+    ghost held = { held_as (exactly int) };
+
+    ghost listed = { λ s at start o c o' d. d };
+
+    fn read(src: &[u8], at: usize) -> Result<Took<i32>, Refusal> {
+        xdr::read_i32(src, at)
+    }
+
+    fn write(_src: &[u8], x: i32, out: &mut [u8], at: usize) -> Result<usize, Refusal> {
+        xdr::write_i32(x, out, at)
+    }
+
+    fn marks(_x: i32) -> Marks {
+        Marks::None
     }
 }
 
-pub(crate) fn copy_i64(src: &[u8], at: usize, out: &mut [u8], start: usize) -> Copied
-    ensures { Copies (exactly long) src.now at start out.old (view_copied result) out.new }
-{
-    match xdr::read_i64(src, at) {
-        I64Read::Refused(r) => Copied::Unread(r),
-        I64Read::Took { value: _, next: n } => copied_to(
-            n,
-            true,
-            Marks::None,
-            write_span(src, at, n, out, start),
-        ),
+pub(crate) struct I64;
+
+impl Kind for I64 {
+    type Value = i64;
+
+    ghost number = { 2 };
+
+    ghost held = { held_as (exactly long) };
+
+    ghost listed = { λ s at start o c o' d. d };
+
+    fn read(src: &[u8], at: usize) -> Result<Took<i64>, Refusal> {
+        xdr::read_i64(src, at)
+    }
+
+    fn write(_src: &[u8], x: i64, out: &mut [u8], at: usize) -> Result<usize, Refusal> {
+        xdr::write_i64(x, out, at)
+    }
+
+    fn marks(_x: i64) -> Marks {
+        Marks::None
     }
 }
 
-pub(crate) fn copy_u32(src: &[u8], at: usize, out: &mut [u8], start: usize) -> Copied
-    ensures { Copies (exactly word) src.now at start out.old (view_copied result) out.new }
-{
-    match xdr::read_u32(src, at) {
-        U32Read::Refused(r) => Copied::Unread(r),
-        U32Read::Took { value: _, next: n } => copied_to(
-            n,
-            true,
-            Marks::None,
-            write_span(src, at, n, out, start),
-        ),
+pub(crate) struct U32;
+
+impl Kind for U32 {
+    type Value = u32;
+
+    ghost number = { 3 };
+
+    ghost held = { held_as (exactly word) };
+
+    ghost listed = { λ s at start o c o' d. d };
+
+    fn read(src: &[u8], at: usize) -> Result<Took<u32>, Refusal> {
+        xdr::read_u32(src, at)
+    }
+
+    fn write(_src: &[u8], x: u32, out: &mut [u8], at: usize) -> Result<usize, Refusal> {
+        xdr::write_u32(x, out, at)
+    }
+
+    fn marks(_x: u32) -> Marks {
+        Marks::None
     }
 }
 
-pub(crate) fn copy_u64(src: &[u8], at: usize, out: &mut [u8], start: usize) -> Copied
-    ensures { Copies (exactly hyper) src.now at start out.old (view_copied result) out.new }
-{
-    match xdr::read_u64(src, at) {
-        U64Read::Refused(r) => Copied::Unread(r),
-        U64Read::Took { value: _, next: n } => copied_to(
-            n,
-            true,
-            Marks::None,
-            write_span(src, at, n, out, start),
-        ),
+pub(crate) struct U64;
+
+impl Kind for U64 {
+    type Value = u64;
+
+    ghost number = { 4 };
+
+    ghost held = { held_as (exactly hyper) };
+
+    ghost listed = { λ s at start o c o' d. d };
+
+    fn read(src: &[u8], at: usize) -> Result<Took<u64>, Refusal> {
+        xdr::read_u64(src, at)
+    }
+
+    fn write(_src: &[u8], x: u64, out: &mut [u8], at: usize) -> Result<usize, Refusal> {
+        xdr::write_u64(x, out, at)
+    }
+
+    fn marks(_x: u64) -> Marks {
+        Marks::None
     }
 }
 
-pub(crate) fn copy_eight(src: &[u8], at: usize, out: &mut [u8], start: usize) -> Copied
-    ensures { Copies eight_bytes src.now at start out.old (view_copied result) out.new }
-{
-    match xdr::read_eight(src, at) {
-        U64Read::Refused(r) => Copied::Unread(r),
-        U64Read::Took { value: _, next: n } => copied_to(
-            n,
-            true,
-            Marks::None,
-            write_span(src, at, n, out, start),
-        ),
+pub(crate) struct Eight;
+
+impl Kind for Eight {
+    type Value = u64;
+
+    ghost number = { 5 };
+
+    ghost held = { held_as eight_bytes };
+
+    ghost listed = { λ s at start o c o' d. d };
+
+    fn read(src: &[u8], at: usize) -> Result<Took<u64>, Refusal> {
+        xdr::read_eight(src, at)
+    }
+
+    fn write(_src: &[u8], x: u64, out: &mut [u8], at: usize) -> Result<usize, Refusal> {
+        xdr::write_eight(x, out, at)
+    }
+
+    fn marks(_x: u64) -> Marks {
+        Marks::None
     }
 }
 
-pub(crate) fn copy_opaque(src: &[u8], at: usize, out: &mut [u8], start: usize) -> Copied
-    ensures { Copies bytes src.now at start out.old (view_copied result) out.new }
-{
-    match xdr::read_opaque(src, at) {
-        PieceRead::Refused(r) => Copied::Unread(r),
-        PieceRead::Took {
-            value: v,
-            next: n,
-            plain: p,
-        } => {
-            if p {
-                return copied_to(n, p, v.marks(), write_span(src, at, n, out, start));
-            }
-            copied_to(n, p, v.marks(), xdr::write_opaque(src, v, out, start))
-        }
+pub(crate) struct Opaque;
+
+impl Kind for Opaque {
+    type Value = Piece;
+
+    ghost number = { 6 };
+
+    ghost held = { held_as bytes };
+
+    ghost listed = { λ s at start o c o' d. d };
+
+    fn read(src: &[u8], at: usize) -> Result<Took<Piece>, Refusal> {
+        xdr::read_opaque(src, at)
+    }
+
+    fn write(src: &[u8], x: Piece, out: &mut [u8], at: usize) -> Result<usize, Refusal> {
+        xdr::write_opaque(src, x, out, at)
+    }
+
+    fn marks(x: Piece) -> Marks {
+        x.marks()
     }
 }
 
-pub(crate) fn copy_words(src: &[u8], at: usize, out: &mut [u8], start: usize) -> Copied
-    ensures { Copies word_list src.now at start out.old (view_copied result) out.new }
-{
-    match xdr::read_words(src, at) {
-        PieceRead::Refused(r) => Copied::Unread(r),
-        PieceRead::Took {
-            value: v,
-            next: n,
-            plain: p,
-        } => {
-            if p {
-                return copied_to(n, p, v.marks(), write_span(src, at, n, out, start));
-            }
-            copied_to(n, p, v.marks(), xdr::write_words(src, v, out, start))
-        }
+pub(crate) struct Words;
+
+impl Kind for Words {
+    type Value = Piece;
+
+    ghost number = { 8 };
+
+    ghost held = { held_as word_list };
+
+    ghost listed = { λ s at start o c o' d. d };
+
+    fn read(src: &[u8], at: usize) -> Result<Took<Piece>, Refusal> {
+        xdr::read_words(src, at)
+    }
+
+    fn write(src: &[u8], x: Piece, out: &mut [u8], at: usize) -> Result<usize, Refusal> {
+        xdr::write_words(src, x, out, at)
+    }
+
+    fn marks(x: Piece) -> Marks {
+        x.marks()
     }
 }

@@ -4,28 +4,34 @@ ghost use Rattle.door.specs.Meaning.Exports.{JudgeCalled};
 
 use crate::exports::{SHORT_LIST, judge_any, tell_judged};
 use crate::files::{
-    copy_diropargs3, copy_fattr3, copy_fsinfo3, copy_ftype3, copy_nfs_fh3, copy_nfsstat3,
-    copy_nfstime3, copy_post_op_attr, copy_post_op_fh3, copy_pre_op_attr, copy_sattr3,
-    copy_set_atime, copy_set_gid3, copy_set_mode3, copy_set_mtime, copy_set_size3, copy_set_uid3,
-    copy_specdata3, copy_symlinkdata3, copy_time_how, copy_wcc_attr, copy_wcc_data,
+    Diropargs3, Fattr3, Fsinfo3, Ftype3, NfsFh3, Nfsstat3, Nfsstring, Nfstime3, PostOpAttr,
+    PostOpFh3, PreOpAttr, Sattr3, SetAtime, SetGid3, SetMode3, SetMtime, SetSize3, SetUid3,
+    Specdata3, Symlinkdata3, TimeHow, WccAttr, WccData,
 };
-use crate::items::{
-    copy_bool, copy_eight, copy_i32, copy_i64, copy_opaque, copy_u32, copy_u64, copy_words,
-};
+use crate::items::{Bool, Eight, I32, I64, Opaque, U32, U64, Words};
+use crate::kind::{Kind, copy};
 use crate::messages::{
-    copy_accept_body, copy_accept_stat, copy_accepted_reply, copy_auth_flavor, copy_auth_stat,
-    copy_auth_unix, copy_call_body, copy_current_accept_body, copy_current_accept_stat,
-    copy_current_accepted_reply, copy_current_auth_stat, copy_current_rejected_reply,
-    copy_current_reply_body, copy_current_rpc_body, copy_current_rpc_msg, copy_mismatch_info,
-    copy_msg_type, copy_opaque_auth, copy_reject_stat, copy_rejected_reply, copy_reply_body,
-    copy_reply_stat, copy_rpc_body, copy_rpc_msg,
+    AcceptBody, AcceptStat, AcceptedReply, AuthFlavor, AuthStat, AuthUnix, CallBody,
+    CurrentAcceptBody, CurrentAcceptStat, CurrentAcceptedReply, CurrentAuthStat,
+    CurrentRejectedReply, CurrentReplyBody, CurrentRpcBody, CurrentRpcMsg, MismatchInfo, MsgType,
+    OpaqueAuth, RejectStat, RejectedReply, ReplyBody, ReplyStat, RpcBody, RpcMsg,
 };
-use crate::mounts::{copy_dirpath, copy_exports, copy_mapping, copy_mountres3, copy_mountstat3};
+use crate::mounts::{Dirpath, Exports, Mapping, Mountres3, Mountstat3};
 use crate::procedures::{
-    copy_getattr3args, copy_getattr3res, copy_lookup3args, copy_lookup3res, copy_read3args,
-    copy_read3res, copy_sattrguard3, copy_setattr3args, copy_setattr3res, copy_stable_how,
-    copy_write3args, copy_write3res,
+    Getattr3args, Getattr3res, Lookup3args, Lookup3res, Read3args, Read3res, Sattrguard3,
+    Setattr3args, Setattr3res, StableHow, Write3args, Write3res,
 };
+
+// What is read of a kind, and nothing written.
+fn judge<K: Kind>(src: &[u8], at: usize, info: &mut [u64]) -> u32
+    ensures { JudgeCalled K.number src.now at info.old result info.new }
+{
+    if info.len() < 3 {
+        return SHORT_LIST;
+    }
+    let c = copy::<K>(src, at, &mut [], 0);
+    tell_judged(c, info)
+}
 
 // Reads a message of a kind from place `at` of src, and writes nothing. 0: info holds the place after what was read, 1 if that was in
 // published form and else 0, and how many bytes its rewriting has. A refusal: its place, how many bytes it wants, and 0.
@@ -128,719 +134,431 @@ fn judge_rest(kind: u32, src: &[u8], at: usize, info: &mut [u64]) -> u32
 pub fn yugerzat_judge_bool(src: &[u8], at: usize, info: &mut [u64]) -> u32
     ensures { JudgeCalled 0 src.now at info.old result info.new }
 {
-    if info.len() < 3 {
-        return SHORT_LIST;
-    }
-    let c = copy_bool(src, at, &mut [], 0);
-    tell_judged(c, info)
+    judge::<Bool>(src, at, info)
 }
 
 pub fn yugerzat_judge_i32(src: &[u8], at: usize, info: &mut [u64]) -> u32
     ensures { JudgeCalled 1 src.now at info.old result info.new }
 {
-    if info.len() < 3 {
-        return SHORT_LIST;
-    }
-    let c = copy_i32(src, at, &mut [], 0);
-    tell_judged(c, info)
+    judge::<I32>(src, at, info)
 }
 
 pub fn yugerzat_judge_i64(src: &[u8], at: usize, info: &mut [u64]) -> u32
     ensures { JudgeCalled 2 src.now at info.old result info.new }
 {
-    if info.len() < 3 {
-        return SHORT_LIST;
-    }
-    let c = copy_i64(src, at, &mut [], 0);
-    tell_judged(c, info)
+    judge::<I64>(src, at, info)
 }
 
 pub fn yugerzat_judge_u32(src: &[u8], at: usize, info: &mut [u64]) -> u32
     ensures { JudgeCalled 3 src.now at info.old result info.new }
 {
-    if info.len() < 3 {
-        return SHORT_LIST;
-    }
-    let c = copy_u32(src, at, &mut [], 0);
-    tell_judged(c, info)
+    judge::<U32>(src, at, info)
 }
 
 pub fn yugerzat_judge_u64(src: &[u8], at: usize, info: &mut [u64]) -> u32
     ensures { JudgeCalled 4 src.now at info.old result info.new }
 {
-    if info.len() < 3 {
-        return SHORT_LIST;
-    }
-    let c = copy_u64(src, at, &mut [], 0);
-    tell_judged(c, info)
+    judge::<U64>(src, at, info)
 }
 
 pub fn yugerzat_judge_eight(src: &[u8], at: usize, info: &mut [u64]) -> u32
     ensures { JudgeCalled 5 src.now at info.old result info.new }
 {
-    if info.len() < 3 {
-        return SHORT_LIST;
-    }
-    let c = copy_eight(src, at, &mut [], 0);
-    tell_judged(c, info)
+    judge::<Eight>(src, at, info)
 }
 
 pub fn yugerzat_judge_opaque(src: &[u8], at: usize, info: &mut [u64]) -> u32
     ensures { JudgeCalled 6 src.now at info.old result info.new }
 {
-    if info.len() < 3 {
-        return SHORT_LIST;
-    }
-    let c = copy_opaque(src, at, &mut [], 0);
-    tell_judged(c, info)
+    judge::<Opaque>(src, at, info)
 }
 
 pub fn yugerzat_judge_nfsstring(src: &[u8], at: usize, info: &mut [u64]) -> u32
     ensures { JudgeCalled 7 src.now at info.old result info.new }
 {
-    if info.len() < 3 {
-        return SHORT_LIST;
-    }
-    let c = copy_opaque(src, at, &mut [], 0);
-    tell_judged(c, info)
+    judge::<Nfsstring>(src, at, info)
 }
 
 pub fn yugerzat_judge_words(src: &[u8], at: usize, info: &mut [u64]) -> u32
     ensures { JudgeCalled 8 src.now at info.old result info.new }
 {
-    if info.len() < 3 {
-        return SHORT_LIST;
-    }
-    let c = copy_words(src, at, &mut [], 0);
-    tell_judged(c, info)
+    judge::<Words>(src, at, info)
 }
 
 pub fn yugerzat_judge_msg_type(src: &[u8], at: usize, info: &mut [u64]) -> u32
     ensures { JudgeCalled 9 src.now at info.old result info.new }
 {
-    if info.len() < 3 {
-        return SHORT_LIST;
-    }
-    let c = copy_msg_type(src, at, &mut [], 0);
-    tell_judged(c, info)
+    judge::<MsgType>(src, at, info)
 }
 
 pub fn yugerzat_judge_reply_stat(src: &[u8], at: usize, info: &mut [u64]) -> u32
     ensures { JudgeCalled 10 src.now at info.old result info.new }
 {
-    if info.len() < 3 {
-        return SHORT_LIST;
-    }
-    let c = copy_reply_stat(src, at, &mut [], 0);
-    tell_judged(c, info)
+    judge::<ReplyStat>(src, at, info)
 }
 
 pub fn yugerzat_judge_accept_stat(src: &[u8], at: usize, info: &mut [u64]) -> u32
     ensures { JudgeCalled 11 src.now at info.old result info.new }
 {
-    if info.len() < 3 {
-        return SHORT_LIST;
-    }
-    let c = copy_accept_stat(src, at, &mut [], 0);
-    tell_judged(c, info)
+    judge::<AcceptStat>(src, at, info)
 }
 
 pub fn yugerzat_judge_reject_stat(src: &[u8], at: usize, info: &mut [u64]) -> u32
     ensures { JudgeCalled 12 src.now at info.old result info.new }
 {
-    if info.len() < 3 {
-        return SHORT_LIST;
-    }
-    let c = copy_reject_stat(src, at, &mut [], 0);
-    tell_judged(c, info)
+    judge::<RejectStat>(src, at, info)
 }
 
 pub fn yugerzat_judge_auth_stat(src: &[u8], at: usize, info: &mut [u64]) -> u32
     ensures { JudgeCalled 13 src.now at info.old result info.new }
 {
-    if info.len() < 3 {
-        return SHORT_LIST;
-    }
-    let c = copy_auth_stat(src, at, &mut [], 0);
-    tell_judged(c, info)
+    judge::<AuthStat>(src, at, info)
 }
 
 pub fn yugerzat_judge_auth_flavor(src: &[u8], at: usize, info: &mut [u64]) -> u32
     ensures { JudgeCalled 14 src.now at info.old result info.new }
 {
-    if info.len() < 3 {
-        return SHORT_LIST;
-    }
-    let c = copy_auth_flavor(src, at, &mut [], 0);
-    tell_judged(c, info)
+    judge::<AuthFlavor>(src, at, info)
 }
 
 pub fn yugerzat_judge_time_how(src: &[u8], at: usize, info: &mut [u64]) -> u32
     ensures { JudgeCalled 15 src.now at info.old result info.new }
 {
-    if info.len() < 3 {
-        return SHORT_LIST;
-    }
-    let c = copy_time_how(src, at, &mut [], 0);
-    tell_judged(c, info)
+    judge::<TimeHow>(src, at, info)
 }
 
 pub fn yugerzat_judge_nfsstat3(src: &[u8], at: usize, info: &mut [u64]) -> u32
     ensures { JudgeCalled 16 src.now at info.old result info.new }
 {
-    if info.len() < 3 {
-        return SHORT_LIST;
-    }
-    let c = copy_nfsstat3(src, at, &mut [], 0);
-    tell_judged(c, info)
+    judge::<Nfsstat3>(src, at, info)
 }
 
 pub fn yugerzat_judge_ftype3(src: &[u8], at: usize, info: &mut [u64]) -> u32
     ensures { JudgeCalled 17 src.now at info.old result info.new }
 {
-    if info.len() < 3 {
-        return SHORT_LIST;
-    }
-    let c = copy_ftype3(src, at, &mut [], 0);
-    tell_judged(c, info)
+    judge::<Ftype3>(src, at, info)
 }
 
 pub fn yugerzat_judge_auth_unix(src: &[u8], at: usize, info: &mut [u64]) -> u32
     ensures { JudgeCalled 18 src.now at info.old result info.new }
 {
-    if info.len() < 3 {
-        return SHORT_LIST;
-    }
-    let c = copy_auth_unix(src, at, &mut [], 0);
-    tell_judged(c, info)
+    judge::<AuthUnix>(src, at, info)
 }
 
 pub fn yugerzat_judge_opaque_auth(src: &[u8], at: usize, info: &mut [u64]) -> u32
     ensures { JudgeCalled 19 src.now at info.old result info.new }
 {
-    if info.len() < 3 {
-        return SHORT_LIST;
-    }
-    let c = copy_opaque_auth(src, at, &mut [], 0);
-    tell_judged(c, info)
+    judge::<OpaqueAuth>(src, at, info)
 }
 
 pub fn yugerzat_judge_rpc_msg(src: &[u8], at: usize, info: &mut [u64]) -> u32
     ensures { JudgeCalled 20 src.now at info.old result info.new }
 {
-    if info.len() < 3 {
-        return SHORT_LIST;
-    }
-    let c = copy_rpc_msg(src, at, &mut [], 0);
-    tell_judged(c, info)
+    judge::<RpcMsg>(src, at, info)
 }
 
 pub fn yugerzat_judge_rpc_body(src: &[u8], at: usize, info: &mut [u64]) -> u32
     ensures { JudgeCalled 21 src.now at info.old result info.new }
 {
-    if info.len() < 3 {
-        return SHORT_LIST;
-    }
-    let c = copy_rpc_body(src, at, &mut [], 0);
-    tell_judged(c, info)
+    judge::<RpcBody>(src, at, info)
 }
 
 pub fn yugerzat_judge_call_body(src: &[u8], at: usize, info: &mut [u64]) -> u32
     ensures { JudgeCalled 22 src.now at info.old result info.new }
 {
-    if info.len() < 3 {
-        return SHORT_LIST;
-    }
-    let c = copy_call_body(src, at, &mut [], 0);
-    tell_judged(c, info)
+    judge::<CallBody>(src, at, info)
 }
 
 pub fn yugerzat_judge_reply_body(src: &[u8], at: usize, info: &mut [u64]) -> u32
     ensures { JudgeCalled 23 src.now at info.old result info.new }
 {
-    if info.len() < 3 {
-        return SHORT_LIST;
-    }
-    let c = copy_reply_body(src, at, &mut [], 0);
-    tell_judged(c, info)
+    judge::<ReplyBody>(src, at, info)
 }
 
 pub fn yugerzat_judge_accepted_reply(src: &[u8], at: usize, info: &mut [u64]) -> u32
     ensures { JudgeCalled 24 src.now at info.old result info.new }
 {
-    if info.len() < 3 {
-        return SHORT_LIST;
-    }
-    let c = copy_accepted_reply(src, at, &mut [], 0);
-    tell_judged(c, info)
+    judge::<AcceptedReply>(src, at, info)
 }
 
 pub fn yugerzat_judge_accept_body(src: &[u8], at: usize, info: &mut [u64]) -> u32
     ensures { JudgeCalled 25 src.now at info.old result info.new }
 {
-    if info.len() < 3 {
-        return SHORT_LIST;
-    }
-    let c = copy_accept_body(src, at, &mut [], 0);
-    tell_judged(c, info)
+    judge::<AcceptBody>(src, at, info)
 }
 
 pub fn yugerzat_judge_rejected_reply(src: &[u8], at: usize, info: &mut [u64]) -> u32
     ensures { JudgeCalled 26 src.now at info.old result info.new }
 {
-    if info.len() < 3 {
-        return SHORT_LIST;
-    }
-    let c = copy_rejected_reply(src, at, &mut [], 0);
-    tell_judged(c, info)
+    judge::<RejectedReply>(src, at, info)
 }
 
 pub fn yugerzat_judge_mismatch_info(src: &[u8], at: usize, info: &mut [u64]) -> u32
     ensures { JudgeCalled 27 src.now at info.old result info.new }
 {
-    if info.len() < 3 {
-        return SHORT_LIST;
-    }
-    let c = copy_mismatch_info(src, at, &mut [], 0);
-    tell_judged(c, info)
+    judge::<MismatchInfo>(src, at, info)
 }
 
 pub fn yugerzat_judge_specdata3(src: &[u8], at: usize, info: &mut [u64]) -> u32
     ensures { JudgeCalled 28 src.now at info.old result info.new }
 {
-    if info.len() < 3 {
-        return SHORT_LIST;
-    }
-    let c = copy_specdata3(src, at, &mut [], 0);
-    tell_judged(c, info)
+    judge::<Specdata3>(src, at, info)
 }
 
 pub fn yugerzat_judge_nfs_fh3(src: &[u8], at: usize, info: &mut [u64]) -> u32
     ensures { JudgeCalled 29 src.now at info.old result info.new }
 {
-    if info.len() < 3 {
-        return SHORT_LIST;
-    }
-    let c = copy_nfs_fh3(src, at, &mut [], 0);
-    tell_judged(c, info)
+    judge::<NfsFh3>(src, at, info)
 }
 
 pub fn yugerzat_judge_nfstime3(src: &[u8], at: usize, info: &mut [u64]) -> u32
     ensures { JudgeCalled 30 src.now at info.old result info.new }
 {
-    if info.len() < 3 {
-        return SHORT_LIST;
-    }
-    let c = copy_nfstime3(src, at, &mut [], 0);
-    tell_judged(c, info)
+    judge::<Nfstime3>(src, at, info)
 }
 
 pub fn yugerzat_judge_fattr3(src: &[u8], at: usize, info: &mut [u64]) -> u32
     ensures { JudgeCalled 31 src.now at info.old result info.new }
 {
-    if info.len() < 3 {
-        return SHORT_LIST;
-    }
-    let c = copy_fattr3(src, at, &mut [], 0);
-    tell_judged(c, info)
+    judge::<Fattr3>(src, at, info)
 }
 
 pub fn yugerzat_judge_fsinfo3(src: &[u8], at: usize, info: &mut [u64]) -> u32
     ensures { JudgeCalled 32 src.now at info.old result info.new }
 {
-    if info.len() < 3 {
-        return SHORT_LIST;
-    }
-    let c = copy_fsinfo3(src, at, &mut [], 0);
-    tell_judged(c, info)
+    judge::<Fsinfo3>(src, at, info)
 }
 
 pub fn yugerzat_judge_wcc_attr(src: &[u8], at: usize, info: &mut [u64]) -> u32
     ensures { JudgeCalled 33 src.now at info.old result info.new }
 {
-    if info.len() < 3 {
-        return SHORT_LIST;
-    }
-    let c = copy_wcc_attr(src, at, &mut [], 0);
-    tell_judged(c, info)
+    judge::<WccAttr>(src, at, info)
 }
 
 pub fn yugerzat_judge_pre_op_attr(src: &[u8], at: usize, info: &mut [u64]) -> u32
     ensures { JudgeCalled 34 src.now at info.old result info.new }
 {
-    if info.len() < 3 {
-        return SHORT_LIST;
-    }
-    let c = copy_pre_op_attr(src, at, &mut [], 0);
-    tell_judged(c, info)
+    judge::<PreOpAttr>(src, at, info)
 }
 
 pub fn yugerzat_judge_post_op_attr(src: &[u8], at: usize, info: &mut [u64]) -> u32
     ensures { JudgeCalled 35 src.now at info.old result info.new }
 {
-    if info.len() < 3 {
-        return SHORT_LIST;
-    }
-    let c = copy_post_op_attr(src, at, &mut [], 0);
-    tell_judged(c, info)
+    judge::<PostOpAttr>(src, at, info)
 }
 
 pub fn yugerzat_judge_wcc_data(src: &[u8], at: usize, info: &mut [u64]) -> u32
     ensures { JudgeCalled 36 src.now at info.old result info.new }
 {
-    if info.len() < 3 {
-        return SHORT_LIST;
-    }
-    let c = copy_wcc_data(src, at, &mut [], 0);
-    tell_judged(c, info)
+    judge::<WccData>(src, at, info)
 }
 
 pub fn yugerzat_judge_post_op_fh3(src: &[u8], at: usize, info: &mut [u64]) -> u32
     ensures { JudgeCalled 37 src.now at info.old result info.new }
 {
-    if info.len() < 3 {
-        return SHORT_LIST;
-    }
-    let c = copy_post_op_fh3(src, at, &mut [], 0);
-    tell_judged(c, info)
+    judge::<PostOpFh3>(src, at, info)
 }
 
 pub fn yugerzat_judge_set_mode3(src: &[u8], at: usize, info: &mut [u64]) -> u32
     ensures { JudgeCalled 38 src.now at info.old result info.new }
 {
-    if info.len() < 3 {
-        return SHORT_LIST;
-    }
-    let c = copy_set_mode3(src, at, &mut [], 0);
-    tell_judged(c, info)
+    judge::<SetMode3>(src, at, info)
 }
 
 pub fn yugerzat_judge_set_uid3(src: &[u8], at: usize, info: &mut [u64]) -> u32
     ensures { JudgeCalled 39 src.now at info.old result info.new }
 {
-    if info.len() < 3 {
-        return SHORT_LIST;
-    }
-    let c = copy_set_uid3(src, at, &mut [], 0);
-    tell_judged(c, info)
+    judge::<SetUid3>(src, at, info)
 }
 
 pub fn yugerzat_judge_set_gid3(src: &[u8], at: usize, info: &mut [u64]) -> u32
     ensures { JudgeCalled 40 src.now at info.old result info.new }
 {
-    if info.len() < 3 {
-        return SHORT_LIST;
-    }
-    let c = copy_set_gid3(src, at, &mut [], 0);
-    tell_judged(c, info)
+    judge::<SetGid3>(src, at, info)
 }
 
 pub fn yugerzat_judge_set_size3(src: &[u8], at: usize, info: &mut [u64]) -> u32
     ensures { JudgeCalled 41 src.now at info.old result info.new }
 {
-    if info.len() < 3 {
-        return SHORT_LIST;
-    }
-    let c = copy_set_size3(src, at, &mut [], 0);
-    tell_judged(c, info)
+    judge::<SetSize3>(src, at, info)
 }
 
 pub fn yugerzat_judge_set_atime(src: &[u8], at: usize, info: &mut [u64]) -> u32
     ensures { JudgeCalled 42 src.now at info.old result info.new }
 {
-    if info.len() < 3 {
-        return SHORT_LIST;
-    }
-    let c = copy_set_atime(src, at, &mut [], 0);
-    tell_judged(c, info)
+    judge::<SetAtime>(src, at, info)
 }
 
 pub fn yugerzat_judge_set_mtime(src: &[u8], at: usize, info: &mut [u64]) -> u32
     ensures { JudgeCalled 43 src.now at info.old result info.new }
 {
-    if info.len() < 3 {
-        return SHORT_LIST;
-    }
-    let c = copy_set_mtime(src, at, &mut [], 0);
-    tell_judged(c, info)
+    judge::<SetMtime>(src, at, info)
 }
 
 pub fn yugerzat_judge_sattr3(src: &[u8], at: usize, info: &mut [u64]) -> u32
     ensures { JudgeCalled 44 src.now at info.old result info.new }
 {
-    if info.len() < 3 {
-        return SHORT_LIST;
-    }
-    let c = copy_sattr3(src, at, &mut [], 0);
-    tell_judged(c, info)
+    judge::<Sattr3>(src, at, info)
 }
 
 pub fn yugerzat_judge_diropargs3(src: &[u8], at: usize, info: &mut [u64]) -> u32
     ensures { JudgeCalled 45 src.now at info.old result info.new }
 {
-    if info.len() < 3 {
-        return SHORT_LIST;
-    }
-    let c = copy_diropargs3(src, at, &mut [], 0);
-    tell_judged(c, info)
+    judge::<Diropargs3>(src, at, info)
 }
 
 pub fn yugerzat_judge_symlinkdata3(src: &[u8], at: usize, info: &mut [u64]) -> u32
     ensures { JudgeCalled 46 src.now at info.old result info.new }
 {
-    if info.len() < 3 {
-        return SHORT_LIST;
-    }
-    let c = copy_symlinkdata3(src, at, &mut [], 0);
-    tell_judged(c, info)
+    judge::<Symlinkdata3>(src, at, info)
 }
 
 pub fn yugerzat_judge_stable_how(src: &[u8], at: usize, info: &mut [u64]) -> u32
     ensures { JudgeCalled 47 src.now at info.old result info.new }
 {
-    if info.len() < 3 {
-        return SHORT_LIST;
-    }
-    let c = copy_stable_how(src, at, &mut [], 0);
-    tell_judged(c, info)
+    judge::<StableHow>(src, at, info)
 }
 
 pub fn yugerzat_judge_sattrguard3(src: &[u8], at: usize, info: &mut [u64]) -> u32
     ensures { JudgeCalled 48 src.now at info.old result info.new }
 {
-    if info.len() < 3 {
-        return SHORT_LIST;
-    }
-    let c = copy_sattrguard3(src, at, &mut [], 0);
-    tell_judged(c, info)
+    judge::<Sattrguard3>(src, at, info)
 }
 
 pub fn yugerzat_judge_getattr3args(src: &[u8], at: usize, info: &mut [u64]) -> u32
     ensures { JudgeCalled 49 src.now at info.old result info.new }
 {
-    if info.len() < 3 {
-        return SHORT_LIST;
-    }
-    let c = copy_getattr3args(src, at, &mut [], 0);
-    tell_judged(c, info)
+    judge::<Getattr3args>(src, at, info)
 }
 
 pub fn yugerzat_judge_getattr3res(src: &[u8], at: usize, info: &mut [u64]) -> u32
     ensures { JudgeCalled 50 src.now at info.old result info.new }
 {
-    if info.len() < 3 {
-        return SHORT_LIST;
-    }
-    let c = copy_getattr3res(src, at, &mut [], 0);
-    tell_judged(c, info)
+    judge::<Getattr3res>(src, at, info)
 }
 
 pub fn yugerzat_judge_setattr3args(src: &[u8], at: usize, info: &mut [u64]) -> u32
     ensures { JudgeCalled 51 src.now at info.old result info.new }
 {
-    if info.len() < 3 {
-        return SHORT_LIST;
-    }
-    let c = copy_setattr3args(src, at, &mut [], 0);
-    tell_judged(c, info)
+    judge::<Setattr3args>(src, at, info)
 }
 
 pub fn yugerzat_judge_setattr3res(src: &[u8], at: usize, info: &mut [u64]) -> u32
     ensures { JudgeCalled 52 src.now at info.old result info.new }
 {
-    if info.len() < 3 {
-        return SHORT_LIST;
-    }
-    let c = copy_setattr3res(src, at, &mut [], 0);
-    tell_judged(c, info)
+    judge::<Setattr3res>(src, at, info)
 }
 
 pub fn yugerzat_judge_lookup3args(src: &[u8], at: usize, info: &mut [u64]) -> u32
     ensures { JudgeCalled 53 src.now at info.old result info.new }
 {
-    if info.len() < 3 {
-        return SHORT_LIST;
-    }
-    let c = copy_lookup3args(src, at, &mut [], 0);
-    tell_judged(c, info)
+    judge::<Lookup3args>(src, at, info)
 }
 
 pub fn yugerzat_judge_lookup3res(src: &[u8], at: usize, info: &mut [u64]) -> u32
     ensures { JudgeCalled 54 src.now at info.old result info.new }
 {
-    if info.len() < 3 {
-        return SHORT_LIST;
-    }
-    let c = copy_lookup3res(src, at, &mut [], 0);
-    tell_judged(c, info)
+    judge::<Lookup3res>(src, at, info)
 }
 
 pub fn yugerzat_judge_read3args(src: &[u8], at: usize, info: &mut [u64]) -> u32
     ensures { JudgeCalled 55 src.now at info.old result info.new }
 {
-    if info.len() < 3 {
-        return SHORT_LIST;
-    }
-    let c = copy_read3args(src, at, &mut [], 0);
-    tell_judged(c, info)
+    judge::<Read3args>(src, at, info)
 }
 
 pub fn yugerzat_judge_read3res(src: &[u8], at: usize, info: &mut [u64]) -> u32
     ensures { JudgeCalled 56 src.now at info.old result info.new }
 {
-    if info.len() < 3 {
-        return SHORT_LIST;
-    }
-    let c = copy_read3res(src, at, &mut [], 0);
-    tell_judged(c, info)
+    judge::<Read3res>(src, at, info)
 }
 
 pub fn yugerzat_judge_write3args(src: &[u8], at: usize, info: &mut [u64]) -> u32
     ensures { JudgeCalled 57 src.now at info.old result info.new }
 {
-    if info.len() < 3 {
-        return SHORT_LIST;
-    }
-    let c = copy_write3args(src, at, &mut [], 0);
-    tell_judged(c, info)
+    judge::<Write3args>(src, at, info)
 }
 
 pub fn yugerzat_judge_write3res(src: &[u8], at: usize, info: &mut [u64]) -> u32
     ensures { JudgeCalled 58 src.now at info.old result info.new }
 {
-    if info.len() < 3 {
-        return SHORT_LIST;
-    }
-    let c = copy_write3res(src, at, &mut [], 0);
-    tell_judged(c, info)
+    judge::<Write3res>(src, at, info)
 }
 
 pub fn yugerzat_judge_current_accept_stat(src: &[u8], at: usize, info: &mut [u64]) -> u32
     ensures { JudgeCalled 59 src.now at info.old result info.new }
 {
-    if info.len() < 3 {
-        return SHORT_LIST;
-    }
-    let c = copy_current_accept_stat(src, at, &mut [], 0);
-    tell_judged(c, info)
+    judge::<CurrentAcceptStat>(src, at, info)
 }
 
 pub fn yugerzat_judge_current_auth_stat(src: &[u8], at: usize, info: &mut [u64]) -> u32
     ensures { JudgeCalled 60 src.now at info.old result info.new }
 {
-    if info.len() < 3 {
-        return SHORT_LIST;
-    }
-    let c = copy_current_auth_stat(src, at, &mut [], 0);
-    tell_judged(c, info)
+    judge::<CurrentAuthStat>(src, at, info)
 }
 
 pub fn yugerzat_judge_current_accept_body(src: &[u8], at: usize, info: &mut [u64]) -> u32
     ensures { JudgeCalled 61 src.now at info.old result info.new }
 {
-    if info.len() < 3 {
-        return SHORT_LIST;
-    }
-    let c = copy_current_accept_body(src, at, &mut [], 0);
-    tell_judged(c, info)
+    judge::<CurrentAcceptBody>(src, at, info)
 }
 
 pub fn yugerzat_judge_current_accepted_reply(src: &[u8], at: usize, info: &mut [u64]) -> u32
     ensures { JudgeCalled 62 src.now at info.old result info.new }
 {
-    if info.len() < 3 {
-        return SHORT_LIST;
-    }
-    let c = copy_current_accepted_reply(src, at, &mut [], 0);
-    tell_judged(c, info)
+    judge::<CurrentAcceptedReply>(src, at, info)
 }
 
 pub fn yugerzat_judge_current_rejected_reply(src: &[u8], at: usize, info: &mut [u64]) -> u32
     ensures { JudgeCalled 63 src.now at info.old result info.new }
 {
-    if info.len() < 3 {
-        return SHORT_LIST;
-    }
-    let c = copy_current_rejected_reply(src, at, &mut [], 0);
-    tell_judged(c, info)
+    judge::<CurrentRejectedReply>(src, at, info)
 }
 
 pub fn yugerzat_judge_current_reply_body(src: &[u8], at: usize, info: &mut [u64]) -> u32
     ensures { JudgeCalled 64 src.now at info.old result info.new }
 {
-    if info.len() < 3 {
-        return SHORT_LIST;
-    }
-    let c = copy_current_reply_body(src, at, &mut [], 0);
-    tell_judged(c, info)
+    judge::<CurrentReplyBody>(src, at, info)
 }
 
 pub fn yugerzat_judge_current_rpc_body(src: &[u8], at: usize, info: &mut [u64]) -> u32
     ensures { JudgeCalled 65 src.now at info.old result info.new }
 {
-    if info.len() < 3 {
-        return SHORT_LIST;
-    }
-    let c = copy_current_rpc_body(src, at, &mut [], 0);
-    tell_judged(c, info)
+    judge::<CurrentRpcBody>(src, at, info)
 }
 
 pub fn yugerzat_judge_current_rpc_msg(src: &[u8], at: usize, info: &mut [u64]) -> u32
     ensures { JudgeCalled 66 src.now at info.old result info.new }
 {
-    if info.len() < 3 {
-        return SHORT_LIST;
-    }
-    let c = copy_current_rpc_msg(src, at, &mut [], 0);
-    tell_judged(c, info)
+    judge::<CurrentRpcMsg>(src, at, info)
 }
 
 pub fn yugerzat_judge_dirpath(src: &[u8], at: usize, info: &mut [u64]) -> u32
     ensures { JudgeCalled 67 src.now at info.old result info.new }
 {
-    if info.len() < 3 {
-        return SHORT_LIST;
-    }
-    let c = copy_dirpath(src, at, &mut [], 0);
-    tell_judged(c, info)
+    judge::<Dirpath>(src, at, info)
 }
 
 pub fn yugerzat_judge_mountstat3(src: &[u8], at: usize, info: &mut [u64]) -> u32
     ensures { JudgeCalled 68 src.now at info.old result info.new }
 {
-    if info.len() < 3 {
-        return SHORT_LIST;
-    }
-    let c = copy_mountstat3(src, at, &mut [], 0);
-    tell_judged(c, info)
+    judge::<Mountstat3>(src, at, info)
 }
 
 pub fn yugerzat_judge_mountres3(src: &[u8], at: usize, info: &mut [u64]) -> u32
     ensures { JudgeCalled 69 src.now at info.old result info.new }
 {
-    if info.len() < 3 {
-        return SHORT_LIST;
-    }
-    let c = copy_mountres3(src, at, &mut [], 0);
-    tell_judged(c, info)
+    judge::<Mountres3>(src, at, info)
 }
 
 pub fn yugerzat_judge_exports(src: &[u8], at: usize, info: &mut [u64]) -> u32
     ensures { JudgeCalled 70 src.now at info.old result info.new }
 {
-    if info.len() < 3 {
-        return SHORT_LIST;
-    }
-    let c = copy_exports(src, at, &mut [], 0);
-    tell_judged(c, info)
+    judge::<Exports>(src, at, info)
 }
 
 pub fn yugerzat_judge_mapping(src: &[u8], at: usize, info: &mut [u64]) -> u32
     ensures { JudgeCalled 71 src.now at info.old result info.new }
 {
-    if info.len() < 3 {
-        return SHORT_LIST;
-    }
-    let c = copy_mapping(src, at, &mut [], 0);
-    tell_judged(c, info)
+    judge::<Mapping>(src, at, info)
 }

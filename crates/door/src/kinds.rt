@@ -5,27 +5,22 @@ ghost use Rattle.door.specs.Meaning.Kinds.{item_kinds, closed_kinds, message_kin
 
 use crate::copy::Copied;
 use crate::files::{
-    copy_diropargs3, copy_fattr3, copy_fsinfo3, copy_ftype3, copy_nfs_fh3, copy_nfsstat3,
-    copy_nfstime3, copy_post_op_attr, copy_post_op_fh3, copy_pre_op_attr, copy_sattr3,
-    copy_set_atime, copy_set_gid3, copy_set_mode3, copy_set_mtime, copy_set_size3, copy_set_uid3,
-    copy_specdata3, copy_symlinkdata3, copy_time_how, copy_wcc_attr, copy_wcc_data,
+    Diropargs3, Fattr3, Fsinfo3, Ftype3, NfsFh3, Nfsstat3, Nfsstring, Nfstime3, PostOpAttr,
+    PostOpFh3, PreOpAttr, Sattr3, SetAtime, SetGid3, SetMode3, SetMtime, SetSize3, SetUid3,
+    Specdata3, Symlinkdata3, TimeHow, WccAttr, WccData,
 };
-use crate::items::{
-    copy_bool, copy_eight, copy_i32, copy_i64, copy_opaque, copy_u32, copy_u64, copy_words,
-};
+use crate::items::{Bool, Eight, I32, I64, Opaque, U32, U64, Words};
+use crate::kind::copy;
 use crate::messages::{
-    copy_accept_body, copy_accept_stat, copy_accepted_reply, copy_auth_flavor, copy_auth_stat,
-    copy_auth_unix, copy_call_body, copy_current_accept_body, copy_current_accept_stat,
-    copy_current_accepted_reply, copy_current_auth_stat, copy_current_rejected_reply,
-    copy_current_reply_body, copy_current_rpc_body, copy_current_rpc_msg, copy_mismatch_info,
-    copy_msg_type, copy_opaque_auth, copy_reject_stat, copy_rejected_reply, copy_reply_body,
-    copy_reply_stat, copy_rpc_body, copy_rpc_msg,
+    AcceptBody, AcceptStat, AcceptedReply, AuthFlavor, AuthStat, AuthUnix, CallBody,
+    CurrentAcceptBody, CurrentAcceptStat, CurrentAcceptedReply, CurrentAuthStat,
+    CurrentRejectedReply, CurrentReplyBody, CurrentRpcBody, CurrentRpcMsg, MismatchInfo, MsgType,
+    OpaqueAuth, RejectStat, RejectedReply, ReplyBody, ReplyStat, RpcBody, RpcMsg,
 };
-use crate::mounts::{copy_dirpath, copy_exports, copy_mapping, copy_mountres3, copy_mountstat3};
+use crate::mounts::{Dirpath, Exports, Mapping, Mountres3, Mountstat3};
 use crate::procedures::{
-    copy_getattr3args, copy_getattr3res, copy_lookup3args, copy_lookup3res, copy_read3args,
-    copy_read3res, copy_sattrguard3, copy_setattr3args, copy_setattr3res, copy_stable_how,
-    copy_write3args, copy_write3res,
+    Getattr3args, Getattr3res, Lookup3args, Lookup3res, Read3args, Read3res, Sattrguard3,
+    Setattr3args, Setattr3res, StableHow, Write3args, Write3res,
 };
 
 // The items.
@@ -33,15 +28,15 @@ fn copy_item(kind: u32, src: &[u8], at: usize, out: &mut [u8], start: usize) -> 
     ensures { CopiesIn item_kinds kind src.now at start out.old (view_copied result) out.new }
 {
     match kind {
-        0 => copy_bool(src, at, out, start),
-        1 => copy_i32(src, at, out, start),
-        2 => copy_i64(src, at, out, start),
-        3 => copy_u32(src, at, out, start),
-        4 => copy_u64(src, at, out, start),
-        5 => copy_eight(src, at, out, start),
-        6 => copy_opaque(src, at, out, start),
-        7 => copy_opaque(src, at, out, start),
-        8 => copy_words(src, at, out, start),
+        0 => copy::<Bool>(src, at, out, start),
+        1 => copy::<I32>(src, at, out, start),
+        2 => copy::<I64>(src, at, out, start),
+        3 => copy::<U32>(src, at, out, start),
+        4 => copy::<U64>(src, at, out, start),
+        5 => copy::<Eight>(src, at, out, start),
+        6 => copy::<Opaque>(src, at, out, start),
+        7 => copy::<Nfsstring>(src, at, out, start),
+        8 => copy::<Words>(src, at, out, start),
         _ => Copied::Unknown,
     }
 }
@@ -51,15 +46,15 @@ fn copy_closed(kind: u32, src: &[u8], at: usize, out: &mut [u8], start: usize) -
     ensures { CopiesIn closed_kinds kind src.now at start out.old (view_copied result) out.new }
 {
     match kind {
-        0 => copy_msg_type(src, at, out, start),
-        1 => copy_reply_stat(src, at, out, start),
-        2 => copy_accept_stat(src, at, out, start),
-        3 => copy_reject_stat(src, at, out, start),
-        4 => copy_auth_stat(src, at, out, start),
-        5 => copy_auth_flavor(src, at, out, start),
-        6 => copy_time_how(src, at, out, start),
-        7 => copy_nfsstat3(src, at, out, start),
-        8 => copy_ftype3(src, at, out, start),
+        0 => copy::<MsgType>(src, at, out, start),
+        1 => copy::<ReplyStat>(src, at, out, start),
+        2 => copy::<AcceptStat>(src, at, out, start),
+        3 => copy::<RejectStat>(src, at, out, start),
+        4 => copy::<AuthStat>(src, at, out, start),
+        5 => copy::<AuthFlavor>(src, at, out, start),
+        6 => copy::<TimeHow>(src, at, out, start),
+        7 => copy::<Nfsstat3>(src, at, out, start),
+        8 => copy::<Ftype3>(src, at, out, start),
         _ => Copied::Unknown,
     }
 }
@@ -69,16 +64,16 @@ fn copy_message(kind: u32, src: &[u8], at: usize, out: &mut [u8], start: usize) 
     ensures { CopiesIn message_kinds kind src.now at start out.old (view_copied result) out.new }
 {
     match kind {
-        0 => copy_auth_unix(src, at, out, start),
-        1 => copy_opaque_auth(src, at, out, start),
-        2 => copy_rpc_msg(src, at, out, start),
-        3 => copy_rpc_body(src, at, out, start),
-        4 => copy_call_body(src, at, out, start),
-        5 => copy_reply_body(src, at, out, start),
-        6 => copy_accepted_reply(src, at, out, start),
-        7 => copy_accept_body(src, at, out, start),
-        8 => copy_rejected_reply(src, at, out, start),
-        9 => copy_mismatch_info(src, at, out, start),
+        0 => copy::<AuthUnix>(src, at, out, start),
+        1 => copy::<OpaqueAuth>(src, at, out, start),
+        2 => copy::<RpcMsg>(src, at, out, start),
+        3 => copy::<RpcBody>(src, at, out, start),
+        4 => copy::<CallBody>(src, at, out, start),
+        5 => copy::<ReplyBody>(src, at, out, start),
+        6 => copy::<AcceptedReply>(src, at, out, start),
+        7 => copy::<AcceptBody>(src, at, out, start),
+        8 => copy::<RejectedReply>(src, at, out, start),
+        9 => copy::<MismatchInfo>(src, at, out, start),
         _ => Copied::Unknown,
     }
 }
@@ -88,16 +83,16 @@ fn copy_attributes(kind: u32, src: &[u8], at: usize, out: &mut [u8], start: usiz
     ensures { CopiesIn attribute_kinds kind src.now at start out.old (view_copied result) out.new }
 {
     match kind {
-        0 => copy_specdata3(src, at, out, start),
-        1 => copy_nfs_fh3(src, at, out, start),
-        2 => copy_nfstime3(src, at, out, start),
-        3 => copy_fattr3(src, at, out, start),
-        4 => copy_fsinfo3(src, at, out, start),
-        5 => copy_wcc_attr(src, at, out, start),
-        6 => copy_pre_op_attr(src, at, out, start),
-        7 => copy_post_op_attr(src, at, out, start),
-        8 => copy_wcc_data(src, at, out, start),
-        9 => copy_post_op_fh3(src, at, out, start),
+        0 => copy::<Specdata3>(src, at, out, start),
+        1 => copy::<NfsFh3>(src, at, out, start),
+        2 => copy::<Nfstime3>(src, at, out, start),
+        3 => copy::<Fattr3>(src, at, out, start),
+        4 => copy::<Fsinfo3>(src, at, out, start),
+        5 => copy::<WccAttr>(src, at, out, start),
+        6 => copy::<PreOpAttr>(src, at, out, start),
+        7 => copy::<PostOpAttr>(src, at, out, start),
+        8 => copy::<WccData>(src, at, out, start),
+        9 => copy::<PostOpFh3>(src, at, out, start),
         _ => Copied::Unknown,
     }
 }
@@ -107,15 +102,15 @@ fn copy_change(kind: u32, src: &[u8], at: usize, out: &mut [u8], start: usize) -
     ensures { CopiesIn change_kinds kind src.now at start out.old (view_copied result) out.new }
 {
     match kind {
-        0 => copy_set_mode3(src, at, out, start),
-        1 => copy_set_uid3(src, at, out, start),
-        2 => copy_set_gid3(src, at, out, start),
-        3 => copy_set_size3(src, at, out, start),
-        4 => copy_set_atime(src, at, out, start),
-        5 => copy_set_mtime(src, at, out, start),
-        6 => copy_sattr3(src, at, out, start),
-        7 => copy_diropargs3(src, at, out, start),
-        8 => copy_symlinkdata3(src, at, out, start),
+        0 => copy::<SetMode3>(src, at, out, start),
+        1 => copy::<SetUid3>(src, at, out, start),
+        2 => copy::<SetGid3>(src, at, out, start),
+        3 => copy::<SetSize3>(src, at, out, start),
+        4 => copy::<SetAtime>(src, at, out, start),
+        5 => copy::<SetMtime>(src, at, out, start),
+        6 => copy::<Sattr3>(src, at, out, start),
+        7 => copy::<Diropargs3>(src, at, out, start),
+        8 => copy::<Symlinkdata3>(src, at, out, start),
         _ => Copied::Unknown,
     }
 }
@@ -125,18 +120,18 @@ fn copy_procedure(kind: u32, src: &[u8], at: usize, out: &mut [u8], start: usize
     ensures { CopiesIn procedure_kinds kind src.now at start out.old (view_copied result) out.new }
 {
     match kind {
-        0 => copy_stable_how(src, at, out, start),
-        1 => copy_sattrguard3(src, at, out, start),
-        2 => copy_getattr3args(src, at, out, start),
-        3 => copy_getattr3res(src, at, out, start),
-        4 => copy_setattr3args(src, at, out, start),
-        5 => copy_setattr3res(src, at, out, start),
-        6 => copy_lookup3args(src, at, out, start),
-        7 => copy_lookup3res(src, at, out, start),
-        8 => copy_read3args(src, at, out, start),
-        9 => copy_read3res(src, at, out, start),
-        10 => copy_write3args(src, at, out, start),
-        11 => copy_write3res(src, at, out, start),
+        0 => copy::<StableHow>(src, at, out, start),
+        1 => copy::<Sattrguard3>(src, at, out, start),
+        2 => copy::<Getattr3args>(src, at, out, start),
+        3 => copy::<Getattr3res>(src, at, out, start),
+        4 => copy::<Setattr3args>(src, at, out, start),
+        5 => copy::<Setattr3res>(src, at, out, start),
+        6 => copy::<Lookup3args>(src, at, out, start),
+        7 => copy::<Lookup3res>(src, at, out, start),
+        8 => copy::<Read3args>(src, at, out, start),
+        9 => copy::<Read3res>(src, at, out, start),
+        10 => copy::<Write3args>(src, at, out, start),
+        11 => copy::<Write3res>(src, at, out, start),
         _ => Copied::Unknown,
     }
 }
@@ -146,14 +141,14 @@ fn copy_current(kind: u32, src: &[u8], at: usize, out: &mut [u8], start: usize) 
     ensures { CopiesIn current_kinds kind src.now at start out.old (view_copied result) out.new }
 {
     match kind {
-        0 => copy_current_accept_stat(src, at, out, start),
-        1 => copy_current_auth_stat(src, at, out, start),
-        2 => copy_current_accept_body(src, at, out, start),
-        3 => copy_current_accepted_reply(src, at, out, start),
-        4 => copy_current_rejected_reply(src, at, out, start),
-        5 => copy_current_reply_body(src, at, out, start),
-        6 => copy_current_rpc_body(src, at, out, start),
-        7 => copy_current_rpc_msg(src, at, out, start),
+        0 => copy::<CurrentAcceptStat>(src, at, out, start),
+        1 => copy::<CurrentAuthStat>(src, at, out, start),
+        2 => copy::<CurrentAcceptBody>(src, at, out, start),
+        3 => copy::<CurrentAcceptedReply>(src, at, out, start),
+        4 => copy::<CurrentRejectedReply>(src, at, out, start),
+        5 => copy::<CurrentReplyBody>(src, at, out, start),
+        6 => copy::<CurrentRpcBody>(src, at, out, start),
+        7 => copy::<CurrentRpcMsg>(src, at, out, start),
         _ => Copied::Unknown,
     }
 }
@@ -163,11 +158,11 @@ fn copy_mount(kind: u32, src: &[u8], at: usize, out: &mut [u8], start: usize) ->
     ensures { CopiesIn mount_kinds kind src.now at start out.old (view_copied result) out.new }
 {
     match kind {
-        0 => copy_dirpath(src, at, out, start),
-        1 => copy_mountstat3(src, at, out, start),
-        2 => copy_mountres3(src, at, out, start),
-        3 => copy_exports(src, at, out, start),
-        4 => copy_mapping(src, at, out, start),
+        0 => copy::<Dirpath>(src, at, out, start),
+        1 => copy::<Mountstat3>(src, at, out, start),
+        2 => copy::<Mountres3>(src, at, out, start),
+        3 => copy::<Exports>(src, at, out, start),
+        4 => copy::<Mapping>(src, at, out, start),
         _ => Copied::Unknown,
     }
 }

@@ -7,14 +7,15 @@ pub mod exports;
 mod fattr3;
 mod figures;
 pub mod judge;
-// made by tools/generate: copiers
+// made by tools/generate: kinds
 mod files;
 mod items;
+mod kind;
 mod kinds;
 mod messages;
 mod mounts;
 mod procedures;
-// end of copiers
+// end of kinds
 pub mod marks;
 pub mod mounting;
 pub mod replies;

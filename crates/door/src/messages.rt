@@ -1,5 +1,5 @@
 // made by tools/generate from kinds.txt
-// Each kind of RFC 5531, copied.
+// Each kind of RFC 5531, as a kind.
 ghost use Rattle.xdr.specs.Meaning.Format.{exactly};
 ghost use Rattle.rpc.specs.Meaning.Closed.{msg-type, reply-stat, reject-stat, auth-flavor};
 ghost use Rattle.rpc.specs.Meaning.Crate.{accept-stat, auth-stat, rpc-msg, rpc-body, reply-body, accepted-reply, accept-body, rejected-reply};
@@ -7,465 +7,658 @@ ghost use Rattle.rpc.specs.Meaning.Auth.{auth-unix, opaque-auth};
 ghost use Rattle.rpc.specs.Meaning.Message.{call-body};
 ghost use Rattle.rpc.specs.Meaning.Reading.{mismatch-info};
 ghost use Rattle.rpc.specs.Meaning.Current.{current_accept_stat, current_auth_stat, current_accept_body, current_accepted_reply, current_rejected_reply, current_reply_body, current_rpc_body, current_rpc_msg};
-ghost use Rattle.door.specs.Meaning.Copy.{view_copied, Copies};
+ghost use Rattle.door.specs.Meaning.Copy.{held_as};
 
-use crate::copy::{Copied, copied_to, write_span};
-use rpc::{
-    AcceptBodyRead, AcceptStatRead, AcceptedReplyRead, AuthFlavorRead, AuthStatRead, AuthUnixRead,
-    CallBodyRead, CurrentAcceptBodyRead, CurrentAcceptStatRead, CurrentAcceptedReplyRead,
-    CurrentAuthStatRead, CurrentRejectedReplyRead, CurrentReplyBodyRead, CurrentRpcBodyRead,
-    CurrentRpcMsgRead, MismatchInfoRead, MsgTypeRead, OpaqueAuthRead, RejectStatRead,
-    RejectedReplyRead, ReplyBodyRead, ReplyStatRead, RpcBodyRead, RpcMsgRead,
-};
-use xdr::Marks;
+use crate::kind::Kind;
+use xdr::{Marks, Refusal, Took};
 
-pub(crate) fn copy_msg_type(src: &[u8], at: usize, out: &mut [u8], start: usize) -> Copied
-    ensures { Copies (exactly msg-type) src.now at start out.old (view_copied result) out.new }
-{
-    match rpc::read_msg_type(src, at) {
-        MsgTypeRead::Refused(r) => Copied::Unread(r),
-        MsgTypeRead::Took { value: _, next: n } => copied_to(
-            n,
-            true,
-            Marks::None,
-            write_span(src, at, n, out, start),
-        ),
+pub(crate) struct MsgType;
+
+impl Kind for MsgType {
+    type Value = rpc::msg_type;
+
+    ghost number = { 9 };
+
+    ghost held = { held_as (exactly msg-type) };
+
+    ghost listed = { λ s at start o c o' d. d };
+
+    fn read(src: &[u8], at: usize) -> Result<Took<rpc::msg_type>, Refusal> {
+        rpc::read_msg_type(src, at)
+    }
+
+    fn write(_src: &[u8], x: rpc::msg_type, out: &mut [u8], at: usize) -> Result<usize, Refusal> {
+        rpc::write_msg_type(x, out, at)
+    }
+
+    fn marks(_x: rpc::msg_type) -> Marks {
+        Marks::None
     }
 }
 
-pub(crate) fn copy_reply_stat(src: &[u8], at: usize, out: &mut [u8], start: usize) -> Copied
-    ensures { Copies (exactly reply-stat) src.now at start out.old (view_copied result) out.new }
-{
-    match rpc::read_reply_stat(src, at) {
-        ReplyStatRead::Refused(r) => Copied::Unread(r),
-        ReplyStatRead::Took { value: _, next: n } => copied_to(
-            n,
-            true,
-            Marks::None,
-            write_span(src, at, n, out, start),
-        ),
+pub(crate) struct ReplyStat;
+
+impl Kind for ReplyStat {
+    type Value = rpc::reply_stat;
+
+    ghost number = { 10 };
+
+    ghost held = { held_as (exactly reply-stat) };
+
+    ghost listed = { λ s at start o c o' d. d };
+
+    fn read(src: &[u8], at: usize) -> Result<Took<rpc::reply_stat>, Refusal> {
+        rpc::read_reply_stat(src, at)
+    }
+
+    fn write(_src: &[u8], x: rpc::reply_stat, out: &mut [u8], at: usize) -> Result<usize, Refusal> {
+        rpc::write_reply_stat(x, out, at)
+    }
+
+    fn marks(_x: rpc::reply_stat) -> Marks {
+        Marks::None
     }
 }
 
-pub(crate) fn copy_accept_stat(src: &[u8], at: usize, out: &mut [u8], start: usize) -> Copied
-    ensures { Copies (exactly accept-stat) src.now at start out.old (view_copied result) out.new }
-{
-    match rpc::read_accept_stat(src, at) {
-        AcceptStatRead::Refused(r) => Copied::Unread(r),
-        AcceptStatRead::Took { value: _, next: n } => copied_to(
-            n,
-            true,
-            Marks::None,
-            write_span(src, at, n, out, start),
-        ),
+pub(crate) struct AcceptStat;
+
+impl Kind for AcceptStat {
+    type Value = rpc::accept_stat;
+
+    ghost number = { 11 };
+
+    ghost held = { held_as (exactly accept-stat) };
+
+    ghost listed = { λ s at start o c o' d. d };
+
+    fn read(src: &[u8], at: usize) -> Result<Took<rpc::accept_stat>, Refusal> {
+        rpc::read_accept_stat(src, at)
+    }
+
+    fn write(
+        _src: &[u8],
+        x: rpc::accept_stat,
+        out: &mut [u8],
+        at: usize,
+    ) -> Result<usize, Refusal> {
+        rpc::write_accept_stat(x, out, at)
+    }
+
+    fn marks(_x: rpc::accept_stat) -> Marks {
+        Marks::None
     }
 }
 
-pub(crate) fn copy_reject_stat(src: &[u8], at: usize, out: &mut [u8], start: usize) -> Copied
-    ensures { Copies (exactly reject-stat) src.now at start out.old (view_copied result) out.new }
-{
-    match rpc::read_reject_stat(src, at) {
-        RejectStatRead::Refused(r) => Copied::Unread(r),
-        RejectStatRead::Took { value: _, next: n } => copied_to(
-            n,
-            true,
-            Marks::None,
-            write_span(src, at, n, out, start),
-        ),
+pub(crate) struct RejectStat;
+
+impl Kind for RejectStat {
+    type Value = rpc::reject_stat;
+
+    ghost number = { 12 };
+
+    ghost held = { held_as (exactly reject-stat) };
+
+    ghost listed = { λ s at start o c o' d. d };
+
+    fn read(src: &[u8], at: usize) -> Result<Took<rpc::reject_stat>, Refusal> {
+        rpc::read_reject_stat(src, at)
+    }
+
+    fn write(
+        _src: &[u8],
+        x: rpc::reject_stat,
+        out: &mut [u8],
+        at: usize,
+    ) -> Result<usize, Refusal> {
+        rpc::write_reject_stat(x, out, at)
+    }
+
+    fn marks(_x: rpc::reject_stat) -> Marks {
+        Marks::None
     }
 }
 
-pub(crate) fn copy_auth_stat(src: &[u8], at: usize, out: &mut [u8], start: usize) -> Copied
-    ensures { Copies (exactly auth-stat) src.now at start out.old (view_copied result) out.new }
-{
-    match rpc::read_auth_stat(src, at) {
-        AuthStatRead::Refused(r) => Copied::Unread(r),
-        AuthStatRead::Took { value: _, next: n } => copied_to(
-            n,
-            true,
-            Marks::None,
-            write_span(src, at, n, out, start),
-        ),
+pub(crate) struct AuthStat;
+
+impl Kind for AuthStat {
+    type Value = rpc::auth_stat;
+
+    ghost number = { 13 };
+
+    ghost held = { held_as (exactly auth-stat) };
+
+    ghost listed = { λ s at start o c o' d. d };
+
+    fn read(src: &[u8], at: usize) -> Result<Took<rpc::auth_stat>, Refusal> {
+        rpc::read_auth_stat(src, at)
+    }
+
+    fn write(_src: &[u8], x: rpc::auth_stat, out: &mut [u8], at: usize) -> Result<usize, Refusal> {
+        rpc::write_auth_stat(x, out, at)
+    }
+
+    fn marks(_x: rpc::auth_stat) -> Marks {
+        Marks::None
     }
 }
 
-pub(crate) fn copy_auth_flavor(src: &[u8], at: usize, out: &mut [u8], start: usize) -> Copied
-    ensures { Copies (exactly auth-flavor) src.now at start out.old (view_copied result) out.new }
-{
-    match rpc::read_auth_flavor(src, at) {
-        AuthFlavorRead::Refused(r) => Copied::Unread(r),
-        AuthFlavorRead::Took { value: _, next: n } => copied_to(
-            n,
-            true,
-            Marks::None,
-            write_span(src, at, n, out, start),
-        ),
+pub(crate) struct AuthFlavor;
+
+impl Kind for AuthFlavor {
+    type Value = rpc::auth_flavor;
+
+    ghost number = { 14 };
+
+    ghost held = { held_as (exactly auth-flavor) };
+
+    ghost listed = { λ s at start o c o' d. d };
+
+    fn read(src: &[u8], at: usize) -> Result<Took<rpc::auth_flavor>, Refusal> {
+        rpc::read_auth_flavor(src, at)
+    }
+
+    fn write(
+        _src: &[u8],
+        x: rpc::auth_flavor,
+        out: &mut [u8],
+        at: usize,
+    ) -> Result<usize, Refusal> {
+        rpc::write_auth_flavor(x, out, at)
+    }
+
+    fn marks(_x: rpc::auth_flavor) -> Marks {
+        Marks::None
     }
 }
 
-pub(crate) fn copy_auth_unix(src: &[u8], at: usize, out: &mut [u8], start: usize) -> Copied
-    ensures { Copies auth-unix src.now at start out.old (view_copied result) out.new }
-{
-    match rpc::read_auth_unix(src, at) {
-        AuthUnixRead::Refused(r) => Copied::Unread(r),
-        AuthUnixRead::Took {
-            value: v,
-            next: n,
-            plain: p,
-        } => {
-            if p {
-                return copied_to(n, p, v.marks(), write_span(src, at, n, out, start));
-            }
-            copied_to(n, p, v.marks(), rpc::write_auth_unix(src, v, out, start))
-        }
+pub(crate) struct AuthUnix;
+
+impl Kind for AuthUnix {
+    type Value = rpc::auth_unix;
+
+    ghost number = { 18 };
+
+    ghost held = { held_as auth-unix };
+
+    ghost listed = { λ s at start o c o' d. d };
+
+    fn read(src: &[u8], at: usize) -> Result<Took<rpc::auth_unix>, Refusal> {
+        rpc::read_auth_unix(src, at)
+    }
+
+    fn write(src: &[u8], x: rpc::auth_unix, out: &mut [u8], at: usize) -> Result<usize, Refusal> {
+        rpc::write_auth_unix(src, x, out, at)
+    }
+
+    fn marks(x: rpc::auth_unix) -> Marks {
+        x.marks()
     }
 }
 
-pub(crate) fn copy_opaque_auth(src: &[u8], at: usize, out: &mut [u8], start: usize) -> Copied
-    ensures { Copies opaque-auth src.now at start out.old (view_copied result) out.new }
-{
-    match rpc::read_opaque_auth(src, at) {
-        OpaqueAuthRead::Refused(r) => Copied::Unread(r),
-        OpaqueAuthRead::Took {
-            value: v,
-            next: n,
-            plain: p,
-        } => {
-            if p {
-                return copied_to(n, p, v.marks(), write_span(src, at, n, out, start));
-            }
-            copied_to(n, p, v.marks(), rpc::write_opaque_auth(src, v, out, start))
-        }
+pub(crate) struct OpaqueAuth;
+
+impl Kind for OpaqueAuth {
+    type Value = rpc::opaque_auth;
+
+    ghost number = { 19 };
+
+    ghost held = { held_as opaque-auth };
+
+    ghost listed = { λ s at start o c o' d. d };
+
+    fn read(src: &[u8], at: usize) -> Result<Took<rpc::opaque_auth>, Refusal> {
+        rpc::read_opaque_auth(src, at)
+    }
+
+    fn write(src: &[u8], x: rpc::opaque_auth, out: &mut [u8], at: usize) -> Result<usize, Refusal> {
+        rpc::write_opaque_auth(src, x, out, at)
+    }
+
+    fn marks(x: rpc::opaque_auth) -> Marks {
+        x.marks()
     }
 }
 
-pub(crate) fn copy_rpc_msg(src: &[u8], at: usize, out: &mut [u8], start: usize) -> Copied
-    ensures { Copies rpc-msg src.now at start out.old (view_copied result) out.new }
-{
-    match rpc::read_rpc_msg(src, at) {
-        RpcMsgRead::Refused(r) => Copied::Unread(r),
-        RpcMsgRead::Took {
-            value: v,
-            next: n,
-            plain: p,
-        } => {
-            if p {
-                return copied_to(n, p, v.marks(), write_span(src, at, n, out, start));
-            }
-            copied_to(n, p, v.marks(), rpc::write_rpc_msg(src, v, out, start))
-        }
+pub(crate) struct RpcMsg;
+
+impl Kind for RpcMsg {
+    type Value = rpc::rpc_msg;
+
+    ghost number = { 20 };
+
+    ghost held = { held_as rpc-msg };
+
+    ghost listed = { λ s at start o c o' d. d };
+
+    fn read(src: &[u8], at: usize) -> Result<Took<rpc::rpc_msg>, Refusal> {
+        rpc::read_rpc_msg(src, at)
+    }
+
+    fn write(src: &[u8], x: rpc::rpc_msg, out: &mut [u8], at: usize) -> Result<usize, Refusal> {
+        rpc::write_rpc_msg(src, x, out, at)
+    }
+
+    fn marks(x: rpc::rpc_msg) -> Marks {
+        x.marks()
     }
 }
 
-pub(crate) fn copy_rpc_body(src: &[u8], at: usize, out: &mut [u8], start: usize) -> Copied
-    ensures { Copies rpc-body src.now at start out.old (view_copied result) out.new }
-{
-    match rpc::read_rpc_body(src, at) {
-        RpcBodyRead::Refused(r) => Copied::Unread(r),
-        RpcBodyRead::Took {
-            value: v,
-            next: n,
-            plain: p,
-        } => {
-            if p {
-                return copied_to(n, p, v.marks(), write_span(src, at, n, out, start));
-            }
-            copied_to(n, p, v.marks(), rpc::write_rpc_body(src, v, out, start))
-        }
+pub(crate) struct RpcBody;
+
+impl Kind for RpcBody {
+    type Value = rpc::rpc_body;
+
+    ghost number = { 21 };
+
+    ghost held = { held_as rpc-body };
+
+    ghost listed = { λ s at start o c o' d. d };
+
+    fn read(src: &[u8], at: usize) -> Result<Took<rpc::rpc_body>, Refusal> {
+        rpc::read_rpc_body(src, at)
+    }
+
+    fn write(src: &[u8], x: rpc::rpc_body, out: &mut [u8], at: usize) -> Result<usize, Refusal> {
+        rpc::write_rpc_body(src, x, out, at)
+    }
+
+    fn marks(x: rpc::rpc_body) -> Marks {
+        x.marks()
     }
 }
 
-pub(crate) fn copy_call_body(src: &[u8], at: usize, out: &mut [u8], start: usize) -> Copied
-    ensures { Copies call-body src.now at start out.old (view_copied result) out.new }
-{
-    match rpc::read_call_body(src, at) {
-        CallBodyRead::Refused(r) => Copied::Unread(r),
-        CallBodyRead::Took {
-            value: v,
-            next: n,
-            plain: p,
-        } => {
-            if p {
-                return copied_to(n, p, v.marks(), write_span(src, at, n, out, start));
-            }
-            copied_to(n, p, v.marks(), rpc::write_call_body(src, v, out, start))
-        }
+pub(crate) struct CallBody;
+
+impl Kind for CallBody {
+    type Value = rpc::call_body;
+
+    ghost number = { 22 };
+
+    ghost held = { held_as call-body };
+
+    ghost listed = { λ s at start o c o' d. d };
+
+    fn read(src: &[u8], at: usize) -> Result<Took<rpc::call_body>, Refusal> {
+        rpc::read_call_body(src, at)
+    }
+
+    fn write(src: &[u8], x: rpc::call_body, out: &mut [u8], at: usize) -> Result<usize, Refusal> {
+        rpc::write_call_body(src, x, out, at)
+    }
+
+    fn marks(x: rpc::call_body) -> Marks {
+        x.marks()
     }
 }
 
-pub(crate) fn copy_reply_body(src: &[u8], at: usize, out: &mut [u8], start: usize) -> Copied
-    ensures { Copies reply-body src.now at start out.old (view_copied result) out.new }
-{
-    match rpc::read_reply_body(src, at) {
-        ReplyBodyRead::Refused(r) => Copied::Unread(r),
-        ReplyBodyRead::Took {
-            value: v,
-            next: n,
-            plain: p,
-        } => {
-            if p {
-                return copied_to(n, p, v.marks(), write_span(src, at, n, out, start));
-            }
-            copied_to(n, p, v.marks(), rpc::write_reply_body(src, v, out, start))
-        }
+pub(crate) struct ReplyBody;
+
+impl Kind for ReplyBody {
+    type Value = rpc::reply_body;
+
+    ghost number = { 23 };
+
+    ghost held = { held_as reply-body };
+
+    ghost listed = { λ s at start o c o' d. d };
+
+    fn read(src: &[u8], at: usize) -> Result<Took<rpc::reply_body>, Refusal> {
+        rpc::read_reply_body(src, at)
+    }
+
+    fn write(src: &[u8], x: rpc::reply_body, out: &mut [u8], at: usize) -> Result<usize, Refusal> {
+        rpc::write_reply_body(src, x, out, at)
+    }
+
+    fn marks(x: rpc::reply_body) -> Marks {
+        x.marks()
     }
 }
 
-pub(crate) fn copy_accepted_reply(src: &[u8], at: usize, out: &mut [u8], start: usize) -> Copied
-    ensures { Copies accepted-reply src.now at start out.old (view_copied result) out.new }
-{
-    match rpc::read_accepted_reply(src, at) {
-        AcceptedReplyRead::Refused(r) => Copied::Unread(r),
-        AcceptedReplyRead::Took {
-            value: v,
-            next: n,
-            plain: p,
-        } => {
-            if p {
-                return copied_to(n, p, v.marks(), write_span(src, at, n, out, start));
-            }
-            copied_to(
-                n,
-                p,
-                v.marks(),
-                rpc::write_accepted_reply(src, v, out, start),
-            )
-        }
+pub(crate) struct AcceptedReply;
+
+impl Kind for AcceptedReply {
+    type Value = rpc::accepted_reply;
+
+    ghost number = { 24 };
+
+    ghost held = { held_as accepted-reply };
+
+    ghost listed = { λ s at start o c o' d. d };
+
+    fn read(src: &[u8], at: usize) -> Result<Took<rpc::accepted_reply>, Refusal> {
+        rpc::read_accepted_reply(src, at)
+    }
+
+    fn write(
+        src: &[u8],
+        x: rpc::accepted_reply,
+        out: &mut [u8],
+        at: usize,
+    ) -> Result<usize, Refusal> {
+        rpc::write_accepted_reply(src, x, out, at)
+    }
+
+    fn marks(x: rpc::accepted_reply) -> Marks {
+        x.marks()
     }
 }
 
-pub(crate) fn copy_accept_body(src: &[u8], at: usize, out: &mut [u8], start: usize) -> Copied
-    ensures { Copies (exactly accept-body) src.now at start out.old (view_copied result) out.new }
-{
-    match rpc::read_accept_body(src, at) {
-        AcceptBodyRead::Refused(r) => Copied::Unread(r),
-        AcceptBodyRead::Took {
-            value: v,
-            next: n,
-            plain: p,
-        } => {
-            if p {
-                return copied_to(n, p, Marks::None, write_span(src, at, n, out, start));
-            }
-            copied_to(n, p, Marks::None, rpc::write_accept_body(v, out, start))
-        }
+pub(crate) struct AcceptBody;
+
+impl Kind for AcceptBody {
+    type Value = rpc::accept_body;
+
+    ghost number = { 25 };
+
+    ghost held = { held_as (exactly accept-body) };
+
+    ghost listed = { λ s at start o c o' d. d };
+
+    fn read(src: &[u8], at: usize) -> Result<Took<rpc::accept_body>, Refusal> {
+        rpc::read_accept_body(src, at)
+    }
+
+    fn write(
+        _src: &[u8],
+        x: rpc::accept_body,
+        out: &mut [u8],
+        at: usize,
+    ) -> Result<usize, Refusal> {
+        rpc::write_accept_body(x, out, at)
+    }
+
+    fn marks(_x: rpc::accept_body) -> Marks {
+        Marks::None
     }
 }
 
-pub(crate) fn copy_rejected_reply(src: &[u8], at: usize, out: &mut [u8], start: usize) -> Copied
-    ensures { Copies (exactly rejected-reply) src.now at start out.old (view_copied result) out.new }
-{
-    match rpc::read_rejected_reply(src, at) {
-        RejectedReplyRead::Refused(r) => Copied::Unread(r),
-        RejectedReplyRead::Took {
-            value: v,
-            next: n,
-            plain: p,
-        } => {
-            if p {
-                return copied_to(n, p, Marks::None, write_span(src, at, n, out, start));
-            }
-            copied_to(n, p, Marks::None, rpc::write_rejected_reply(v, out, start))
-        }
+pub(crate) struct RejectedReply;
+
+impl Kind for RejectedReply {
+    type Value = rpc::rejected_reply;
+
+    ghost number = { 26 };
+
+    ghost held = { held_as (exactly rejected-reply) };
+
+    ghost listed = { λ s at start o c o' d. d };
+
+    fn read(src: &[u8], at: usize) -> Result<Took<rpc::rejected_reply>, Refusal> {
+        rpc::read_rejected_reply(src, at)
+    }
+
+    fn write(
+        _src: &[u8],
+        x: rpc::rejected_reply,
+        out: &mut [u8],
+        at: usize,
+    ) -> Result<usize, Refusal> {
+        rpc::write_rejected_reply(x, out, at)
+    }
+
+    fn marks(_x: rpc::rejected_reply) -> Marks {
+        Marks::None
     }
 }
 
-pub(crate) fn copy_mismatch_info(src: &[u8], at: usize, out: &mut [u8], start: usize) -> Copied
-    ensures { Copies (exactly mismatch-info) src.now at start out.old (view_copied result) out.new }
-{
-    match rpc::read_mismatch_info(src, at) {
-        MismatchInfoRead::Refused(r) => Copied::Unread(r),
-        MismatchInfoRead::Took { value: _, next: n } => copied_to(
-            n,
-            true,
-            Marks::None,
-            write_span(src, at, n, out, start),
-        ),
+pub(crate) struct MismatchInfo;
+
+impl Kind for MismatchInfo {
+    type Value = rpc::mismatch_info;
+
+    ghost number = { 27 };
+
+    ghost held = { held_as (exactly mismatch-info) };
+
+    ghost listed = { λ s at start o c o' d. d };
+
+    fn read(src: &[u8], at: usize) -> Result<Took<rpc::mismatch_info>, Refusal> {
+        rpc::read_mismatch_info(src, at)
+    }
+
+    fn write(
+        _src: &[u8],
+        x: rpc::mismatch_info,
+        out: &mut [u8],
+        at: usize,
+    ) -> Result<usize, Refusal> {
+        rpc::write_mismatch_info(x, out, at)
+    }
+
+    fn marks(_x: rpc::mismatch_info) -> Marks {
+        Marks::None
     }
 }
 
-pub(crate) fn copy_current_accept_stat(
-    src: &[u8],
-    at: usize,
-    out: &mut [u8],
-    start: usize,
-) -> Copied
-    ensures { Copies (exactly current_accept_stat) src.now at start out.old (view_copied result) out.new }
-{
-    match rpc::read_current_accept_stat(src, at) {
-        CurrentAcceptStatRead::Refused(r) => Copied::Unread(r),
-        CurrentAcceptStatRead::Took { value: _, next: n } => copied_to(
-            n,
-            true,
-            Marks::None,
-            write_span(src, at, n, out, start),
-        ),
+pub(crate) struct CurrentAcceptStat;
+
+impl Kind for CurrentAcceptStat {
+    type Value = rpc::current::accept_stat;
+
+    ghost number = { 59 };
+
+    ghost held = { held_as (exactly current_accept_stat) };
+
+    ghost listed = { λ s at start o c o' d. d };
+
+    fn read(src: &[u8], at: usize) -> Result<Took<rpc::current::accept_stat>, Refusal> {
+        rpc::read_current_accept_stat(src, at)
+    }
+
+    fn write(
+        _src: &[u8],
+        x: rpc::current::accept_stat,
+        out: &mut [u8],
+        at: usize,
+    ) -> Result<usize, Refusal> {
+        rpc::write_current_accept_stat(x, out, at)
+    }
+
+    fn marks(_x: rpc::current::accept_stat) -> Marks {
+        Marks::None
     }
 }
 
-pub(crate) fn copy_current_auth_stat(src: &[u8], at: usize, out: &mut [u8], start: usize) -> Copied
-    ensures { Copies (exactly current_auth_stat) src.now at start out.old (view_copied result) out.new }
-{
-    match rpc::read_current_auth_stat(src, at) {
-        CurrentAuthStatRead::Refused(r) => Copied::Unread(r),
-        CurrentAuthStatRead::Took { value: _, next: n } => copied_to(
-            n,
-            true,
-            Marks::None,
-            write_span(src, at, n, out, start),
-        ),
+pub(crate) struct CurrentAuthStat;
+
+impl Kind for CurrentAuthStat {
+    type Value = rpc::current::auth_stat;
+
+    ghost number = { 60 };
+
+    ghost held = { held_as (exactly current_auth_stat) };
+
+    ghost listed = { λ s at start o c o' d. d };
+
+    fn read(src: &[u8], at: usize) -> Result<Took<rpc::current::auth_stat>, Refusal> {
+        rpc::read_current_auth_stat(src, at)
+    }
+
+    fn write(
+        _src: &[u8],
+        x: rpc::current::auth_stat,
+        out: &mut [u8],
+        at: usize,
+    ) -> Result<usize, Refusal> {
+        rpc::write_current_auth_stat(x, out, at)
+    }
+
+    fn marks(_x: rpc::current::auth_stat) -> Marks {
+        Marks::None
     }
 }
 
-pub(crate) fn copy_current_accept_body(
-    src: &[u8],
-    at: usize,
-    out: &mut [u8],
-    start: usize,
-) -> Copied
-    ensures { Copies (exactly current_accept_body) src.now at start out.old (view_copied result) out.new }
-{
-    match rpc::read_current_accept_body(src, at) {
-        CurrentAcceptBodyRead::Refused(r) => Copied::Unread(r),
-        CurrentAcceptBodyRead::Took {
-            value: v,
-            next: n,
-            plain: p,
-        } => {
-            if p {
-                return copied_to(n, p, Marks::None, write_span(src, at, n, out, start));
-            }
-            copied_to(
-                n,
-                p,
-                Marks::None,
-                rpc::write_current_accept_body(v, out, start),
-            )
-        }
+pub(crate) struct CurrentAcceptBody;
+
+impl Kind for CurrentAcceptBody {
+    type Value = rpc::current::accept_body;
+
+    ghost number = { 61 };
+
+    ghost held = { held_as (exactly current_accept_body) };
+
+    ghost listed = { λ s at start o c o' d. d };
+
+    fn read(src: &[u8], at: usize) -> Result<Took<rpc::current::accept_body>, Refusal> {
+        rpc::read_current_accept_body(src, at)
+    }
+
+    fn write(
+        _src: &[u8],
+        x: rpc::current::accept_body,
+        out: &mut [u8],
+        at: usize,
+    ) -> Result<usize, Refusal> {
+        rpc::write_current_accept_body(x, out, at)
+    }
+
+    fn marks(_x: rpc::current::accept_body) -> Marks {
+        Marks::None
     }
 }
 
-pub(crate) fn copy_current_accepted_reply(
-    src: &[u8],
-    at: usize,
-    out: &mut [u8],
-    start: usize,
-) -> Copied
-    ensures { Copies current_accepted_reply src.now at start out.old (view_copied result) out.new }
-{
-    match rpc::read_current_accepted_reply(src, at) {
-        CurrentAcceptedReplyRead::Refused(r) => Copied::Unread(r),
-        CurrentAcceptedReplyRead::Took {
-            value: v,
-            next: n,
-            plain: p,
-        } => {
-            if p {
-                return copied_to(n, p, v.marks(), write_span(src, at, n, out, start));
-            }
-            copied_to(
-                n,
-                p,
-                v.marks(),
-                rpc::write_current_accepted_reply(src, v, out, start),
-            )
-        }
+pub(crate) struct CurrentAcceptedReply;
+
+impl Kind for CurrentAcceptedReply {
+    type Value = rpc::current::accepted_reply;
+
+    ghost number = { 62 };
+
+    ghost held = { held_as current_accepted_reply };
+
+    ghost listed = { λ s at start o c o' d. d };
+
+    fn read(src: &[u8], at: usize) -> Result<Took<rpc::current::accepted_reply>, Refusal> {
+        rpc::read_current_accepted_reply(src, at)
+    }
+
+    fn write(
+        src: &[u8],
+        x: rpc::current::accepted_reply,
+        out: &mut [u8],
+        at: usize,
+    ) -> Result<usize, Refusal> {
+        rpc::write_current_accepted_reply(src, x, out, at)
+    }
+
+    fn marks(x: rpc::current::accepted_reply) -> Marks {
+        x.marks()
     }
 }
 
-pub(crate) fn copy_current_rejected_reply(
-    src: &[u8],
-    at: usize,
-    out: &mut [u8],
-    start: usize,
-) -> Copied
-    ensures { Copies (exactly current_rejected_reply) src.now at start out.old (view_copied result) out.new }
-{
-    match rpc::read_current_rejected_reply(src, at) {
-        CurrentRejectedReplyRead::Refused(r) => Copied::Unread(r),
-        CurrentRejectedReplyRead::Took {
-            value: v,
-            next: n,
-            plain: p,
-        } => {
-            if p {
-                return copied_to(n, p, Marks::None, write_span(src, at, n, out, start));
-            }
-            copied_to(
-                n,
-                p,
-                Marks::None,
-                rpc::write_current_rejected_reply(v, out, start),
-            )
-        }
+pub(crate) struct CurrentRejectedReply;
+
+impl Kind for CurrentRejectedReply {
+    type Value = rpc::current::rejected_reply;
+
+    ghost number = { 63 };
+
+    ghost held = { held_as (exactly current_rejected_reply) };
+
+    ghost listed = { λ s at start o c o' d. d };
+
+    fn read(src: &[u8], at: usize) -> Result<Took<rpc::current::rejected_reply>, Refusal> {
+        rpc::read_current_rejected_reply(src, at)
+    }
+
+    fn write(
+        _src: &[u8],
+        x: rpc::current::rejected_reply,
+        out: &mut [u8],
+        at: usize,
+    ) -> Result<usize, Refusal> {
+        rpc::write_current_rejected_reply(x, out, at)
+    }
+
+    fn marks(_x: rpc::current::rejected_reply) -> Marks {
+        Marks::None
     }
 }
 
-pub(crate) fn copy_current_reply_body(src: &[u8], at: usize, out: &mut [u8], start: usize) -> Copied
-    ensures { Copies current_reply_body src.now at start out.old (view_copied result) out.new }
-{
-    match rpc::read_current_reply_body(src, at) {
-        CurrentReplyBodyRead::Refused(r) => Copied::Unread(r),
-        CurrentReplyBodyRead::Took {
-            value: v,
-            next: n,
-            plain: p,
-        } => {
-            if p {
-                return copied_to(n, p, v.marks(), write_span(src, at, n, out, start));
-            }
-            copied_to(
-                n,
-                p,
-                v.marks(),
-                rpc::write_current_reply_body(src, v, out, start),
-            )
-        }
+pub(crate) struct CurrentReplyBody;
+
+impl Kind for CurrentReplyBody {
+    type Value = rpc::current::reply_body;
+
+    ghost number = { 64 };
+
+    ghost held = { held_as current_reply_body };
+
+    ghost listed = { λ s at start o c o' d. d };
+
+    fn read(src: &[u8], at: usize) -> Result<Took<rpc::current::reply_body>, Refusal> {
+        rpc::read_current_reply_body(src, at)
+    }
+
+    fn write(
+        src: &[u8],
+        x: rpc::current::reply_body,
+        out: &mut [u8],
+        at: usize,
+    ) -> Result<usize, Refusal> {
+        rpc::write_current_reply_body(src, x, out, at)
+    }
+
+    fn marks(x: rpc::current::reply_body) -> Marks {
+        x.marks()
     }
 }
 
-pub(crate) fn copy_current_rpc_body(src: &[u8], at: usize, out: &mut [u8], start: usize) -> Copied
-    ensures { Copies current_rpc_body src.now at start out.old (view_copied result) out.new }
-{
-    match rpc::read_current_rpc_body(src, at) {
-        CurrentRpcBodyRead::Refused(r) => Copied::Unread(r),
-        CurrentRpcBodyRead::Took {
-            value: v,
-            next: n,
-            plain: p,
-        } => {
-            if p {
-                return copied_to(n, p, v.marks(), write_span(src, at, n, out, start));
-            }
-            copied_to(
-                n,
-                p,
-                v.marks(),
-                rpc::write_current_rpc_body(src, v, out, start),
-            )
-        }
+pub(crate) struct CurrentRpcBody;
+
+impl Kind for CurrentRpcBody {
+    type Value = rpc::current::rpc_body;
+
+    ghost number = { 65 };
+
+    ghost held = { held_as current_rpc_body };
+
+    ghost listed = { λ s at start o c o' d. d };
+
+    fn read(src: &[u8], at: usize) -> Result<Took<rpc::current::rpc_body>, Refusal> {
+        rpc::read_current_rpc_body(src, at)
+    }
+
+    fn write(
+        src: &[u8],
+        x: rpc::current::rpc_body,
+        out: &mut [u8],
+        at: usize,
+    ) -> Result<usize, Refusal> {
+        rpc::write_current_rpc_body(src, x, out, at)
+    }
+
+    fn marks(x: rpc::current::rpc_body) -> Marks {
+        x.marks()
     }
 }
 
-pub(crate) fn copy_current_rpc_msg(src: &[u8], at: usize, out: &mut [u8], start: usize) -> Copied
-    ensures { Copies current_rpc_msg src.now at start out.old (view_copied result) out.new }
-{
-    match rpc::read_current_rpc_msg(src, at) {
-        CurrentRpcMsgRead::Refused(r) => Copied::Unread(r),
-        CurrentRpcMsgRead::Took {
-            value: v,
-            next: n,
-            plain: p,
-        } => {
-            if p {
-                return copied_to(n, p, v.marks(), write_span(src, at, n, out, start));
-            }
-            copied_to(
-                n,
-                p,
-                v.marks(),
-                rpc::write_current_rpc_msg(src, v, out, start),
-            )
-        }
+pub(crate) struct CurrentRpcMsg;
+
+impl Kind for CurrentRpcMsg {
+    type Value = rpc::current::rpc_msg;
+
+    ghost number = { 66 };
+
+    ghost held = { held_as current_rpc_msg };
+
+    ghost listed = { λ s at start o c o' d. d };
+
+    fn read(src: &[u8], at: usize) -> Result<Took<rpc::current::rpc_msg>, Refusal> {
+        rpc::read_current_rpc_msg(src, at)
+    }
+
+    fn write(
+        src: &[u8],
+        x: rpc::current::rpc_msg,
+        out: &mut [u8],
+        at: usize,
+    ) -> Result<usize, Refusal> {
+        rpc::write_current_rpc_msg(src, x, out, at)
+    }
+
+    fn marks(x: rpc::current::rpc_msg) -> Marks {
+        x.marks()
     }
 }

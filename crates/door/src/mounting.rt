@@ -1,7 +1,7 @@
 // What C and Rust programs call for mounts and ports: calls that are answered or handed on, and export lists.
 ghost use Rattle.std.specs.Prelude.{◌∷◌, ◌≤◌, length, true, cond};
 ghost use Rattle.xdr.specs.Meaning.Formats.{bytes};
-ghost use Rattle.rpcwire.specs.Meaning.Views.{view_caller};
+ghost use Rattle.xdr.specs.Meaning.Views.{view_option};
 ghost use Rattle.mount.specs.Meaning.Path.{long_path};
 ghost use Rattle.mount.specs.Meaning.Export.{nodes, long_list};
 ghost use Rattle.mount.specs.Meaning.Views.{view_asked};
@@ -13,20 +13,28 @@ use crate::exports::{SHORT_LIST, tell_wrote};
 use crate::figures::{bit, put_figures};
 use crate::values_read::tell_refused;
 use mount::{
-    Asked, Compared, NextExport, NextExportRead, NextGroup, NextGroupRead, ask, next_export,
-    next_group, read_exports, same_exports, write_dirpath, write_exports,
+    Asked, ask, exportnode, next_export, next_group, read_exports, same_exports, write_dirpath,
+    write_exports,
 };
-use rpcwire::Caller;
-use xdr::{Piece, PieceRead};
+use rpc::auth_unix;
+use xdr::{Piece, Refusal, Took};
 
 // Four figures of a call and the place behind its arguments, then 1 and the seven of the auth_unix, or zeros.
-fn tell_turn(a: u64, b: u64, c: u64, d: u64, next: usize, caller: Caller, info: &mut [u64])
+fn tell_turn(
+    a: u64,
+    b: u64,
+    c: u64,
+    d: u64,
+    next: usize,
+    caller: Option<auth_unix>,
+    info: &mut [u64],
+)
     requires { 13 ≤ length info.old }
-    ensures { Shows (turn_figures a b c d next) (view_caller caller) info.old info.new }
+    ensures { Shows (turn_figures a b c d next) (view_option caller) info.old info.new }
 {
     match caller {
-        Caller::Unnamed => put_figures(&[a, b, c, d, next as u64], 8, info),
-        Caller::Unix(u) => {
+        None => put_figures(&[a, b, c, d, next as u64], 8, info),
+        Some(u) => {
             let name = u.machinename;
             let gids = u.gids;
             put_figures(
@@ -154,21 +162,21 @@ pub fn yugerzat_read_exports(src: &[u8], at: usize, info: &mut [u64]) -> u32
     }
     let v = read_exports(src, at);
     match v {
-        PieceRead::Refused(r) => tell_refused(r, 2, info),
-        PieceRead::Took { value, next, plain } => {
+        Err(r) => tell_refused(r, 2, info),
+        Ok(Took { value, next, plain }) => {
             put_list(value, next, plain, info);
             0
         }
     }
 }
 
-fn put_next_export(v: NextExport, next: usize, plain: bool, info: &mut [u64])
+fn put_next_export(v: Option<exportnode>, next: usize, plain: bool, info: &mut [u64])
     requires { 7 ≤ length info.old }
     ensures { Shown (next ∷ cond plain 1 0 ∷ next_export_figures v) info.old info.new }
 {
     match v {
-        NextExport::End => put_figures(&[next as u64, bit(plain)], 5, info),
-        NextExport::Export(e) => {
+        None => put_figures(&[next as u64, bit(plain)], 5, info),
+        Some(e) => {
             let dir = e.ex_dir;
             let groups = e.ex_groups;
             put_figures(
@@ -198,21 +206,21 @@ pub fn yugerzat_next_export(src: &[u8], at: usize, info: &mut [u64]) -> u32
     }
     let v = next_export(src, at);
     match v {
-        NextExportRead::Refused(r) => tell_refused(r, 5, info),
-        NextExportRead::Took { value, next, plain } => {
+        Err(r) => tell_refused(r, 5, info),
+        Ok(Took { value, next, plain }) => {
             put_next_export(value, next, plain, info);
             0
         }
     }
 }
 
-fn put_next_group(v: NextGroup, next: usize, plain: bool, info: &mut [u64])
+fn put_next_group(v: Option<Piece>, next: usize, plain: bool, info: &mut [u64])
     requires { 5 ≤ length info.old }
     ensures { Shown (next ∷ cond plain 1 0 ∷ next_group_figures v) info.old info.new }
 {
     match v {
-        NextGroup::End => put_figures(&[next as u64, bit(plain)], 3, info),
-        NextGroup::Name(x) => put_figures(
+        None => put_figures(&[next as u64, bit(plain)], 3, info),
+        Some(x) => put_figures(
             &[next as u64, bit(plain), 1, x.at as u64, x.count as u64],
             0,
             info,
@@ -229,8 +237,8 @@ pub fn yugerzat_next_group(src: &[u8], at: usize, info: &mut [u64]) -> u32
     }
     let v = next_group(src, at);
     match v {
-        NextGroupRead::Refused(r) => tell_refused(r, 3, info),
-        NextGroupRead::Took { value, next, plain } => {
+        Err(r) => tell_refused(r, 3, info),
+        Ok(Took { value, next, plain }) => {
             put_next_group(value, next, plain, info);
             0
         }
@@ -292,21 +300,17 @@ pub fn yugerzat_write_exports(
     tell_wrote(w, info)
 }
 
-fn tell_compared(c: Compared, info: &mut [u64]) -> u32
+fn tell_compared(c: Result<bool, Refusal>, info: &mut [u64]) -> u32
     requires { 1 ≤ length info.old }
     ensures { Says compared_code compared_figures c info.old result info.new }
 {
     match c {
-        Compared::Refused(r) => {
+        Err(r) => {
             put_figures(&[], 1, info);
             r.number()
         }
-        Compared::Same => {
-            put_figures(&[1], 0, info);
-            0
-        }
-        Compared::Different => {
-            put_figures(&[], 1, info);
+        Ok(same) => {
+            put_figures(&[bit(same)], 0, info);
             0
         }
     }

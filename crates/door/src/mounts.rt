@@ -1,94 +1,136 @@
 // made by tools/generate from kinds.txt
-// Each kind of the mount protocol and of the port mapper, copied.
+// Each kind of the mount protocol and of the port mapper, as a kind.
 ghost use Rattle.xdr.specs.Meaning.Format.{exactly};
 ghost use Rattle.mount.specs.Meaning.Path.{dirpath};
 ghost use Rattle.mount.specs.Meaning.Mnt.{mountstat, mountres};
 ghost use Rattle.mount.specs.Meaning.Export.{exports};
 ghost use Rattle.mount.specs.Meaning.Portmap.{port_mapping};
-ghost use Rattle.door.specs.Meaning.Copy.{view_copied, Copies};
+ghost use Rattle.door.specs.Meaning.Copy.{held_as};
 
-use crate::copy::{Copied, copied_to, write_span};
-use mount::{MappingRead, Mountres3Read, Mountstat3Read};
-use xdr::{Marks, PieceRead};
+use crate::kind::Kind;
+use xdr::{Marks, Piece, Refusal, Took};
 
-pub(crate) fn copy_dirpath(src: &[u8], at: usize, out: &mut [u8], start: usize) -> Copied
-    ensures { Copies dirpath src.now at start out.old (view_copied result) out.new }
-{
-    match mount::read_dirpath(src, at) {
-        PieceRead::Refused(r) => Copied::Unread(r),
-        PieceRead::Took {
-            value: v,
-            next: n,
-            plain: p,
-        } => {
-            if p {
-                return copied_to(n, p, v.marks(), write_span(src, at, n, out, start));
-            }
-            copied_to(n, p, v.marks(), mount::write_dirpath(src, v, out, start))
-        }
+pub(crate) struct Dirpath;
+
+impl Kind for Dirpath {
+    type Value = Piece;
+
+    ghost number = { 67 };
+
+    ghost held = { held_as dirpath };
+
+    ghost listed = { λ s at start o c o' d. d };
+
+    fn read(src: &[u8], at: usize) -> Result<Took<Piece>, Refusal> {
+        mount::read_dirpath(src, at)
+    }
+
+    fn write(src: &[u8], x: Piece, out: &mut [u8], at: usize) -> Result<usize, Refusal> {
+        mount::write_dirpath(src, x, out, at)
+    }
+
+    fn marks(x: Piece) -> Marks {
+        x.marks()
     }
 }
 
-pub(crate) fn copy_mountstat3(src: &[u8], at: usize, out: &mut [u8], start: usize) -> Copied
-    ensures { Copies (exactly mountstat) src.now at start out.old (view_copied result) out.new }
-{
-    match mount::read_mountstat3(src, at) {
-        Mountstat3Read::Refused(r) => Copied::Unread(r),
-        Mountstat3Read::Took { value: _, next: n } => copied_to(
-            n,
-            true,
-            Marks::None,
-            write_span(src, at, n, out, start),
-        ),
+pub(crate) struct Mountstat3;
+
+impl Kind for Mountstat3 {
+    type Value = mount::mountstat3;
+
+    ghost number = { 68 };
+
+    ghost held = { held_as (exactly mountstat) };
+
+    ghost listed = { λ s at start o c o' d. d };
+
+    fn read(src: &[u8], at: usize) -> Result<Took<mount::mountstat3>, Refusal> {
+        mount::read_mountstat3(src, at)
+    }
+
+    fn write(
+        _src: &[u8],
+        x: mount::mountstat3,
+        out: &mut [u8],
+        at: usize,
+    ) -> Result<usize, Refusal> {
+        mount::write_mountstat3(x, out, at)
+    }
+
+    fn marks(_x: mount::mountstat3) -> Marks {
+        Marks::None
     }
 }
 
-pub(crate) fn copy_mountres3(src: &[u8], at: usize, out: &mut [u8], start: usize) -> Copied
-    ensures { Copies mountres src.now at start out.old (view_copied result) out.new }
-{
-    match mount::read_mountres3(src, at) {
-        Mountres3Read::Refused(r) => Copied::Unread(r),
-        Mountres3Read::Took {
-            value: v,
-            next: n,
-            plain: p,
-        } => {
-            if p {
-                return copied_to(n, p, v.marks(), write_span(src, at, n, out, start));
-            }
-            copied_to(n, p, v.marks(), mount::write_mountres3(src, v, out, start))
-        }
+pub(crate) struct Mountres3;
+
+impl Kind for Mountres3 {
+    type Value = mount::mountres3;
+
+    ghost number = { 69 };
+
+    ghost held = { held_as mountres };
+
+    ghost listed = { λ s at start o c o' d. d };
+
+    fn read(src: &[u8], at: usize) -> Result<Took<mount::mountres3>, Refusal> {
+        mount::read_mountres3(src, at)
+    }
+
+    fn write(src: &[u8], x: mount::mountres3, out: &mut [u8], at: usize) -> Result<usize, Refusal> {
+        mount::write_mountres3(src, x, out, at)
+    }
+
+    fn marks(x: mount::mountres3) -> Marks {
+        x.marks()
     }
 }
 
-pub(crate) fn copy_exports(src: &[u8], at: usize, out: &mut [u8], start: usize) -> Copied
-    ensures { Copies exports src.now at start out.old (view_copied result) out.new }
-{
-    match mount::read_exports(src, at) {
-        PieceRead::Refused(r) => Copied::Unread(r),
-        PieceRead::Took {
-            value: v,
-            next: n,
-            plain: p,
-        } => {
-            if p {
-                return copied_to(n, p, v.marks(), write_span(src, at, n, out, start));
-            }
-            copied_to(n, p, v.marks(), mount::write_exports(src, v, out, start))
-        }
+pub(crate) struct Exports;
+
+impl Kind for Exports {
+    type Value = Piece;
+
+    ghost number = { 70 };
+
+    ghost held = { held_as exports };
+
+    ghost listed = { λ s at start o c o' d. d };
+
+    fn read(src: &[u8], at: usize) -> Result<Took<Piece>, Refusal> {
+        mount::read_exports(src, at)
+    }
+
+    fn write(src: &[u8], x: Piece, out: &mut [u8], at: usize) -> Result<usize, Refusal> {
+        mount::write_exports(src, x, out, at)
+    }
+
+    fn marks(x: Piece) -> Marks {
+        x.marks()
     }
 }
 
-pub(crate) fn copy_mapping(src: &[u8], at: usize, out: &mut [u8], start: usize) -> Copied
-    ensures { Copies (exactly port_mapping) src.now at start out.old (view_copied result) out.new }
-{
-    match mount::read_mapping(src, at) {
-        MappingRead::Refused(r) => Copied::Unread(r),
-        MappingRead::Took { value: _, next: n } => copied_to(
-            n,
-            true,
-            Marks::None,
-            write_span(src, at, n, out, start),
-        ),
+pub(crate) struct Mapping;
+
+impl Kind for Mapping {
+    type Value = mount::mapping;
+
+    ghost number = { 71 };
+
+    ghost held = { held_as (exactly port_mapping) };
+
+    ghost listed = { λ s at start o c o' d. d };
+
+    fn read(src: &[u8], at: usize) -> Result<Took<mount::mapping>, Refusal> {
+        mount::read_mapping(src, at)
+    }
+
+    fn write(_src: &[u8], x: mount::mapping, out: &mut [u8], at: usize) -> Result<usize, Refusal> {
+        mount::write_mapping(x, out, at)
+    }
+
+    fn marks(_x: mount::mapping) -> Marks {
+        Marks::None
     }
 }

@@ -1,265 +1,360 @@
 // made by tools/generate from kinds.txt
-// The arguments and results of procedures of RFC 1813, copied.
+// The arguments and results of procedures of RFC 1813, as a kind.
 ghost use Rattle.xdr.specs.Meaning.Format.{exactly};
 ghost use Rattle.nfsfile.specs.Meaning.Setattr.{sattrguard, setattr_args, setattr_res};
 ghost use Rattle.nfsfile.specs.Meaning.Getattr.{getattr_args, getattr_res};
 ghost use Rattle.nfsfile.specs.Meaning.Lookup.{lookup_args, lookup_res};
 ghost use Rattle.nfsdata.specs.Meaning.Write.{stable-how, write_args, write_res};
 ghost use Rattle.nfsdata.specs.Meaning.Read.{read_args, read_res};
-ghost use Rattle.door.specs.Meaning.Copy.{view_copied, Copies};
+ghost use Rattle.door.specs.Meaning.Copy.{held_as};
 
-use crate::copy::{Copied, copied_to, write_span};
-use nfsdata::{Read3argsRead, Read3resRead, StableHowRead, Write3argsRead, Write3resRead};
-use nfsfile::{
-    Getattr3argsRead, Getattr3resRead, Lookup3argsRead, Lookup3resRead, Sattrguard3Read,
-    Setattr3argsRead, Setattr3resRead,
-};
-use xdr::Marks;
+use crate::kind::Kind;
+use xdr::{Marks, Refusal, Took};
 
-pub(crate) fn copy_stable_how(src: &[u8], at: usize, out: &mut [u8], start: usize) -> Copied
-    ensures { Copies (exactly stable-how) src.now at start out.old (view_copied result) out.new }
-{
-    match nfsdata::read_stable_how(src, at) {
-        StableHowRead::Refused(r) => Copied::Unread(r),
-        StableHowRead::Took { value: _, next: n } => copied_to(
-            n,
-            true,
-            Marks::None,
-            write_span(src, at, n, out, start),
-        ),
+pub(crate) struct StableHow;
+
+impl Kind for StableHow {
+    type Value = nfsdata::stable_how;
+
+    ghost number = { 47 };
+
+    ghost held = { held_as (exactly stable-how) };
+
+    ghost listed = { λ s at start o c o' d. d };
+
+    fn read(src: &[u8], at: usize) -> Result<Took<nfsdata::stable_how>, Refusal> {
+        nfsdata::read_stable_how(src, at)
+    }
+
+    fn write(
+        _src: &[u8],
+        x: nfsdata::stable_how,
+        out: &mut [u8],
+        at: usize,
+    ) -> Result<usize, Refusal> {
+        nfsdata::write_stable_how(x, out, at)
+    }
+
+    fn marks(_x: nfsdata::stable_how) -> Marks {
+        Marks::None
     }
 }
 
-pub(crate) fn copy_sattrguard3(src: &[u8], at: usize, out: &mut [u8], start: usize) -> Copied
-    ensures { Copies (exactly sattrguard) src.now at start out.old (view_copied result) out.new }
-{
-    match nfsfile::read_sattrguard3(src, at) {
-        Sattrguard3Read::Refused(r) => Copied::Unread(r),
-        Sattrguard3Read::Took {
-            value: v,
-            next: n,
-            plain: p,
-        } => {
-            if p {
-                return copied_to(n, p, Marks::None, write_span(src, at, n, out, start));
-            }
-            copied_to(n, p, Marks::None, nfsfile::write_sattrguard3(v, out, start))
-        }
+pub(crate) struct Sattrguard3;
+
+impl Kind for Sattrguard3 {
+    type Value = nfsfile::sattrguard3;
+
+    ghost number = { 48 };
+
+    ghost held = { held_as (exactly sattrguard) };
+
+    ghost listed = { λ s at start o c o' d. d };
+
+    fn read(src: &[u8], at: usize) -> Result<Took<nfsfile::sattrguard3>, Refusal> {
+        nfsfile::read_sattrguard3(src, at)
+    }
+
+    fn write(
+        _src: &[u8],
+        x: nfsfile::sattrguard3,
+        out: &mut [u8],
+        at: usize,
+    ) -> Result<usize, Refusal> {
+        nfsfile::write_sattrguard3(x, out, at)
+    }
+
+    fn marks(_x: nfsfile::sattrguard3) -> Marks {
+        Marks::None
     }
 }
 
-pub(crate) fn copy_getattr3args(src: &[u8], at: usize, out: &mut [u8], start: usize) -> Copied
-    ensures { Copies getattr_args src.now at start out.old (view_copied result) out.new }
-{
-    match nfsfile::read_getattr3args(src, at) {
-        Getattr3argsRead::Refused(r) => Copied::Unread(r),
-        Getattr3argsRead::Took {
-            value: v,
-            next: n,
-            plain: p,
-        } => {
-            if p {
-                return copied_to(n, p, v.marks(), write_span(src, at, n, out, start));
-            }
-            copied_to(
-                n,
-                p,
-                v.marks(),
-                nfsfile::write_getattr3args(src, v, out, start),
-            )
-        }
+pub(crate) struct Getattr3args;
+
+impl Kind for Getattr3args {
+    type Value = nfsfile::GETATTR3args;
+
+    ghost number = { 49 };
+
+    ghost held = { held_as getattr_args };
+
+    ghost listed = { λ s at start o c o' d. d };
+
+    fn read(src: &[u8], at: usize) -> Result<Took<nfsfile::GETATTR3args>, Refusal> {
+        nfsfile::read_getattr3args(src, at)
+    }
+
+    fn write(
+        src: &[u8],
+        x: nfsfile::GETATTR3args,
+        out: &mut [u8],
+        at: usize,
+    ) -> Result<usize, Refusal> {
+        nfsfile::write_getattr3args(src, x, out, at)
+    }
+
+    fn marks(x: nfsfile::GETATTR3args) -> Marks {
+        x.marks()
     }
 }
 
-pub(crate) fn copy_getattr3res(src: &[u8], at: usize, out: &mut [u8], start: usize) -> Copied
-    ensures { Copies getattr_res src.now at start out.old (view_copied result) out.new }
-{
-    match nfsfile::read_getattr3res(src, at) {
-        Getattr3resRead::Refused(r) => Copied::Unread(r),
-        Getattr3resRead::Took { value: v, next: n } => copied_to(
-            n,
-            true,
-            v.marks(),
-            write_span(src, at, n, out, start),
-        ),
+pub(crate) struct Getattr3res;
+
+impl Kind for Getattr3res {
+    type Value = nfsfile::GETATTR3res;
+
+    ghost number = { 50 };
+
+    ghost held = { held_as getattr_res };
+
+    ghost listed = { λ s at start o c o' d. d };
+
+    fn read(src: &[u8], at: usize) -> Result<Took<nfsfile::GETATTR3res>, Refusal> {
+        nfsfile::read_getattr3res(src, at)
+    }
+
+    fn write(
+        src: &[u8],
+        x: nfsfile::GETATTR3res,
+        out: &mut [u8],
+        at: usize,
+    ) -> Result<usize, Refusal> {
+        nfsfile::write_getattr3res(src, x, out, at)
+    }
+
+    fn marks(x: nfsfile::GETATTR3res) -> Marks {
+        x.marks()
     }
 }
 
-pub(crate) fn copy_setattr3args(src: &[u8], at: usize, out: &mut [u8], start: usize) -> Copied
-    ensures { Copies setattr_args src.now at start out.old (view_copied result) out.new }
-{
-    match nfsfile::read_setattr3args(src, at) {
-        Setattr3argsRead::Refused(r) => Copied::Unread(r),
-        Setattr3argsRead::Took {
-            value: v,
-            next: n,
-            plain: p,
-        } => {
-            if p {
-                return copied_to(n, p, v.marks(), write_span(src, at, n, out, start));
-            }
-            copied_to(
-                n,
-                p,
-                v.marks(),
-                nfsfile::write_setattr3args(src, v, out, start),
-            )
-        }
+pub(crate) struct Setattr3args;
+
+impl Kind for Setattr3args {
+    type Value = nfsfile::SETATTR3args;
+
+    ghost number = { 51 };
+
+    ghost held = { held_as setattr_args };
+
+    ghost listed = { λ s at start o c o' d. d };
+
+    fn read(src: &[u8], at: usize) -> Result<Took<nfsfile::SETATTR3args>, Refusal> {
+        nfsfile::read_setattr3args(src, at)
+    }
+
+    fn write(
+        src: &[u8],
+        x: nfsfile::SETATTR3args,
+        out: &mut [u8],
+        at: usize,
+    ) -> Result<usize, Refusal> {
+        nfsfile::write_setattr3args(src, x, out, at)
+    }
+
+    fn marks(x: nfsfile::SETATTR3args) -> Marks {
+        x.marks()
     }
 }
 
-pub(crate) fn copy_setattr3res(src: &[u8], at: usize, out: &mut [u8], start: usize) -> Copied
-    ensures { Copies setattr_res src.now at start out.old (view_copied result) out.new }
-{
-    match nfsfile::read_setattr3res(src, at) {
-        Setattr3resRead::Refused(r) => Copied::Unread(r),
-        Setattr3resRead::Took {
-            value: v,
-            next: n,
-            plain: p,
-        } => {
-            if p {
-                return copied_to(n, p, v.marks(), write_span(src, at, n, out, start));
-            }
-            copied_to(
-                n,
-                p,
-                v.marks(),
-                nfsfile::write_setattr3res(src, v, out, start),
-            )
-        }
+pub(crate) struct Setattr3res;
+
+impl Kind for Setattr3res {
+    type Value = nfsfile::SETATTR3res;
+
+    ghost number = { 52 };
+
+    ghost held = { held_as setattr_res };
+
+    ghost listed = { λ s at start o c o' d. d };
+
+    fn read(src: &[u8], at: usize) -> Result<Took<nfsfile::SETATTR3res>, Refusal> {
+        nfsfile::read_setattr3res(src, at)
+    }
+
+    fn write(
+        src: &[u8],
+        x: nfsfile::SETATTR3res,
+        out: &mut [u8],
+        at: usize,
+    ) -> Result<usize, Refusal> {
+        nfsfile::write_setattr3res(src, x, out, at)
+    }
+
+    fn marks(x: nfsfile::SETATTR3res) -> Marks {
+        x.marks()
     }
 }
 
-pub(crate) fn copy_lookup3args(src: &[u8], at: usize, out: &mut [u8], start: usize) -> Copied
-    ensures { Copies lookup_args src.now at start out.old (view_copied result) out.new }
-{
-    match nfsfile::read_lookup3args(src, at) {
-        Lookup3argsRead::Refused(r) => Copied::Unread(r),
-        Lookup3argsRead::Took {
-            value: v,
-            next: n,
-            plain: p,
-        } => {
-            if p {
-                return copied_to(n, p, v.marks(), write_span(src, at, n, out, start));
-            }
-            copied_to(
-                n,
-                p,
-                v.marks(),
-                nfsfile::write_lookup3args(src, v, out, start),
-            )
-        }
+pub(crate) struct Lookup3args;
+
+impl Kind for Lookup3args {
+    type Value = nfsfile::LOOKUP3args;
+
+    ghost number = { 53 };
+
+    ghost held = { held_as lookup_args };
+
+    ghost listed = { λ s at start o c o' d. d };
+
+    fn read(src: &[u8], at: usize) -> Result<Took<nfsfile::LOOKUP3args>, Refusal> {
+        nfsfile::read_lookup3args(src, at)
+    }
+
+    fn write(
+        src: &[u8],
+        x: nfsfile::LOOKUP3args,
+        out: &mut [u8],
+        at: usize,
+    ) -> Result<usize, Refusal> {
+        nfsfile::write_lookup3args(src, x, out, at)
+    }
+
+    fn marks(x: nfsfile::LOOKUP3args) -> Marks {
+        x.marks()
     }
 }
 
-pub(crate) fn copy_lookup3res(src: &[u8], at: usize, out: &mut [u8], start: usize) -> Copied
-    ensures { Copies lookup_res src.now at start out.old (view_copied result) out.new }
-{
-    match nfsfile::read_lookup3res(src, at) {
-        Lookup3resRead::Refused(r) => Copied::Unread(r),
-        Lookup3resRead::Took {
-            value: v,
-            next: n,
-            plain: p,
-        } => {
-            if p {
-                return copied_to(n, p, v.marks(), write_span(src, at, n, out, start));
-            }
-            copied_to(
-                n,
-                p,
-                v.marks(),
-                nfsfile::write_lookup3res(src, v, out, start),
-            )
-        }
+pub(crate) struct Lookup3res;
+
+impl Kind for Lookup3res {
+    type Value = nfsfile::LOOKUP3res;
+
+    ghost number = { 54 };
+
+    ghost held = { held_as lookup_res };
+
+    ghost listed = { λ s at start o c o' d. d };
+
+    fn read(src: &[u8], at: usize) -> Result<Took<nfsfile::LOOKUP3res>, Refusal> {
+        nfsfile::read_lookup3res(src, at)
+    }
+
+    fn write(
+        src: &[u8],
+        x: nfsfile::LOOKUP3res,
+        out: &mut [u8],
+        at: usize,
+    ) -> Result<usize, Refusal> {
+        nfsfile::write_lookup3res(src, x, out, at)
+    }
+
+    fn marks(x: nfsfile::LOOKUP3res) -> Marks {
+        x.marks()
     }
 }
 
-pub(crate) fn copy_read3args(src: &[u8], at: usize, out: &mut [u8], start: usize) -> Copied
-    ensures { Copies read_args src.now at start out.old (view_copied result) out.new }
-{
-    match nfsdata::read_read3args(src, at) {
-        Read3argsRead::Refused(r) => Copied::Unread(r),
-        Read3argsRead::Took {
-            value: v,
-            next: n,
-            plain: p,
-        } => {
-            if p {
-                return copied_to(n, p, v.marks(), write_span(src, at, n, out, start));
-            }
-            copied_to(
-                n,
-                p,
-                v.marks(),
-                nfsdata::write_read3args(src, v, out, start),
-            )
-        }
+pub(crate) struct Read3args;
+
+impl Kind for Read3args {
+    type Value = nfsdata::READ3args;
+
+    ghost number = { 55 };
+
+    ghost held = { held_as read_args };
+
+    ghost listed = { λ s at start o c o' d. d };
+
+    fn read(src: &[u8], at: usize) -> Result<Took<nfsdata::READ3args>, Refusal> {
+        nfsdata::read_read3args(src, at)
+    }
+
+    fn write(
+        src: &[u8],
+        x: nfsdata::READ3args,
+        out: &mut [u8],
+        at: usize,
+    ) -> Result<usize, Refusal> {
+        nfsdata::write_read3args(src, x, out, at)
+    }
+
+    fn marks(x: nfsdata::READ3args) -> Marks {
+        x.marks()
     }
 }
 
-pub(crate) fn copy_read3res(src: &[u8], at: usize, out: &mut [u8], start: usize) -> Copied
-    ensures { Copies read_res src.now at start out.old (view_copied result) out.new }
-{
-    match nfsdata::read_read3res(src, at) {
-        Read3resRead::Refused(r) => Copied::Unread(r),
-        Read3resRead::Took {
-            value: v,
-            next: n,
-            plain: p,
-        } => {
-            if p {
-                return copied_to(n, p, v.marks(), write_span(src, at, n, out, start));
-            }
-            copied_to(n, p, v.marks(), nfsdata::write_read3res(src, v, out, start))
-        }
+pub(crate) struct Read3res;
+
+impl Kind for Read3res {
+    type Value = nfsdata::READ3res;
+
+    ghost number = { 56 };
+
+    ghost held = { held_as read_res };
+
+    ghost listed = { λ s at start o c o' d. d };
+
+    fn read(src: &[u8], at: usize) -> Result<Took<nfsdata::READ3res>, Refusal> {
+        nfsdata::read_read3res(src, at)
+    }
+
+    fn write(
+        src: &[u8],
+        x: nfsdata::READ3res,
+        out: &mut [u8],
+        at: usize,
+    ) -> Result<usize, Refusal> {
+        nfsdata::write_read3res(src, x, out, at)
+    }
+
+    fn marks(x: nfsdata::READ3res) -> Marks {
+        x.marks()
     }
 }
 
-pub(crate) fn copy_write3args(src: &[u8], at: usize, out: &mut [u8], start: usize) -> Copied
-    ensures { Copies write_args src.now at start out.old (view_copied result) out.new }
-{
-    match nfsdata::read_write3args(src, at) {
-        Write3argsRead::Refused(r) => Copied::Unread(r),
-        Write3argsRead::Took {
-            value: v,
-            next: n,
-            plain: p,
-        } => {
-            if p {
-                return copied_to(n, p, v.marks(), write_span(src, at, n, out, start));
-            }
-            copied_to(
-                n,
-                p,
-                v.marks(),
-                nfsdata::write_write3args(src, v, out, start),
-            )
-        }
+pub(crate) struct Write3args;
+
+impl Kind for Write3args {
+    type Value = nfsdata::WRITE3args;
+
+    ghost number = { 57 };
+
+    ghost held = { held_as write_args };
+
+    ghost listed = { λ s at start o c o' d. d };
+
+    fn read(src: &[u8], at: usize) -> Result<Took<nfsdata::WRITE3args>, Refusal> {
+        nfsdata::read_write3args(src, at)
+    }
+
+    fn write(
+        src: &[u8],
+        x: nfsdata::WRITE3args,
+        out: &mut [u8],
+        at: usize,
+    ) -> Result<usize, Refusal> {
+        nfsdata::write_write3args(src, x, out, at)
+    }
+
+    fn marks(x: nfsdata::WRITE3args) -> Marks {
+        x.marks()
     }
 }
 
-pub(crate) fn copy_write3res(src: &[u8], at: usize, out: &mut [u8], start: usize) -> Copied
-    ensures { Copies write_res src.now at start out.old (view_copied result) out.new }
-{
-    match nfsdata::read_write3res(src, at) {
-        Write3resRead::Refused(r) => Copied::Unread(r),
-        Write3resRead::Took {
-            value: v,
-            next: n,
-            plain: p,
-        } => {
-            if p {
-                return copied_to(n, p, v.marks(), write_span(src, at, n, out, start));
-            }
-            copied_to(
-                n,
-                p,
-                v.marks(),
-                nfsdata::write_write3res(src, v, out, start),
-            )
-        }
+pub(crate) struct Write3res;
+
+impl Kind for Write3res {
+    type Value = nfsdata::WRITE3res;
+
+    ghost number = { 58 };
+
+    ghost held = { held_as write_res };
+
+    ghost listed = { λ s at start o c o' d. d };
+
+    fn read(src: &[u8], at: usize) -> Result<Took<nfsdata::WRITE3res>, Refusal> {
+        nfsdata::read_write3res(src, at)
+    }
+
+    fn write(
+        src: &[u8],
+        x: nfsdata::WRITE3res,
+        out: &mut [u8],
+        at: usize,
+    ) -> Result<usize, Refusal> {
+        nfsdata::write_write3res(src, x, out, at)
+    }
+
+    fn marks(x: nfsdata::WRITE3res) -> Marks {
+        x.marks()
     }
 }

@@ -4,29 +4,35 @@ ghost use Rattle.door.specs.Meaning.Exports.{RewriteCalled};
 
 use crate::exports::{SHORT_LIST, rewrite_any, tell_copied};
 use crate::files::{
-    copy_diropargs3, copy_fattr3, copy_fsinfo3, copy_ftype3, copy_nfs_fh3, copy_nfsstat3,
-    copy_nfstime3, copy_post_op_attr, copy_post_op_fh3, copy_pre_op_attr, copy_set_atime,
-    copy_set_gid3, copy_set_mode3, copy_set_mtime, copy_set_size3, copy_set_uid3, copy_specdata3,
-    copy_symlinkdata3, copy_time_how, copy_wcc_attr, copy_wcc_data,
+    Diropargs3, Fattr3, Fsinfo3, Ftype3, NfsFh3, Nfsstat3, Nfsstring, Nfstime3, PostOpAttr,
+    PostOpFh3, PreOpAttr, SetAtime, SetGid3, SetMode3, SetMtime, SetSize3, SetUid3, Specdata3,
+    Symlinkdata3, TimeHow, WccAttr, WccData,
 };
-use crate::items::{
-    copy_bool, copy_eight, copy_i32, copy_i64, copy_opaque, copy_u32, copy_u64, copy_words,
-};
+use crate::items::{Bool, Eight, I32, I64, Opaque, U32, U64, Words};
+use crate::kind::{Kind, copy};
 use crate::messages::{
-    copy_accept_body, copy_accept_stat, copy_accepted_reply, copy_auth_flavor, copy_auth_stat,
-    copy_auth_unix, copy_call_body, copy_current_accept_body, copy_current_accept_stat,
-    copy_current_accepted_reply, copy_current_auth_stat, copy_current_rejected_reply,
-    copy_current_reply_body, copy_current_rpc_body, copy_current_rpc_msg, copy_mismatch_info,
-    copy_msg_type, copy_opaque_auth, copy_reject_stat, copy_rejected_reply, copy_reply_body,
-    copy_reply_stat, copy_rpc_body, copy_rpc_msg,
+    AcceptBody, AcceptStat, AcceptedReply, AuthFlavor, AuthStat, AuthUnix, CallBody,
+    CurrentAcceptBody, CurrentAcceptStat, CurrentAcceptedReply, CurrentAuthStat,
+    CurrentRejectedReply, CurrentReplyBody, CurrentRpcBody, CurrentRpcMsg, MismatchInfo, MsgType,
+    OpaqueAuth, RejectStat, RejectedReply, ReplyBody, ReplyStat, RpcBody, RpcMsg,
 };
-use crate::mounts::{copy_dirpath, copy_exports, copy_mapping, copy_mountres3, copy_mountstat3};
+use crate::mounts::{Dirpath, Exports, Mapping, Mountres3, Mountstat3};
 use crate::procedures::{
-    copy_getattr3args, copy_getattr3res, copy_lookup3args, copy_lookup3res, copy_read3args,
-    copy_read3res, copy_sattrguard3, copy_setattr3args, copy_setattr3res, copy_stable_how,
-    copy_write3args, copy_write3res,
+    Getattr3args, Getattr3res, Lookup3args, Lookup3res, Read3args, Read3res, Sattrguard3,
+    Setattr3args, Setattr3res, StableHow, Write3args, Write3res,
 };
 use crate::settle::rewrite_sattr3;
+
+// What is read of a kind, written anew from the start of a buffer.
+fn rewrite<K: Kind>(src: &[u8], at: usize, out: &mut [u8], info: &mut [u64]) -> u32
+    ensures { RewriteCalled K.number src.now at out.old info.old result out.new info.new }
+{
+    if info.len() < 3 {
+        return SHORT_LIST;
+    }
+    let c = copy::<K>(src, at, out, 0);
+    tell_copied(c, info)
+}
 
 // Reads a message of a kind from place `at` of src, and writes it in published form from the start of out. 0: info holds the place after
 // what was read, 1 if that was in published form and else 0, and the count of bytes written. A refusal of the reading: info holds its
@@ -130,241 +136,145 @@ fn rewrite_rest(kind: u32, src: &[u8], at: usize, out: &mut [u8], info: &mut [u6
 pub fn yugerzat_rewrite_bool(src: &[u8], at: usize, out: &mut [u8], info: &mut [u64]) -> u32
     ensures { RewriteCalled 0 src.now at out.old info.old result out.new info.new }
 {
-    if info.len() < 3 {
-        return SHORT_LIST;
-    }
-    let c = copy_bool(src, at, out, 0);
-    tell_copied(c, info)
+    rewrite::<Bool>(src, at, out, info)
 }
 
 pub fn yugerzat_rewrite_i32(src: &[u8], at: usize, out: &mut [u8], info: &mut [u64]) -> u32
     ensures { RewriteCalled 1 src.now at out.old info.old result out.new info.new }
 {
-    if info.len() < 3 {
-        return SHORT_LIST;
-    }
-    let c = copy_i32(src, at, out, 0);
-    tell_copied(c, info)
+    rewrite::<I32>(src, at, out, info)
 }
 
 pub fn yugerzat_rewrite_i64(src: &[u8], at: usize, out: &mut [u8], info: &mut [u64]) -> u32
     ensures { RewriteCalled 2 src.now at out.old info.old result out.new info.new }
 {
-    if info.len() < 3 {
-        return SHORT_LIST;
-    }
-    let c = copy_i64(src, at, out, 0);
-    tell_copied(c, info)
+    rewrite::<I64>(src, at, out, info)
 }
 
 pub fn yugerzat_rewrite_u32(src: &[u8], at: usize, out: &mut [u8], info: &mut [u64]) -> u32
     ensures { RewriteCalled 3 src.now at out.old info.old result out.new info.new }
 {
-    if info.len() < 3 {
-        return SHORT_LIST;
-    }
-    let c = copy_u32(src, at, out, 0);
-    tell_copied(c, info)
+    rewrite::<U32>(src, at, out, info)
 }
 
 pub fn yugerzat_rewrite_u64(src: &[u8], at: usize, out: &mut [u8], info: &mut [u64]) -> u32
     ensures { RewriteCalled 4 src.now at out.old info.old result out.new info.new }
 {
-    if info.len() < 3 {
-        return SHORT_LIST;
-    }
-    let c = copy_u64(src, at, out, 0);
-    tell_copied(c, info)
+    rewrite::<U64>(src, at, out, info)
 }
 
 pub fn yugerzat_rewrite_eight(src: &[u8], at: usize, out: &mut [u8], info: &mut [u64]) -> u32
     ensures { RewriteCalled 5 src.now at out.old info.old result out.new info.new }
 {
-    if info.len() < 3 {
-        return SHORT_LIST;
-    }
-    let c = copy_eight(src, at, out, 0);
-    tell_copied(c, info)
+    rewrite::<Eight>(src, at, out, info)
 }
 
 pub fn yugerzat_rewrite_opaque(src: &[u8], at: usize, out: &mut [u8], info: &mut [u64]) -> u32
     ensures { RewriteCalled 6 src.now at out.old info.old result out.new info.new }
 {
-    if info.len() < 3 {
-        return SHORT_LIST;
-    }
-    let c = copy_opaque(src, at, out, 0);
-    tell_copied(c, info)
+    rewrite::<Opaque>(src, at, out, info)
 }
 
 pub fn yugerzat_rewrite_nfsstring(src: &[u8], at: usize, out: &mut [u8], info: &mut [u64]) -> u32
     ensures { RewriteCalled 7 src.now at out.old info.old result out.new info.new }
 {
-    if info.len() < 3 {
-        return SHORT_LIST;
-    }
-    let c = copy_opaque(src, at, out, 0);
-    tell_copied(c, info)
+    rewrite::<Nfsstring>(src, at, out, info)
 }
 
 pub fn yugerzat_rewrite_words(src: &[u8], at: usize, out: &mut [u8], info: &mut [u64]) -> u32
     ensures { RewriteCalled 8 src.now at out.old info.old result out.new info.new }
 {
-    if info.len() < 3 {
-        return SHORT_LIST;
-    }
-    let c = copy_words(src, at, out, 0);
-    tell_copied(c, info)
+    rewrite::<Words>(src, at, out, info)
 }
 
 pub fn yugerzat_rewrite_msg_type(src: &[u8], at: usize, out: &mut [u8], info: &mut [u64]) -> u32
     ensures { RewriteCalled 9 src.now at out.old info.old result out.new info.new }
 {
-    if info.len() < 3 {
-        return SHORT_LIST;
-    }
-    let c = copy_msg_type(src, at, out, 0);
-    tell_copied(c, info)
+    rewrite::<MsgType>(src, at, out, info)
 }
 
 pub fn yugerzat_rewrite_reply_stat(src: &[u8], at: usize, out: &mut [u8], info: &mut [u64]) -> u32
     ensures { RewriteCalled 10 src.now at out.old info.old result out.new info.new }
 {
-    if info.len() < 3 {
-        return SHORT_LIST;
-    }
-    let c = copy_reply_stat(src, at, out, 0);
-    tell_copied(c, info)
+    rewrite::<ReplyStat>(src, at, out, info)
 }
 
 pub fn yugerzat_rewrite_accept_stat(src: &[u8], at: usize, out: &mut [u8], info: &mut [u64]) -> u32
     ensures { RewriteCalled 11 src.now at out.old info.old result out.new info.new }
 {
-    if info.len() < 3 {
-        return SHORT_LIST;
-    }
-    let c = copy_accept_stat(src, at, out, 0);
-    tell_copied(c, info)
+    rewrite::<AcceptStat>(src, at, out, info)
 }
 
 pub fn yugerzat_rewrite_reject_stat(src: &[u8], at: usize, out: &mut [u8], info: &mut [u64]) -> u32
     ensures { RewriteCalled 12 src.now at out.old info.old result out.new info.new }
 {
-    if info.len() < 3 {
-        return SHORT_LIST;
-    }
-    let c = copy_reject_stat(src, at, out, 0);
-    tell_copied(c, info)
+    rewrite::<RejectStat>(src, at, out, info)
 }
 
 pub fn yugerzat_rewrite_auth_stat(src: &[u8], at: usize, out: &mut [u8], info: &mut [u64]) -> u32
     ensures { RewriteCalled 13 src.now at out.old info.old result out.new info.new }
 {
-    if info.len() < 3 {
-        return SHORT_LIST;
-    }
-    let c = copy_auth_stat(src, at, out, 0);
-    tell_copied(c, info)
+    rewrite::<AuthStat>(src, at, out, info)
 }
 
 pub fn yugerzat_rewrite_auth_flavor(src: &[u8], at: usize, out: &mut [u8], info: &mut [u64]) -> u32
     ensures { RewriteCalled 14 src.now at out.old info.old result out.new info.new }
 {
-    if info.len() < 3 {
-        return SHORT_LIST;
-    }
-    let c = copy_auth_flavor(src, at, out, 0);
-    tell_copied(c, info)
+    rewrite::<AuthFlavor>(src, at, out, info)
 }
 
 pub fn yugerzat_rewrite_time_how(src: &[u8], at: usize, out: &mut [u8], info: &mut [u64]) -> u32
     ensures { RewriteCalled 15 src.now at out.old info.old result out.new info.new }
 {
-    if info.len() < 3 {
-        return SHORT_LIST;
-    }
-    let c = copy_time_how(src, at, out, 0);
-    tell_copied(c, info)
+    rewrite::<TimeHow>(src, at, out, info)
 }
 
 pub fn yugerzat_rewrite_nfsstat3(src: &[u8], at: usize, out: &mut [u8], info: &mut [u64]) -> u32
     ensures { RewriteCalled 16 src.now at out.old info.old result out.new info.new }
 {
-    if info.len() < 3 {
-        return SHORT_LIST;
-    }
-    let c = copy_nfsstat3(src, at, out, 0);
-    tell_copied(c, info)
+    rewrite::<Nfsstat3>(src, at, out, info)
 }
 
 pub fn yugerzat_rewrite_ftype3(src: &[u8], at: usize, out: &mut [u8], info: &mut [u64]) -> u32
     ensures { RewriteCalled 17 src.now at out.old info.old result out.new info.new }
 {
-    if info.len() < 3 {
-        return SHORT_LIST;
-    }
-    let c = copy_ftype3(src, at, out, 0);
-    tell_copied(c, info)
+    rewrite::<Ftype3>(src, at, out, info)
 }
 
 pub fn yugerzat_rewrite_auth_unix(src: &[u8], at: usize, out: &mut [u8], info: &mut [u64]) -> u32
     ensures { RewriteCalled 18 src.now at out.old info.old result out.new info.new }
 {
-    if info.len() < 3 {
-        return SHORT_LIST;
-    }
-    let c = copy_auth_unix(src, at, out, 0);
-    tell_copied(c, info)
+    rewrite::<AuthUnix>(src, at, out, info)
 }
 
 pub fn yugerzat_rewrite_opaque_auth(src: &[u8], at: usize, out: &mut [u8], info: &mut [u64]) -> u32
     ensures { RewriteCalled 19 src.now at out.old info.old result out.new info.new }
 {
-    if info.len() < 3 {
-        return SHORT_LIST;
-    }
-    let c = copy_opaque_auth(src, at, out, 0);
-    tell_copied(c, info)
+    rewrite::<OpaqueAuth>(src, at, out, info)
 }
 
 pub fn yugerzat_rewrite_rpc_msg(src: &[u8], at: usize, out: &mut [u8], info: &mut [u64]) -> u32
     ensures { RewriteCalled 20 src.now at out.old info.old result out.new info.new }
 {
-    if info.len() < 3 {
-        return SHORT_LIST;
-    }
-    let c = copy_rpc_msg(src, at, out, 0);
-    tell_copied(c, info)
+    rewrite::<RpcMsg>(src, at, out, info)
 }
 
 pub fn yugerzat_rewrite_rpc_body(src: &[u8], at: usize, out: &mut [u8], info: &mut [u64]) -> u32
     ensures { RewriteCalled 21 src.now at out.old info.old result out.new info.new }
 {
-    if info.len() < 3 {
-        return SHORT_LIST;
-    }
-    let c = copy_rpc_body(src, at, out, 0);
-    tell_copied(c, info)
+    rewrite::<RpcBody>(src, at, out, info)
 }
 
 pub fn yugerzat_rewrite_call_body(src: &[u8], at: usize, out: &mut [u8], info: &mut [u64]) -> u32
     ensures { RewriteCalled 22 src.now at out.old info.old result out.new info.new }
 {
-    if info.len() < 3 {
-        return SHORT_LIST;
-    }
-    let c = copy_call_body(src, at, out, 0);
-    tell_copied(c, info)
+    rewrite::<CallBody>(src, at, out, info)
 }
 
 pub fn yugerzat_rewrite_reply_body(src: &[u8], at: usize, out: &mut [u8], info: &mut [u64]) -> u32
     ensures { RewriteCalled 23 src.now at out.old info.old result out.new info.new }
 {
-    if info.len() < 3 {
-        return SHORT_LIST;
-    }
-    let c = copy_reply_body(src, at, out, 0);
-    tell_copied(c, info)
+    rewrite::<ReplyBody>(src, at, out, info)
 }
 
 pub fn yugerzat_rewrite_accepted_reply(
@@ -375,21 +285,13 @@ pub fn yugerzat_rewrite_accepted_reply(
 ) -> u32
     ensures { RewriteCalled 24 src.now at out.old info.old result out.new info.new }
 {
-    if info.len() < 3 {
-        return SHORT_LIST;
-    }
-    let c = copy_accepted_reply(src, at, out, 0);
-    tell_copied(c, info)
+    rewrite::<AcceptedReply>(src, at, out, info)
 }
 
 pub fn yugerzat_rewrite_accept_body(src: &[u8], at: usize, out: &mut [u8], info: &mut [u64]) -> u32
     ensures { RewriteCalled 25 src.now at out.old info.old result out.new info.new }
 {
-    if info.len() < 3 {
-        return SHORT_LIST;
-    }
-    let c = copy_accept_body(src, at, out, 0);
-    tell_copied(c, info)
+    rewrite::<AcceptBody>(src, at, out, info)
 }
 
 pub fn yugerzat_rewrite_rejected_reply(
@@ -400,11 +302,7 @@ pub fn yugerzat_rewrite_rejected_reply(
 ) -> u32
     ensures { RewriteCalled 26 src.now at out.old info.old result out.new info.new }
 {
-    if info.len() < 3 {
-        return SHORT_LIST;
-    }
-    let c = copy_rejected_reply(src, at, out, 0);
-    tell_copied(c, info)
+    rewrite::<RejectedReply>(src, at, out, info)
 }
 
 pub fn yugerzat_rewrite_mismatch_info(
@@ -415,171 +313,103 @@ pub fn yugerzat_rewrite_mismatch_info(
 ) -> u32
     ensures { RewriteCalled 27 src.now at out.old info.old result out.new info.new }
 {
-    if info.len() < 3 {
-        return SHORT_LIST;
-    }
-    let c = copy_mismatch_info(src, at, out, 0);
-    tell_copied(c, info)
+    rewrite::<MismatchInfo>(src, at, out, info)
 }
 
 pub fn yugerzat_rewrite_specdata3(src: &[u8], at: usize, out: &mut [u8], info: &mut [u64]) -> u32
     ensures { RewriteCalled 28 src.now at out.old info.old result out.new info.new }
 {
-    if info.len() < 3 {
-        return SHORT_LIST;
-    }
-    let c = copy_specdata3(src, at, out, 0);
-    tell_copied(c, info)
+    rewrite::<Specdata3>(src, at, out, info)
 }
 
 pub fn yugerzat_rewrite_nfs_fh3(src: &[u8], at: usize, out: &mut [u8], info: &mut [u64]) -> u32
     ensures { RewriteCalled 29 src.now at out.old info.old result out.new info.new }
 {
-    if info.len() < 3 {
-        return SHORT_LIST;
-    }
-    let c = copy_nfs_fh3(src, at, out, 0);
-    tell_copied(c, info)
+    rewrite::<NfsFh3>(src, at, out, info)
 }
 
 pub fn yugerzat_rewrite_nfstime3(src: &[u8], at: usize, out: &mut [u8], info: &mut [u64]) -> u32
     ensures { RewriteCalled 30 src.now at out.old info.old result out.new info.new }
 {
-    if info.len() < 3 {
-        return SHORT_LIST;
-    }
-    let c = copy_nfstime3(src, at, out, 0);
-    tell_copied(c, info)
+    rewrite::<Nfstime3>(src, at, out, info)
 }
 
 pub fn yugerzat_rewrite_fattr3(src: &[u8], at: usize, out: &mut [u8], info: &mut [u64]) -> u32
     ensures { RewriteCalled 31 src.now at out.old info.old result out.new info.new }
 {
-    if info.len() < 3 {
-        return SHORT_LIST;
-    }
-    let c = copy_fattr3(src, at, out, 0);
-    tell_copied(c, info)
+    rewrite::<Fattr3>(src, at, out, info)
 }
 
 pub fn yugerzat_rewrite_fsinfo3(src: &[u8], at: usize, out: &mut [u8], info: &mut [u64]) -> u32
     ensures { RewriteCalled 32 src.now at out.old info.old result out.new info.new }
 {
-    if info.len() < 3 {
-        return SHORT_LIST;
-    }
-    let c = copy_fsinfo3(src, at, out, 0);
-    tell_copied(c, info)
+    rewrite::<Fsinfo3>(src, at, out, info)
 }
 
 pub fn yugerzat_rewrite_wcc_attr(src: &[u8], at: usize, out: &mut [u8], info: &mut [u64]) -> u32
     ensures { RewriteCalled 33 src.now at out.old info.old result out.new info.new }
 {
-    if info.len() < 3 {
-        return SHORT_LIST;
-    }
-    let c = copy_wcc_attr(src, at, out, 0);
-    tell_copied(c, info)
+    rewrite::<WccAttr>(src, at, out, info)
 }
 
 pub fn yugerzat_rewrite_pre_op_attr(src: &[u8], at: usize, out: &mut [u8], info: &mut [u64]) -> u32
     ensures { RewriteCalled 34 src.now at out.old info.old result out.new info.new }
 {
-    if info.len() < 3 {
-        return SHORT_LIST;
-    }
-    let c = copy_pre_op_attr(src, at, out, 0);
-    tell_copied(c, info)
+    rewrite::<PreOpAttr>(src, at, out, info)
 }
 
 pub fn yugerzat_rewrite_post_op_attr(src: &[u8], at: usize, out: &mut [u8], info: &mut [u64]) -> u32
     ensures { RewriteCalled 35 src.now at out.old info.old result out.new info.new }
 {
-    if info.len() < 3 {
-        return SHORT_LIST;
-    }
-    let c = copy_post_op_attr(src, at, out, 0);
-    tell_copied(c, info)
+    rewrite::<PostOpAttr>(src, at, out, info)
 }
 
 pub fn yugerzat_rewrite_wcc_data(src: &[u8], at: usize, out: &mut [u8], info: &mut [u64]) -> u32
     ensures { RewriteCalled 36 src.now at out.old info.old result out.new info.new }
 {
-    if info.len() < 3 {
-        return SHORT_LIST;
-    }
-    let c = copy_wcc_data(src, at, out, 0);
-    tell_copied(c, info)
+    rewrite::<WccData>(src, at, out, info)
 }
 
 pub fn yugerzat_rewrite_post_op_fh3(src: &[u8], at: usize, out: &mut [u8], info: &mut [u64]) -> u32
     ensures { RewriteCalled 37 src.now at out.old info.old result out.new info.new }
 {
-    if info.len() < 3 {
-        return SHORT_LIST;
-    }
-    let c = copy_post_op_fh3(src, at, out, 0);
-    tell_copied(c, info)
+    rewrite::<PostOpFh3>(src, at, out, info)
 }
 
 pub fn yugerzat_rewrite_set_mode3(src: &[u8], at: usize, out: &mut [u8], info: &mut [u64]) -> u32
     ensures { RewriteCalled 38 src.now at out.old info.old result out.new info.new }
 {
-    if info.len() < 3 {
-        return SHORT_LIST;
-    }
-    let c = copy_set_mode3(src, at, out, 0);
-    tell_copied(c, info)
+    rewrite::<SetMode3>(src, at, out, info)
 }
 
 pub fn yugerzat_rewrite_set_uid3(src: &[u8], at: usize, out: &mut [u8], info: &mut [u64]) -> u32
     ensures { RewriteCalled 39 src.now at out.old info.old result out.new info.new }
 {
-    if info.len() < 3 {
-        return SHORT_LIST;
-    }
-    let c = copy_set_uid3(src, at, out, 0);
-    tell_copied(c, info)
+    rewrite::<SetUid3>(src, at, out, info)
 }
 
 pub fn yugerzat_rewrite_set_gid3(src: &[u8], at: usize, out: &mut [u8], info: &mut [u64]) -> u32
     ensures { RewriteCalled 40 src.now at out.old info.old result out.new info.new }
 {
-    if info.len() < 3 {
-        return SHORT_LIST;
-    }
-    let c = copy_set_gid3(src, at, out, 0);
-    tell_copied(c, info)
+    rewrite::<SetGid3>(src, at, out, info)
 }
 
 pub fn yugerzat_rewrite_set_size3(src: &[u8], at: usize, out: &mut [u8], info: &mut [u64]) -> u32
     ensures { RewriteCalled 41 src.now at out.old info.old result out.new info.new }
 {
-    if info.len() < 3 {
-        return SHORT_LIST;
-    }
-    let c = copy_set_size3(src, at, out, 0);
-    tell_copied(c, info)
+    rewrite::<SetSize3>(src, at, out, info)
 }
 
 pub fn yugerzat_rewrite_set_atime(src: &[u8], at: usize, out: &mut [u8], info: &mut [u64]) -> u32
     ensures { RewriteCalled 42 src.now at out.old info.old result out.new info.new }
 {
-    if info.len() < 3 {
-        return SHORT_LIST;
-    }
-    let c = copy_set_atime(src, at, out, 0);
-    tell_copied(c, info)
+    rewrite::<SetAtime>(src, at, out, info)
 }
 
 pub fn yugerzat_rewrite_set_mtime(src: &[u8], at: usize, out: &mut [u8], info: &mut [u64]) -> u32
     ensures { RewriteCalled 43 src.now at out.old info.old result out.new info.new }
 {
-    if info.len() < 3 {
-        return SHORT_LIST;
-    }
-    let c = copy_set_mtime(src, at, out, 0);
-    tell_copied(c, info)
+    rewrite::<SetMtime>(src, at, out, info)
 }
 
 pub fn yugerzat_rewrite_sattr3(src: &[u8], at: usize, out: &mut [u8], info: &mut [u64]) -> u32
@@ -591,141 +421,85 @@ pub fn yugerzat_rewrite_sattr3(src: &[u8], at: usize, out: &mut [u8], info: &mut
 pub fn yugerzat_rewrite_diropargs3(src: &[u8], at: usize, out: &mut [u8], info: &mut [u64]) -> u32
     ensures { RewriteCalled 45 src.now at out.old info.old result out.new info.new }
 {
-    if info.len() < 3 {
-        return SHORT_LIST;
-    }
-    let c = copy_diropargs3(src, at, out, 0);
-    tell_copied(c, info)
+    rewrite::<Diropargs3>(src, at, out, info)
 }
 
 pub fn yugerzat_rewrite_symlinkdata3(src: &[u8], at: usize, out: &mut [u8], info: &mut [u64]) -> u32
     ensures { RewriteCalled 46 src.now at out.old info.old result out.new info.new }
 {
-    if info.len() < 3 {
-        return SHORT_LIST;
-    }
-    let c = copy_symlinkdata3(src, at, out, 0);
-    tell_copied(c, info)
+    rewrite::<Symlinkdata3>(src, at, out, info)
 }
 
 pub fn yugerzat_rewrite_stable_how(src: &[u8], at: usize, out: &mut [u8], info: &mut [u64]) -> u32
     ensures { RewriteCalled 47 src.now at out.old info.old result out.new info.new }
 {
-    if info.len() < 3 {
-        return SHORT_LIST;
-    }
-    let c = copy_stable_how(src, at, out, 0);
-    tell_copied(c, info)
+    rewrite::<StableHow>(src, at, out, info)
 }
 
 pub fn yugerzat_rewrite_sattrguard3(src: &[u8], at: usize, out: &mut [u8], info: &mut [u64]) -> u32
     ensures { RewriteCalled 48 src.now at out.old info.old result out.new info.new }
 {
-    if info.len() < 3 {
-        return SHORT_LIST;
-    }
-    let c = copy_sattrguard3(src, at, out, 0);
-    tell_copied(c, info)
+    rewrite::<Sattrguard3>(src, at, out, info)
 }
 
 pub fn yugerzat_rewrite_getattr3args(src: &[u8], at: usize, out: &mut [u8], info: &mut [u64]) -> u32
     ensures { RewriteCalled 49 src.now at out.old info.old result out.new info.new }
 {
-    if info.len() < 3 {
-        return SHORT_LIST;
-    }
-    let c = copy_getattr3args(src, at, out, 0);
-    tell_copied(c, info)
+    rewrite::<Getattr3args>(src, at, out, info)
 }
 
 pub fn yugerzat_rewrite_getattr3res(src: &[u8], at: usize, out: &mut [u8], info: &mut [u64]) -> u32
     ensures { RewriteCalled 50 src.now at out.old info.old result out.new info.new }
 {
-    if info.len() < 3 {
-        return SHORT_LIST;
-    }
-    let c = copy_getattr3res(src, at, out, 0);
-    tell_copied(c, info)
+    rewrite::<Getattr3res>(src, at, out, info)
 }
 
 pub fn yugerzat_rewrite_setattr3args(src: &[u8], at: usize, out: &mut [u8], info: &mut [u64]) -> u32
     ensures { RewriteCalled 51 src.now at out.old info.old result out.new info.new }
 {
-    if info.len() < 3 {
-        return SHORT_LIST;
-    }
-    let c = copy_setattr3args(src, at, out, 0);
-    tell_copied(c, info)
+    rewrite::<Setattr3args>(src, at, out, info)
 }
 
 pub fn yugerzat_rewrite_setattr3res(src: &[u8], at: usize, out: &mut [u8], info: &mut [u64]) -> u32
     ensures { RewriteCalled 52 src.now at out.old info.old result out.new info.new }
 {
-    if info.len() < 3 {
-        return SHORT_LIST;
-    }
-    let c = copy_setattr3res(src, at, out, 0);
-    tell_copied(c, info)
+    rewrite::<Setattr3res>(src, at, out, info)
 }
 
 pub fn yugerzat_rewrite_lookup3args(src: &[u8], at: usize, out: &mut [u8], info: &mut [u64]) -> u32
     ensures { RewriteCalled 53 src.now at out.old info.old result out.new info.new }
 {
-    if info.len() < 3 {
-        return SHORT_LIST;
-    }
-    let c = copy_lookup3args(src, at, out, 0);
-    tell_copied(c, info)
+    rewrite::<Lookup3args>(src, at, out, info)
 }
 
 pub fn yugerzat_rewrite_lookup3res(src: &[u8], at: usize, out: &mut [u8], info: &mut [u64]) -> u32
     ensures { RewriteCalled 54 src.now at out.old info.old result out.new info.new }
 {
-    if info.len() < 3 {
-        return SHORT_LIST;
-    }
-    let c = copy_lookup3res(src, at, out, 0);
-    tell_copied(c, info)
+    rewrite::<Lookup3res>(src, at, out, info)
 }
 
 pub fn yugerzat_rewrite_read3args(src: &[u8], at: usize, out: &mut [u8], info: &mut [u64]) -> u32
     ensures { RewriteCalled 55 src.now at out.old info.old result out.new info.new }
 {
-    if info.len() < 3 {
-        return SHORT_LIST;
-    }
-    let c = copy_read3args(src, at, out, 0);
-    tell_copied(c, info)
+    rewrite::<Read3args>(src, at, out, info)
 }
 
 pub fn yugerzat_rewrite_read3res(src: &[u8], at: usize, out: &mut [u8], info: &mut [u64]) -> u32
     ensures { RewriteCalled 56 src.now at out.old info.old result out.new info.new }
 {
-    if info.len() < 3 {
-        return SHORT_LIST;
-    }
-    let c = copy_read3res(src, at, out, 0);
-    tell_copied(c, info)
+    rewrite::<Read3res>(src, at, out, info)
 }
 
 pub fn yugerzat_rewrite_write3args(src: &[u8], at: usize, out: &mut [u8], info: &mut [u64]) -> u32
     ensures { RewriteCalled 57 src.now at out.old info.old result out.new info.new }
 {
-    if info.len() < 3 {
-        return SHORT_LIST;
-    }
-    let c = copy_write3args(src, at, out, 0);
-    tell_copied(c, info)
+    rewrite::<Write3args>(src, at, out, info)
 }
 
 pub fn yugerzat_rewrite_write3res(src: &[u8], at: usize, out: &mut [u8], info: &mut [u64]) -> u32
     ensures { RewriteCalled 58 src.now at out.old info.old result out.new info.new }
 {
-    if info.len() < 3 {
-        return SHORT_LIST;
-    }
-    let c = copy_write3res(src, at, out, 0);
-    tell_copied(c, info)
+    rewrite::<Write3res>(src, at, out, info)
 }
 
 pub fn yugerzat_rewrite_current_accept_stat(
@@ -736,11 +510,7 @@ pub fn yugerzat_rewrite_current_accept_stat(
 ) -> u32
     ensures { RewriteCalled 59 src.now at out.old info.old result out.new info.new }
 {
-    if info.len() < 3 {
-        return SHORT_LIST;
-    }
-    let c = copy_current_accept_stat(src, at, out, 0);
-    tell_copied(c, info)
+    rewrite::<CurrentAcceptStat>(src, at, out, info)
 }
 
 pub fn yugerzat_rewrite_current_auth_stat(
@@ -751,11 +521,7 @@ pub fn yugerzat_rewrite_current_auth_stat(
 ) -> u32
     ensures { RewriteCalled 60 src.now at out.old info.old result out.new info.new }
 {
-    if info.len() < 3 {
-        return SHORT_LIST;
-    }
-    let c = copy_current_auth_stat(src, at, out, 0);
-    tell_copied(c, info)
+    rewrite::<CurrentAuthStat>(src, at, out, info)
 }
 
 pub fn yugerzat_rewrite_current_accept_body(
@@ -766,11 +532,7 @@ pub fn yugerzat_rewrite_current_accept_body(
 ) -> u32
     ensures { RewriteCalled 61 src.now at out.old info.old result out.new info.new }
 {
-    if info.len() < 3 {
-        return SHORT_LIST;
-    }
-    let c = copy_current_accept_body(src, at, out, 0);
-    tell_copied(c, info)
+    rewrite::<CurrentAcceptBody>(src, at, out, info)
 }
 
 pub fn yugerzat_rewrite_current_accepted_reply(
@@ -781,11 +543,7 @@ pub fn yugerzat_rewrite_current_accepted_reply(
 ) -> u32
     ensures { RewriteCalled 62 src.now at out.old info.old result out.new info.new }
 {
-    if info.len() < 3 {
-        return SHORT_LIST;
-    }
-    let c = copy_current_accepted_reply(src, at, out, 0);
-    tell_copied(c, info)
+    rewrite::<CurrentAcceptedReply>(src, at, out, info)
 }
 
 pub fn yugerzat_rewrite_current_rejected_reply(
@@ -796,11 +554,7 @@ pub fn yugerzat_rewrite_current_rejected_reply(
 ) -> u32
     ensures { RewriteCalled 63 src.now at out.old info.old result out.new info.new }
 {
-    if info.len() < 3 {
-        return SHORT_LIST;
-    }
-    let c = copy_current_rejected_reply(src, at, out, 0);
-    tell_copied(c, info)
+    rewrite::<CurrentRejectedReply>(src, at, out, info)
 }
 
 pub fn yugerzat_rewrite_current_reply_body(
@@ -811,11 +565,7 @@ pub fn yugerzat_rewrite_current_reply_body(
 ) -> u32
     ensures { RewriteCalled 64 src.now at out.old info.old result out.new info.new }
 {
-    if info.len() < 3 {
-        return SHORT_LIST;
-    }
-    let c = copy_current_reply_body(src, at, out, 0);
-    tell_copied(c, info)
+    rewrite::<CurrentReplyBody>(src, at, out, info)
 }
 
 pub fn yugerzat_rewrite_current_rpc_body(
@@ -826,11 +576,7 @@ pub fn yugerzat_rewrite_current_rpc_body(
 ) -> u32
     ensures { RewriteCalled 65 src.now at out.old info.old result out.new info.new }
 {
-    if info.len() < 3 {
-        return SHORT_LIST;
-    }
-    let c = copy_current_rpc_body(src, at, out, 0);
-    tell_copied(c, info)
+    rewrite::<CurrentRpcBody>(src, at, out, info)
 }
 
 pub fn yugerzat_rewrite_current_rpc_msg(
@@ -841,59 +587,35 @@ pub fn yugerzat_rewrite_current_rpc_msg(
 ) -> u32
     ensures { RewriteCalled 66 src.now at out.old info.old result out.new info.new }
 {
-    if info.len() < 3 {
-        return SHORT_LIST;
-    }
-    let c = copy_current_rpc_msg(src, at, out, 0);
-    tell_copied(c, info)
+    rewrite::<CurrentRpcMsg>(src, at, out, info)
 }
 
 pub fn yugerzat_rewrite_dirpath(src: &[u8], at: usize, out: &mut [u8], info: &mut [u64]) -> u32
     ensures { RewriteCalled 67 src.now at out.old info.old result out.new info.new }
 {
-    if info.len() < 3 {
-        return SHORT_LIST;
-    }
-    let c = copy_dirpath(src, at, out, 0);
-    tell_copied(c, info)
+    rewrite::<Dirpath>(src, at, out, info)
 }
 
 pub fn yugerzat_rewrite_mountstat3(src: &[u8], at: usize, out: &mut [u8], info: &mut [u64]) -> u32
     ensures { RewriteCalled 68 src.now at out.old info.old result out.new info.new }
 {
-    if info.len() < 3 {
-        return SHORT_LIST;
-    }
-    let c = copy_mountstat3(src, at, out, 0);
-    tell_copied(c, info)
+    rewrite::<Mountstat3>(src, at, out, info)
 }
 
 pub fn yugerzat_rewrite_mountres3(src: &[u8], at: usize, out: &mut [u8], info: &mut [u64]) -> u32
     ensures { RewriteCalled 69 src.now at out.old info.old result out.new info.new }
 {
-    if info.len() < 3 {
-        return SHORT_LIST;
-    }
-    let c = copy_mountres3(src, at, out, 0);
-    tell_copied(c, info)
+    rewrite::<Mountres3>(src, at, out, info)
 }
 
 pub fn yugerzat_rewrite_exports(src: &[u8], at: usize, out: &mut [u8], info: &mut [u64]) -> u32
     ensures { RewriteCalled 70 src.now at out.old info.old result out.new info.new }
 {
-    if info.len() < 3 {
-        return SHORT_LIST;
-    }
-    let c = copy_exports(src, at, out, 0);
-    tell_copied(c, info)
+    rewrite::<Exports>(src, at, out, info)
 }
 
 pub fn yugerzat_rewrite_mapping(src: &[u8], at: usize, out: &mut [u8], info: &mut [u64]) -> u32
     ensures { RewriteCalled 71 src.now at out.old info.old result out.new info.new }
 {
-    if info.len() < 3 {
-        return SHORT_LIST;
-    }
-    let c = copy_mapping(src, at, out, 0);
-    tell_copied(c, info)
+    rewrite::<Mapping>(src, at, out, info)
 }

@@ -8,217 +8,145 @@ ghost use Rattle.door.specs.Meaning.Values.{option_figures, time_figures, sattr3
 ghost use Rattle.door.specs.Laws.Taken.{Takes, OwnerTakes, ChangeTakes, Whole, WholeAnswers};
 
 use crate::figures::{put_three, put_two};
-use nfs::Nfstime3Read;
 use nfsattr::inner::attr::nfstime3_at;
 use xdr::inner::{bool_at, u32_at, u64_at};
-use xdr::order::{Opening, open_at};
-use xdr::{BoolRead, U32Read, U64Read};
+use xdr::order::open_at;
 
+// Where a reading ended, and whether it was of published form: `None` where it is refused.
 #[derive(Clone, Copy)]
-pub enum Step {
-    // It is refused.
-    Lost,
-    Took { next: usize, plain: bool },
+pub(crate) struct Step {
+    pub next: usize,
+    pub plain: bool,
 }
 
 // A flag, and the word or hyper that it sets.
-fn take_word(src: &[u8], at: usize, info: &mut [u64], k: usize) -> Step
+fn take_word(src: &[u8], at: usize, info: &mut [u64], k: usize) -> Option<Step>
     requires { k + 2 ≤ length info.old }
     ensures { Takes (option word) option_figures src.now at k info.old result info.new }
 {
-    let r1 = bool_at(src, at);
-    let BoolRead::Took {
-        value: follows,
-        next: n1,
-        plain: p1,
-    } = r1
-    else {
-        return Step::Lost;
+    let Ok(flag) = bool_at(src, at) else {
+        return None;
     };
-    if !follows {
+    if !flag.value {
         put_two(0, 0, info, k);
-        return Step::Took {
-            next: n1,
-            plain: p1,
-        };
+        return Some(Step {
+            next: flag.next,
+            plain: flag.plain,
+        });
     }
-    let r2 = u32_at(src, n1);
-    let U32Read::Took { value: v, next: n2 } = r2 else {
-        return Step::Lost;
+    let Ok(word) = u32_at(src, flag.next) else {
+        return None;
     };
-    put_two(1, v as u64, info, k);
-    Step::Took {
-        next: n2,
-        plain: p1,
-    }
+    put_two(1, word.value as u64, info, k);
+    Some(Step {
+        next: word.next,
+        plain: flag.plain & word.plain,
+    })
 }
 
-fn take_hyper(src: &[u8], at: usize, info: &mut [u64], k: usize) -> Step
+fn take_hyper(src: &[u8], at: usize, info: &mut [u64], k: usize) -> Option<Step>
     requires { k + 2 ≤ length info.old }
     ensures { Takes (option hyper) option_figures src.now at k info.old result info.new }
 {
-    let r1 = bool_at(src, at);
-    let BoolRead::Took {
-        value: follows,
-        next: n1,
-        plain: p1,
-    } = r1
-    else {
-        return Step::Lost;
+    let Ok(flag) = bool_at(src, at) else {
+        return None;
     };
-    if !follows {
+    if !flag.value {
         put_two(0, 0, info, k);
-        return Step::Took {
-            next: n1,
-            plain: p1,
-        };
+        return Some(Step {
+            next: flag.next,
+            plain: flag.plain,
+        });
     }
-    let r2 = u64_at(src, n1);
-    let U64Read::Took { value: v, next: n2 } = r2 else {
-        return Step::Lost;
+    let Ok(hyper) = u64_at(src, flag.next) else {
+        return None;
     };
-    put_two(1, v, info, k);
-    Step::Took {
-        next: n2,
-        plain: p1,
-    }
+    put_two(1, hyper.value, info, k);
+    Some(Step {
+        next: hyper.next,
+        plain: flag.plain & hyper.plain,
+    })
 }
 
 // A tag, and the time that it sets.
-fn take_time(src: &[u8], at: usize, info: &mut [u64], k: usize) -> Step
+fn take_time(src: &[u8], at: usize, info: &mut [u64], k: usize) -> Option<Step>
     requires { k + 3 ≤ length info.old }
     ensures { Takes set_time time_figures src.now at k info.old result info.new }
 {
-    let r1 = u32_at(src, at);
-    let U32Read::Took {
-        value: tag,
-        next: n1,
-    } = r1
-    else {
-        return Step::Lost;
+    let Ok(tag) = u32_at(src, at) else {
+        return None;
     };
-    if tag == 2 {
-        let r2 = nfstime3_at(src, n1);
-        let Nfstime3Read::Took { value: t, next: n2 } = r2 else {
-            return Step::Lost;
+    if tag.value == 2 {
+        let Ok(time) = nfstime3_at(src, tag.next) else {
+            return None;
         };
-        put_three(2, t.seconds as u64, t.nseconds as u64, info, k);
-        return Step::Took {
-            next: n2,
-            plain: true,
-        };
+        put_three(
+            2,
+            time.value.seconds as u64,
+            time.value.nseconds as u64,
+            info,
+            k,
+        );
+        return Some(Step {
+            next: time.next,
+            plain: time.plain,
+        });
     }
-    if tag < 2 {
-        put_three(tag as u64, 0, 0, info, k);
-        return Step::Took {
-            next: n1,
+    if tag.value < 2 {
+        put_three(tag.value as u64, 0, 0, info, k);
+        return Some(Step {
+            next: tag.next,
             plain: true,
-        };
+        });
     }
-    Step::Lost
+    None
 }
 
 // The figures of a sattr3 stand from the third of the list on: six for mode, uid and gid, then eight for size, atime and mtime.
-fn take_owner(src: &[u8], at: usize, info: &mut [u64]) -> Step
+fn take_owner(src: &[u8], at: usize, info: &mut [u64]) -> Option<Step>
     requires { 16 ≤ length info.old }
     ensures { OwnerTakes src.now at info.old result info.new }
 {
-    let r1 = take_word(src, at, info, 2);
-    let Step::Took {
-        next: n1,
-        plain: p1,
-    } = r1
-    else {
-        return Step::Lost;
-    };
-    let r2 = take_word(src, n1, info, 4);
-    let Step::Took {
-        next: n2,
-        plain: p2,
-    } = r2
-    else {
-        return Step::Lost;
-    };
-    let r3 = take_word(src, n2, info, 6);
-    let Step::Took {
-        next: n3,
-        plain: p3,
-    } = r3
-    else {
-        return Step::Lost;
-    };
-    Step::Took {
-        next: n3,
-        plain: p1 & (p2 & p3),
-    }
+    let mode = take_word(src, at, info, 2)?;
+    let uid = take_word(src, mode.next, info, 4)?;
+    let gid = take_word(src, uid.next, info, 6)?;
+    Some(Step {
+        next: gid.next,
+        plain: mode.plain & (uid.plain & gid.plain),
+    })
 }
 
-fn take_change(src: &[u8], at: usize, info: &mut [u64]) -> Step
+fn take_change(src: &[u8], at: usize, info: &mut [u64]) -> Option<Step>
     requires { 16 ≤ length info.old }
     ensures { ChangeTakes src.now at info.old result info.new }
 {
-    let r1 = take_hyper(src, at, info, 8);
-    let Step::Took {
-        next: n1,
-        plain: p1,
-    } = r1
-    else {
-        return Step::Lost;
-    };
-    let r2 = take_time(src, n1, info, 10);
-    let Step::Took {
-        next: n2,
-        plain: p2,
-    } = r2
-    else {
-        return Step::Lost;
-    };
-    let r3 = take_time(src, n2, info, 13);
-    let Step::Took {
-        next: n3,
-        plain: p3,
-    } = r3
-    else {
-        return Step::Lost;
-    };
-    Step::Took {
-        next: n3,
-        plain: p1 & (p2 & p3),
-    }
+    let size = take_hyper(src, at, info, 8)?;
+    let atime = take_time(src, size.next, info, 10)?;
+    let mtime = take_time(src, atime.next, info, 13)?;
+    Some(Step {
+        next: mtime.next,
+        plain: size.plain & (atime.plain & mtime.plain),
+    })
 }
 
-fn take_fields(src: &[u8], at: usize, info: &mut [u64]) -> Step
+fn take_fields(src: &[u8], at: usize, info: &mut [u64]) -> Option<Step>
     requires { 16 ≤ length info.old }
     ensures { Whole sattr sattr3_figures 14 src.now at info.old result info.new }
 {
-    let r1 = take_owner(src, at, info);
-    let Step::Took {
-        next: n1,
-        plain: p1,
-    } = r1
-    else {
-        return Step::Lost;
-    };
-    let r2 = take_change(src, n1, info);
-    let Step::Took {
-        next: n2,
-        plain: p2,
-    } = r2
-    else {
-        return Step::Lost;
-    };
-    Step::Took {
-        next: n2,
-        plain: p1 & p2,
-    }
+    let owner = take_owner(src, at, info)?;
+    let change = take_change(src, owner.next, info)?;
+    Some(Step {
+        next: change.next,
+        plain: owner.plain & change.plain,
+    })
 }
 
-pub(crate) fn take_sattr3(src: &[u8], at: usize, info: &mut [u64]) -> Step
+pub(crate) fn take_sattr3(src: &[u8], at: usize, info: &mut [u64]) -> Option<Step>
     requires { 16 ≤ length info.old }
     ensures { WholeAnswers sattr sattr3_figures 14 src.now at info.old result info.new }
 {
-    match open_at(src, at) {
-        Opening::Refused(_) => Step::Lost,
-        Opening::Open => take_fields(src, at, info),
-    }
+    let Ok(()) = open_at(src, at) else {
+        return None;
+    };
+    take_fields(src, at, info)
 }

@@ -8,10 +8,9 @@ ghost use Rattle.door.specs.Meaning.Exports.{RewriteCalled};
 
 use crate::exports::{SHORT_LIST, tell_copied};
 use crate::figures::{bit, put_three};
-use crate::files::copy_sattr3;
-use crate::sattr3::Step;
+use crate::files::Sattr3;
+use crate::kind::copy;
 use crate::walk::walk_sattr3;
-use xdr::BoolRead;
 use xdr::inner::{bool_at, put_bool, put_bytes};
 
 // The flag at a place. The answer is the place after what it sets, which has `size` bytes.
@@ -20,20 +19,14 @@ fn settle_flag(out: &mut [u8], at: usize, size: usize) -> usize
     requires size_bound { size ≤ 8 }
     ensures { FlagSettled size at out.old result out.new }
 {
-    let r = bool_at(out, at);
-    let BoolRead::Took {
-        value: v,
-        next: n,
-        plain: _,
-    } = r
-    else {
+    let Ok(flag) = bool_at(out, at) else {
         return at;
     };
-    put_bool(v, &mut out[at..]);
-    if v {
-        return n + size;
+    put_bool(flag.value, &mut out[at..]);
+    if flag.value {
+        return flag.next + size;
     }
-    n
+    flag.next
 }
 
 // The flags from a field on.
@@ -88,7 +81,7 @@ fn rewrite_sattr3_carefully(src: &[u8], at: usize, out: &mut [u8], info: &mut [u
     requires { 3 ≤ length info.old }
     ensures { RewriteCalled 44 src.now at out.old info.old result out.new info.new }
 {
-    let c = copy_sattr3(src, at, out, 0);
+    let c = copy::<Sattr3>(src, at, out, 0);
     tell_copied(c, info)
 }
 
@@ -120,9 +113,8 @@ pub(crate) fn rewrite_sattr3(src: &[u8], at: usize, out: &mut [u8], info: &mut [
     if info.len() < 3 {
         return SHORT_LIST;
     }
-    let w = walk_sattr3(src, at);
-    let Step::Took { next, plain } = w else {
+    let Some(walked) = walk_sattr3(src, at) else {
         return rewrite_sattr3_carefully(&src[0..], at, &mut out[0..], &mut info[0..]);
     };
-    rewrite_walked(src, at, next, plain, out, info)
+    rewrite_walked(src, at, walked.next, walked.plain, out, info)
 }

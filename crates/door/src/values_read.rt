@@ -14,16 +14,16 @@ ghost use Rattle.door.specs.Meaning.Values.{piece_figures, diropargs3_figures, D
 use crate::exports::SHORT_LIST;
 use crate::fattr3::take_fattr3;
 use crate::figures::{bit, put_figures, put_two};
-use crate::sattr3::{Step, take_sattr3};
+use crate::sattr3::take_sattr3;
 use nfs::{
-    Diropargs3Read, Fattr3Read, Sattr3Read, diropargs3, fattr3, read_diropargs3, read_fattr3,
-    read_sattr3, sattr3, set_atime, set_gid3, set_mode3, set_mtime, set_size3, set_uid3,
+    diropargs3, fattr3, read_diropargs3, read_fattr3, read_sattr3, sattr3, set_atime, set_gid3,
+    set_mode3, set_mtime, set_size3, set_uid3,
 };
 use rpc::{
-    AuthUnixRead, RpcMsgRead, accept_body, accepted_reply, auth_unix, call_body, read_auth_unix_in,
-    read_rpc_msg, rejected_reply, reply_body, rpc_body, rpc_msg,
+    accept_body, accepted_reply, auth_unix, call_body, read_auth_unix_in, read_rpc_msg,
+    rejected_reply, reply_body, rpc_body, rpc_msg,
 };
-use xdr::{Piece, Refusal, inside};
+use xdr::{Piece, Refusal, Took, inside};
 
 // Whether a piece lies inside a message: 0 and the piece, or 4 and the empty piece at the start.
 pub fn yugerzat_part(message: &[u8], at: usize, count: usize, info: &mut [u64]) -> u32
@@ -86,16 +86,16 @@ pub fn yugerzat_read_diropargs3(src: &[u8], at: usize, info: &mut [u64]) -> u32
     }
     let v = read_diropargs3(src, at);
     match v {
-        Diropargs3Read::Refused(r) => tell_refused(r, 4, info),
-        Diropargs3Read::Took { value, next, plain } => {
+        Err(r) => tell_refused(r, 4, info),
+        Ok(Took { value, next, plain }) => {
             put_diropargs3(value, next, plain, info);
             0
         }
     }
 }
 
-fn fattr3_figures(v: fattr3, number: u32, next: usize) -> [u64; 19]
-    ensures { result ≡ next ∷ 1 ∷ number ∷ drop 1 (fattr3_figures v) }
+fn fattr3_figures(v: fattr3, number: u32, next: usize, plain: u64) -> [u64; 19]
+    ensures { result ≡ next ∷ plain ∷ number ∷ drop 1 (fattr3_figures v) }
 {
     let rdev = v.rdev;
     let atime = v.atime;
@@ -103,7 +103,7 @@ fn fattr3_figures(v: fattr3, number: u32, next: usize) -> [u64; 19]
     let ctime = v.ctime;
     [
         next as u64,
-        1,
+        plain,
         number as u64,
         v.mode as u64,
         v.nlink as u64,
@@ -124,12 +124,12 @@ fn fattr3_figures(v: fattr3, number: u32, next: usize) -> [u64; 19]
     ]
 }
 
-fn put_fattr3(v: fattr3, next: usize, info: &mut [u64])
+fn put_fattr3(v: fattr3, next: usize, plain: u64, info: &mut [u64])
     requires { 19 ≤ length info.old }
-    ensures { Shown (next ∷ 1 ∷ fattr3_figures v) info.old info.new }
+    ensures { Shown (next ∷ plain ∷ fattr3_figures v) info.old info.new }
 {
     let ftype = v.ftype;
-    put_figures(&fattr3_figures(v, ftype.number(), next), 0, info);
+    put_figures(&fattr3_figures(v, ftype.number(), next, plain), 0, info);
 }
 
 // By the reader that says why it refuses.
@@ -139,9 +139,9 @@ fn read_fattr3_carefully(src: &[u8], at: usize, info: &mut [u64]) -> u32
 {
     let v = read_fattr3(src, at);
     match v {
-        Fattr3Read::Refused(r) => tell_refused(r, 17, info),
-        Fattr3Read::Took { value, next } => {
-            put_fattr3(value, next, info);
+        Err(r) => tell_refused(r, 17, info),
+        Ok(Took { value, next, plain }) => {
+            put_fattr3(value, next, bit(plain), info);
             0
         }
     }
@@ -155,11 +155,10 @@ pub fn yugerzat_read_fattr3(src: &[u8], at: usize, info: &mut [u64]) -> u32
     if info.len() < 19 {
         return SHORT_LIST;
     }
-    let t = take_fattr3(src, at, info);
-    let Step::Took { next, plain } = t else {
+    let Some(taken) = take_fattr3(src, at, info) else {
         return read_fattr3_carefully(src, at, info);
     };
-    put_two(next as u64, bit(plain), info, 0);
+    put_two(taken.next as u64, bit(taken.plain), info, 0);
     0
 }
 
@@ -325,8 +324,8 @@ pub fn yugerzat_read_rpc_msg(message: &[u8], at: usize, info: &mut [u64]) -> u32
     }
     let v = read_rpc_msg(message, at);
     match v {
-        RpcMsgRead::Refused(r) => tell_refused(r, 12, info),
-        RpcMsgRead::Took { value, next, plain } => {
+        Err(r) => tell_refused(r, 12, info),
+        Ok(Took { value, next, plain }) => {
             put_message(value, next, plain, info);
             0
         }
@@ -373,8 +372,8 @@ pub fn yugerzat_read_auth_unix(message: &[u8], at: usize, count: usize, info: &m
         },
     );
     match v {
-        AuthUnixRead::Refused(r) => tell_refused(r, 7, info),
-        AuthUnixRead::Took { value, next, plain } => {
+        Err(r) => tell_refused(r, 7, info),
+        Ok(Took { value, next, plain }) => {
             put_unix(value, next, plain, info);
             0
         }
@@ -546,8 +545,8 @@ fn read_sattr3_carefully(src: &[u8], at: usize, info: &mut [u64]) -> u32
 {
     let v = read_sattr3(src, at);
     match v {
-        Sattr3Read::Refused(r) => tell_refused(r, 14, info),
-        Sattr3Read::Took { value, next, plain } => {
+        Err(r) => tell_refused(r, 14, info),
+        Ok(Took { value, next, plain }) => {
             put_sattr3(value, next, plain, info);
             0
         }
@@ -562,10 +561,9 @@ pub fn yugerzat_read_sattr3(src: &[u8], at: usize, info: &mut [u64]) -> u32
     if info.len() < 16 {
         return SHORT_LIST;
     }
-    let t = take_sattr3(src, at, info);
-    let Step::Took { next, plain } = t else {
+    let Some(taken) = take_sattr3(src, at, info) else {
         return read_sattr3_carefully(src, at, info);
     };
-    put_two(next as u64, bit(plain), info, 0);
+    put_two(taken.next as u64, bit(taken.plain), info, 0);
     0
 }

@@ -9,16 +9,16 @@ ghost use Rattle.nfs.specs.Meaning.Change.{set_mode_to, set_uid_to, set_gid_to, 
 ghost use Rattle.nfs.specs.Meaning.Set.{atime_to, mtime_to};
 ghost use Rattle.rpc.specs.Meaning.Closed.{flavor_number, flavors};
 ghost use Rattle.door.specs.Meaning.Copy.{Is};
-ghost use Rattle.door.specs.Meaning.Given.{low, are_words, fattr3_words, fattr3_by, fattr3_given, view_given_fattr3, WriteFattr3Called, diropargs3_given, WriteDiropargs3Called, option_fits, time_fits, sattr3_fits, option_of, time_of, sattr3_by, WriteSattr3Called, found_flavor, call_words, call_by, call_given, view_given_call, WriteCallCalled, unix_words, unix_by, unix_given, view_given_unix, WriteUnixCalled};
+ghost use Rattle.xdr.specs.Meaning.Views.{view_found, view_option};
+ghost use Rattle.door.specs.Meaning.Given.{low, are_words, fattr3_words, fattr3_by, fattr3_given, WriteFattr3Called, diropargs3_given, WriteDiropargs3Called, option_fits, time_fits, sattr3_fits, option_of, time_of, sattr3_by, WriteSattr3Called, call_words, call_by, call_given, WriteCallCalled, unix_words, unix_by, unix_given, WriteUnixCalled};
 ghost use Rattle.door.specs.Laws.Parts.{Laid, sattr3_narrow, Tagged, word_bytes, hyper_bytes, time_bytes, owner_of, change_of, sattr_of, SattrQuick, ids_of, sizes_of, times_of, fattr_of, FattrQuick};
 
 use crate::exports::{SHORT_LIST, tell_wrote};
 use nfs::{
-    Fitted, diropargs3, fattr3, fit_diropargs3_from, ftype3, nfs_fh3, nfstime3, sattr3, set_atime,
+    diropargs3, fattr3, fit_diropargs3_from, ftype3, nfs_fh3, nfstime3, sattr3, set_atime,
     set_gid3, set_mode3, set_mtime, set_size3, set_uid3, specdata3, write_diropargs3_from,
     write_fattr3, write_sattr3,
 };
-use nfsattr::attr::FtypeFound;
 use rpc::{auth_flavor, auth_unix, call_body, opaque_auth, write_auth_unix_from, write_call_from};
 use xdr::inner::{
     opaque_size, put_bool, put_u32, put_u32_pair, put_u32_three, put_u32_u64, put_u64_pair,
@@ -30,13 +30,6 @@ pub const WIDE_NUMBER: u32 = 253;
 
 // How many numbers fit a word. A number that was tested is its own rest.
 pub(crate) const WORDS: u64 = 4294967296;
-
-// What a list's numbers are: a fattr3, or not.
-#[derive(Clone, Copy)]
-pub enum GivenFattr3 {
-    Wide,
-    Is(fattr3),
-}
 
 fn fattr3_words(fields: &[u64]) -> bool
     requires { 17 ≤ length fields.now }
@@ -90,18 +83,16 @@ fn fattr3_of(fields: &[u64], ftype: ftype3) -> fattr3
     }
 }
 
-fn given_fattr3(fields: &[u64]) -> GivenFattr3
+// What a list's numbers are: a fattr3, or none.
+fn given_fattr3(fields: &[u64]) -> Option<fattr3>
     requires { 17 ≤ length fields.now }
-    ensures { Is fattr3_given fields.now (view_given_fattr3 result) }
+    ensures { Is fattr3_given fields.now (view_option result) }
 {
     if !fattr3_words(fields) {
-        return GivenFattr3::Wide;
+        return None;
     }
-    let found = ftype3::of((fields[0] % WORDS) as u32);
-    let FtypeFound::Is(ftype) = found else {
-        return GivenFattr3::Wide;
-    };
-    GivenFattr3::Is(fattr3_of(fields, ftype))
+    let ftype = ftype3::of((fields[0] % WORDS) as u32)?;
+    Some(fattr3_of(fields, ftype))
 }
 
 // The figures are a fattr3, and there is room for it: then none is made.
@@ -112,8 +103,7 @@ fn fattr3_quick(fields: &[u64], len: usize, start: usize) -> bool
     if !fattr3_words(fields) {
         return false;
     }
-    let found = ftype3::of((fields[0] % WORDS) as u32);
-    let FtypeFound::Is(_) = found else {
+    let Some(_) = ftype3::of((fields[0] % WORDS) as u32) else {
         return false;
     };
     if len < start {
@@ -194,8 +184,7 @@ fn write_fattr3_carefully(fields: &[u64], out: &mut [u8], start: usize, info: &m
     requires in_bounds_2 { 1 ≤ length info.old }
     ensures { WriteFattr3Called fields.now out.old start info.old result out.new info.new }
 {
-    let given = given_fattr3(fields);
-    let GivenFattr3::Is(v) = given else {
+    let Some(v) = given_fattr3(fields) else {
         return WIDE_NUMBER;
     };
     let w = write_fattr3(v, out, start);
@@ -278,7 +267,7 @@ pub fn yugerzat_write_diropargs3(
     }
     let v = diropargs3_of(fields);
     let fitted = fit_diropargs3_from(dirs, names, v, out, start);
-    let Fitted::To(end) = fitted else {
+    let Some(end) = fitted else {
         return write_diropargs3_carefully(
             &dirs[0..],
             &names[0..],
@@ -534,21 +523,15 @@ pub fn yugerzat_write_sattr3(fields: &[u64], out: &mut [u8], start: usize, info:
     0
 }
 
-#[derive(Clone, Copy)]
-pub enum FlavorFound {
-    None,
-    Is(auth_flavor),
-}
-
-pub(crate) fn flavor_of(v: u64) -> FlavorFound
-    ensures { found_flavor result ≡ among flavor_number flavors v }
+pub(crate) fn flavor_of(v: u64) -> Option<auth_flavor>
+    ensures { view_found result ≡ among flavor_number flavors v }
 {
     match v {
-        0 => FlavorFound::Is(auth_flavor::AUTH_NULL),
-        1 => FlavorFound::Is(auth_flavor::AUTH_UNIX),
-        2 => FlavorFound::Is(auth_flavor::AUTH_SHORT),
-        3 => FlavorFound::Is(auth_flavor::AUTH_DES),
-        _ => FlavorFound::None,
+        0 => Some(auth_flavor::AUTH_NULL),
+        1 => Some(auth_flavor::AUTH_UNIX),
+        2 => Some(auth_flavor::AUTH_SHORT),
+        3 => Some(auth_flavor::AUTH_DES),
+        _ => None,
     }
 }
 
@@ -561,13 +544,6 @@ fn call_words(fields: &[u64]) -> bool
         & (fields[2] < WORDS)
         & (fields[3] < WORDS)
         & (fields[4] < WORDS)
-}
-
-// What a list's numbers are: a call, or not.
-#[derive(Clone, Copy)]
-pub enum GivenCall {
-    Wide,
-    Is { xid: u32, call: call_body },
 }
 
 fn call_of(fields: &[u64], cred: auth_flavor, verf: auth_flavor) -> call_body
@@ -598,25 +574,17 @@ fn call_of(fields: &[u64], cred: auth_flavor, verf: auth_flavor) -> call_body
     }
 }
 
-fn given_call(fields: &[u64]) -> GivenCall
+// What a list's numbers are: a call with its xid, or none.
+fn given_call(fields: &[u64]) -> Option<(u32, call_body)>
     requires { 11 ≤ length fields.now }
-    ensures { Is call_given fields.now (view_given_call result) }
+    ensures { Is call_given fields.now (view_option result) }
 {
     if !call_words(fields) {
-        return GivenCall::Wide;
+        return None;
     }
-    let f1 = flavor_of(fields[5]);
-    let FlavorFound::Is(cred) = f1 else {
-        return GivenCall::Wide;
-    };
-    let f2 = flavor_of(fields[8]);
-    let FlavorFound::Is(verf) = f2 else {
-        return GivenCall::Wide;
-    };
-    GivenCall::Is {
-        xid: (fields[0] % WORDS) as u32,
-        call: call_of(fields, cred, verf),
-    }
+    let cred = flavor_of(fields[5])?;
+    let verf = flavor_of(fields[8])?;
+    Some(((fields[0] % WORDS) as u32, call_of(fields, cred, verf)))
 }
 
 // Whether a call fits, by tests that end at the first no. It promises nothing: whatever it says, the same is written.
@@ -667,8 +635,7 @@ fn write_given_call(
     requires in_bounds_2 { 1 ≤ length info.old }
     ensures { WriteCallCalled creds.now verfs.now fields.now out.old start info.old result out.new info.new }
 {
-    let given = given_call(fields);
-    let GivenCall::Is { xid, call } = given else {
+    let Some((xid, call)) = given_call(fields) else {
         return WIDE_NUMBER;
     };
     let w = write_call_from(creds, verfs, xid, call, out, start);
@@ -729,13 +696,6 @@ fn unix_words(fields: &[u64]) -> bool
     (fields[0] < WORDS) & (fields[3] < WORDS) & (fields[4] < WORDS)
 }
 
-// What a list's numbers are: an auth_unix, or not.
-#[derive(Clone, Copy)]
-pub enum GivenUnix {
-    Wide,
-    Is(auth_unix),
-}
-
 fn unix_of(fields: &[u64]) -> auth_unix
     requires { 7 ≤ length fields.now }
     ensures { result ≡ unix_by low fields.now }
@@ -757,14 +717,15 @@ fn unix_of(fields: &[u64]) -> auth_unix
     }
 }
 
-fn given_unix(fields: &[u64]) -> GivenUnix
+// What a list's numbers are: an auth_unix, or none.
+fn given_unix(fields: &[u64]) -> Option<auth_unix>
     requires { 7 ≤ length fields.now }
-    ensures { Is unix_given fields.now (view_given_unix result) }
+    ensures { Is unix_given fields.now (view_option result) }
 {
     if !unix_words(fields) {
-        return GivenUnix::Wide;
+        return None;
     }
-    GivenUnix::Is(unix_of(fields))
+    Some(unix_of(fields))
 }
 
 // The figures of an auth_unix: stamp, place and count of the name, a piece of names, uid, gid, and place and count of the gids, words of groups.
@@ -784,8 +745,7 @@ pub fn yugerzat_write_auth_unix(
     if info.len() < 1 {
         return SHORT_LIST;
     }
-    let given = given_unix(fields);
-    let GivenUnix::Is(v) = given else {
+    let Some(v) = given_unix(fields) else {
         return WIDE_NUMBER;
     };
     let w = write_auth_unix_from(names, groups, v, out, start);

@@ -1,274 +1,153 @@
 // The questions about one message: `read`, `write` and `choose`.
-use crate::cases::{BOOL, OPAQUE, READ3RES, RPC_MSG, WORDS, WRITE3ARGS};
+use crate::cases::{
+    BOOL, Choosing, OPAQUE, READ3RES, RPC_MSG, Reading, WORDS, WRITE3ARGS, Writing,
+};
+use crate::make::Buffers;
+use crate::print::Page;
 use crate::{make, print};
 use door::Copied;
-use rpcwire::{Caller, Choice};
-use stdio::{Out, Output, say};
-use xdr::{Piece, Wrote};
+use rpc::auth_unix;
+use rpcwire::Choice;
+use xdr::{Piece, Refusal};
 
-fn kind_word(to: &mut Output, out: &mut [u8], at: Out, kind: u32) -> Out {
+fn print_kind(page: &mut Page, kind: u32) {
     match kind {
-        BOOL => say(to, out, at, b" bool"),
-        OPAQUE => say(to, out, at, b" opaque"),
-        WORDS => say(to, out, at, b" words"),
-        RPC_MSG => say(to, out, at, b" rpc_msg"),
-        READ3RES => say(to, out, at, b" read3res"),
-        WRITE3ARGS => say(to, out, at, b" write3args"),
-        _ => say(to, out, at, b" ?"),
+        BOOL => page.say(b" bool"),
+        OPAQUE => page.say(b" opaque"),
+        WORDS => page.say(b" words"),
+        RPC_MSG => page.say(b" rpc_msg"),
+        READ3RES => page.say(b" read3res"),
+        WRITE3ARGS => page.say(b" write3args"),
+        _ => page.say(b" ?"),
     }
 }
 
 // The first bytes of a buffer.
-fn front(buf: &[u8], length: usize) -> &[u8] {
-    xdr::part(
-        buf,
-        Piece {
-            at: 0,
-            count: length,
-            clean: true,
-        },
-    )
+pub(crate) fn front(buf: &[u8], length: usize) -> &[u8] {
+    buf.get(..length).unwrap_or(&[])
 }
 
-fn took(to: &mut Output, out: &mut [u8], at: Out, next: usize, plain: bool, end: usize) -> Out {
-    let n = say(to, out, at, b" took");
-    let n = print::number(to, out, n, next);
-    if plain {
-        let n = say(to, out, n, b" plain");
-        return print::number(to, out, n, end);
-    }
-    let n = say(to, out, n, b" loose");
-    print::number(to, out, n, end)
-}
-
-fn copied(to: &mut Output, out: &mut [u8], at: Out, c: Copied) -> Out {
-    match c {
-        Copied::Unknown => say(to, out, at, b" ?"),
-        Copied::Unread(r) => print::refusal(to, out, at, r),
-        Copied::Unwritten {
-            refusal: r,
-            next: _,
-            plain: _,
-            marks: _,
-        } => print::refusal(to, out, at, r),
+fn print_copied(page: &mut Page, copied: Copied) {
+    match copied {
+        Copied::Unknown => page.say(b" ?"),
+        Copied::Unread(refusal) | Copied::Unwritten { refusal, .. } => {
+            print::refusal(page, refusal);
+        }
         Copied::Done {
             next,
             plain,
             end,
-            marks: _,
-        } => took(to, out, at, next, plain, end),
-    }
-}
-
-// A message whose first word is given; its other bytes go by the rule, or make a call, its arguments or its results.
-fn prepare(kind: u32, first: u32, message: &mut [u8]) {
-    if kind == RPC_MSG {
-        make::call(message, 0);
-        return;
-    }
-    if kind == READ3RES {
-        make::read_results(message);
-        return;
-    }
-    if kind == WRITE3ARGS {
-        make::write_arguments(message);
-        return;
-    }
-    make::rule(message);
-    make::word(message, 0, first);
-}
-
-fn read_words(
-    to: &mut Output,
-    out: &mut [u8],
-    at: Out,
-    kind: u32,
-    first: u32,
-    place: usize,
-    length: usize,
-) -> Out {
-    let n = say(to, out, at, b"read");
-    let n = kind_word(to, out, n, kind);
-    let n = print::three(to, out, n, first as usize, place, length);
-    say(to, out, n, b":")
-}
-
-// Such a message, read and rewritten.
-pub(crate) fn read(
-    kind: u32,
-    first: u32,
-    place: usize,
-    length: usize,
-    message: &mut [u8],
-    room: &mut [u8],
-    to: &mut Output,
-    out: &mut [u8],
-    at: Out,
-) -> Out {
-    let n = read_words(to, out, at, kind, first, place, length);
-    prepare(kind, first, message);
-    make::empty(room);
-    let c = door::copy_kind(kind, front(message, length), place, room, 0);
-    let n = copied(to, out, n, c);
-    print::end(to, out, n, room)
-}
-
-pub(crate) fn wrote(to: &mut Output, out: &mut [u8], at: Out, w: Wrote) -> Out {
-    match w {
-        Wrote::Refused(r) => print::refusal(to, out, at, r),
-        Wrote::Done(next) => {
-            let n = say(to, out, at, b" wrote");
-            print::number(to, out, n, next)
+            ..
+        } => {
+            page.say(b" took");
+            print::number(page, next);
+            page.say(if plain { b" plain" } else { b" loose" });
+            print::number(page, end);
         }
     }
 }
 
-fn write_piece(kind: u32, source: &[u8], x: Piece, buf: &mut [u8], start: usize) -> Wrote {
-    if kind == WORDS {
-        return xdr::write_words(source, x, buf, start);
-    }
-    xdr::write_opaque(source, x, buf, start)
-}
-
-fn write_into(
-    kind: u32,
-    source: &[u8],
-    x: Piece,
-    buf: &mut [u8],
-    start: usize,
-    to: &mut Output,
-    out: &mut [u8],
-    at: Out,
-) -> Out {
-    make::empty(buf);
-    let w = write_piece(kind, source, x, buf, start);
-    let n = wrote(to, out, at, w);
-    print::end(to, out, n, buf)
-}
-
-fn write_words(
-    to: &mut Output,
-    out: &mut [u8],
-    at: Out,
-    kind: u32,
-    length: usize,
-    x: Piece,
-    n: usize,
-    start: usize,
-) -> Out {
-    let m = say(to, out, at, b"write");
-    let m = kind_word(to, out, m, kind);
-    let m = print::three(to, out, m, length, x.at, x.count);
-    let m = print::two(to, out, m, n, start);
-    say(to, out, m, b":")
-}
-
-// A piece of a source, written into a buffer of `n` bytes.
-pub(crate) fn write(
-    kind: u32,
-    length: usize,
-    piece: usize,
-    count: usize,
-    n: usize,
-    start: usize,
-    message: &mut [u8],
-    room: &mut [u8],
-    to: &mut Output,
-    out: &mut [u8],
-    at: Out,
-) -> Out {
-    let x = Piece {
-        at: piece,
-        count,
-        clean: true,
-    };
-    let m = write_words(to, out, at, kind, length, x, n, start);
-    if room.len() < n {
-        return m;
-    }
-    make::rule(message);
-    write_into(
-        kind,
-        front(message, length),
-        x,
-        &mut room[0..n],
-        start,
-        to,
-        out,
-        m,
-    )
-}
-
-fn caller(to: &mut Output, out: &mut [u8], at: Out, c: Caller) -> Out {
-    match c {
-        Caller::Unnamed => say(to, out, at, b" none"),
-        Caller::Unix(a) => {
-            let gids = a.gids;
-            let n = print::number(to, out, at, gids.at);
-            print::number(to, out, n, gids.count)
+impl Reading {
+    // A message whose first word is given; its other bytes go by the rule, or make a call, its arguments or its results.
+    fn prepare(&self, message: &mut [u8]) {
+        match self.kind {
+            RPC_MSG => make::call(message, 0),
+            READ3RES => make::read_results(message),
+            WRITE3ARGS => make::write_arguments(message),
+            _ => {
+                make::rule(message);
+                make::word(message, 0, self.first);
+            }
         }
     }
+
+    pub(crate) fn ask(&self, buffers: &mut Buffers, page: &mut Page) {
+        page.say(b"read");
+        print_kind(page, self.kind);
+        print::numbers(page, &[self.first as usize, self.at, self.length]);
+        page.say(b":");
+        self.prepare(&mut buffers.message);
+        make::empty(&mut buffers.room);
+        let message = front(&buffers.message, self.length);
+        let copied = door::copy_kind(self.kind, message, self.at, &mut buffers.room, 0);
+        print_copied(page, copied);
+        print::end(page, &buffers.room);
+    }
 }
 
-fn call_words(
-    to: &mut Output,
-    out: &mut [u8],
-    at: Out,
-    prog: u32,
-    vers: u32,
-    proc: u32,
-    arguments: usize,
-) -> Out {
-    let n = say(to, out, at, b" handover");
-    let n = print::three(to, out, n, prog as usize, vers as usize, proc as usize);
-    print::number(to, out, n, arguments)
+impl Writing {
+    fn write(&self, source: &[u8], x: Piece, buf: &mut [u8]) -> Result<usize, Refusal> {
+        if self.kind == WORDS {
+            return xdr::write_words(source, x, buf, self.start);
+        }
+        xdr::write_opaque(source, x, buf, self.start)
+    }
+
+    pub(crate) fn ask(&self, buffers: &mut Buffers, page: &mut Page) {
+        page.say(b"write");
+        print_kind(page, self.kind);
+        print::numbers(
+            page,
+            &[self.length, self.piece, self.count, self.room, self.start],
+        );
+        page.say(b":");
+        let Some(buf) = buffers.room.get_mut(..self.room) else {
+            return;
+        };
+        make::rule(&mut buffers.message);
+        make::empty(buf);
+        let x = Piece {
+            at: self.piece,
+            count: self.count,
+            clean: true,
+        };
+        let written = self.write(front(&buffers.message, self.length), x, buf);
+        print::written(page, written);
+        print::end(page, buf);
+    }
 }
 
-fn chosen(to: &mut Output, out: &mut [u8], at: Out, c: Choice) -> Out {
-    match c {
-        Choice::Refused(r) => print::refusal(to, out, at, r),
-        Choice::Replied(_) => say(to, out, at, b" reply"),
-        Choice::Silent => say(to, out, at, b" silence"),
+fn print_caller(page: &mut Page, caller: Option<auth_unix>) {
+    match caller {
+        None => page.say(b" none"),
+        Some(a) => print::numbers(page, &[a.gids.at, a.gids.count]),
+    }
+}
+
+fn print_choice(page: &mut Page, choice: Choice) {
+    match choice {
+        Choice::Refused(refusal) => print::refusal(page, refusal),
+        Choice::Replied(_) => page.say(b" reply"),
+        Choice::Silent => page.say(b" silence"),
         Choice::HandOver {
             prog,
             vers,
             proc,
-            caller: who,
+            caller,
             arguments,
         } => {
-            let n = call_words(to, out, at, prog, vers, proc, arguments);
-            caller(to, out, n, who)
+            page.say(b" handover");
+            print::numbers(
+                page,
+                &[prog as usize, vers as usize, proc as usize, arguments],
+            );
+            print_caller(page, caller);
         }
     }
 }
 
-fn choose_into(message: &[u8], buf: &mut [u8], to: &mut Output, out: &mut [u8], at: Out) -> Out {
-    make::empty(buf);
-    let c = rpcwire::choose(message, false, buf);
-    let n = chosen(to, out, at, c);
-    print::end(to, out, n, buf)
-}
-
-fn choose_words(to: &mut Output, out: &mut [u8], at: Out, flavor: u32, length: usize) -> Out {
-    let n = say(to, out, at, b"choose");
-    let n = print::two(to, out, n, flavor as usize, length);
-    say(to, out, n, b":")
-}
-
-// A call with a credential of a flavor, for its program.
-pub(crate) fn choose(
-    flavor: u32,
-    length: usize,
-    message: &mut [u8],
-    room: &mut [u8],
-    to: &mut Output,
-    out: &mut [u8],
-    at: Out,
-) -> Out {
-    let n = choose_words(to, out, at, flavor, length);
-    if room.len() < 24 {
-        return n;
+impl Choosing {
+    pub(crate) fn ask(&self, buffers: &mut Buffers, page: &mut Page) {
+        page.say(b"choose");
+        print::numbers(page, &[self.flavor as usize, self.length]);
+        page.say(b":");
+        let Some(buf) = buffers.room.get_mut(..24) else {
+            return;
+        };
+        make::call(&mut buffers.message, self.flavor);
+        make::empty(buf);
+        let choice = rpcwire::choose(front(&buffers.message, self.length), false, buf);
+        print_choice(page, choice);
+        print::end(page, buf);
     }
-    make::call(message, flavor);
-    choose_into(front(message, length), &mut room[0..24], to, out, n)
 }

@@ -10,69 +10,37 @@ mod make;
 mod print;
 mod records;
 
-use cases::Case;
-use stdio::{Out, Output, Stream};
+use make::Buffers;
+use print::Page;
+use stdio::Stream;
 
-fn ask(
-    c: Case,
-    message: &mut [u8],
-    room: &mut [u8],
-    to: &mut Output,
-    out: &mut [u8],
-    at: Out,
-) -> Out {
-    match c {
-        Case::Read {
-            kind,
-            first,
-            at: place,
-            length,
-        } => items::read(kind, first, place, length, message, room, to, out, at),
-        Case::Write {
-            kind,
-            length,
-            piece,
-            count,
-            room: n,
-            start,
-        } => items::write(
-            kind, length, piece, count, n, start, message, room, to, out, at,
-        ),
-        Case::Choose { flavor, length } => items::choose(
-            flavor, length, message, room, to, out, at,
-        ),
-        Case::Fresh { capacity } => records::fresh(capacity, to, out, at),
-        Case::Feed {
-            capacity,
-            first,
-            second,
-            a,
-            b,
-            c,
-        } => records::feed(capacity, first, second, a, b, c, message, room, to, out, at),
-        Case::State { capacity } => records::state(capacity, message, room, to, out, at),
-        Case::Fragment {
-            length,
-            room: n,
-            start,
-        } => records::fragment(length, n, start, message, room, to, out, at),
+fn ask_all(buffers: &mut Buffers, page: &mut Page) {
+    for reading in &cases::readings() {
+        reading.ask(buffers, page);
     }
-}
-
-fn ask_all(message: &mut [u8], room: &mut [u8], to: &mut Output, out: &mut [u8]) {
-    let mut at = Out::new();
-    let mut i = 0;
-    while i < cases::COUNT {
-        at = ask(cases::question(i), message, room, to, out, at);
-        i += 1;
+    for writing in &cases::writings() {
+        writing.ask(buffers, page);
     }
-    stdio::flush(to, out, at);
+    for choosing in &cases::choosings() {
+        choosing.ask(buffers, page);
+    }
+    records::fresh(1048576, page);
+    records::fresh(1048577, page);
+    for feeding in &cases::feedings() {
+        feeding.ask(buffers, page);
+    }
+    records::state(1048577, buffers, page);
+    for fragmenting in &cases::fragmentings() {
+        fragmenting.ask(buffers, page);
+    }
+    page.flush();
 }
 
 fn main(rt: HostRuntime) {
-    let mut message = make::largest();
-    let mut room = make::largest();
-    let mut to = Stream::new(rt.stdout(), rt.stderr());
-    let mut out = [0u8; 4096];
-    ask_all(&mut message, &mut room, &mut to, &mut out);
+    let mut page = Page::new(Stream::new(rt.stdout(), rt.stderr()));
+    let mut buffers = Buffers {
+        message: make::largest(),
+        room: make::largest(),
+    };
+    ask_all(&mut buffers, &mut page);
 }

@@ -9,89 +9,67 @@ pub(crate) fn largest() -> [u8; 1048584]
     [0xEE; 1048584]
 }
 
+#[derive(Drop)]
+pub(crate) struct Buffers {
+    pub message: [u8; 1048584],
+    pub room: [u8; 1048584],
+}
+
 // A buffer before anything is written into it.
 pub(crate) fn empty(buf: &mut [u8]) {
-    let mut i = 0;
-    while i < buf.len() {
-        buf[i] = 0xEE;
-        i += 1;
-    }
+    buf.fill(0xEE);
 }
 
 // Bytes by their place.
 pub(crate) fn rule(buf: &mut [u8]) {
-    let mut i = 0;
-    while i < buf.len() {
-        buf[i] = (i % 251) as u8;
-        i += 1;
+    for (i, byte) in buf.iter_mut().enumerate() {
+        *byte = (i % 251) as u8;
     }
 }
 
+// A word, if the buffer has room for it.
 pub(crate) fn word(buf: &mut [u8], at: usize, v: u32) {
-    xdr::write_u32(v, buf, at);
+    let _ = xdr::write_u32(v, buf, at);
 }
 
-fn call_words(buf: &mut [u8], flavor: u32) {
-    word(buf, 0, 42);
-    word(buf, 4, 0);
-    word(buf, 8, 2);
-    word(buf, 12, 100003);
-    word(buf, 16, 3);
-    word(buf, 20, 0);
-    word(buf, 24, flavor);
+// Words from a place on.
+fn words(buf: &mut [u8], start: usize, all: &[u32]) {
+    let mut at = start;
+    for &v in all {
+        word(buf, at, v);
+        at = at.saturating_add(4);
+    }
 }
 
-// An auth_unix without a name, in which all is groups.
-fn groups(buf: &mut [u8]) {
-    word(buf, 32, 7);
-    word(buf, 36, 0);
-    word(buf, 40, 1);
-    word(buf, 44, 2);
-    word(buf, 48, 262129);
-}
-
-// A call of NFS's null procedure of 1,048,576 bytes, all but forty of which are its credential's body.
+// A call of NFS's null procedure of 1,048,576 bytes, all but forty of which are its credential's body: an auth_unix without a name, in which
+// all is groups.
 pub(crate) fn call(buf: &mut [u8], flavor: u32) {
     rule(buf);
-    call_words(buf, flavor);
-    word(buf, 28, 1048536);
-    word(buf, 1048568, 0);
-    word(buf, 1048572, 0);
-    if flavor != 1 {
-        return;
+    words(buf, 0, &[42, 0, 2, 100003, 3, 0, flavor, 1048536]);
+    words(buf, 1048568, &[0, 0]);
+    if flavor == 1 {
+        words(buf, 32, &[7, 0, 1, 2, 262129]);
     }
-    groups(buf);
 }
 
 // READ's results of 1,048,576 bytes: success, no attributes, a count, the end of the file, and data.
 pub(crate) fn read_results(buf: &mut [u8]) {
     rule(buf);
-    word(buf, 0, 0);
-    word(buf, 4, 0);
-    word(buf, 12, 1);
-    word(buf, 16, 1048556);
+    words(buf, 0, &[0, 0]);
+    words(buf, 12, &[1, 1048556]);
 }
 
 // WRITE's arguments of 1,048,576 bytes: a handle of four, an offset, a count, FILE_SYNC, and data.
 pub(crate) fn write_arguments(buf: &mut [u8]) {
     rule(buf);
     word(buf, 0, 4);
-    word(buf, 20, 2);
-    word(buf, 24, 1048548);
-}
-
-fn wide(b: u8) -> u64
-    ensures { result < 256 }
-{
-    b as u64
+    words(buf, 20, &[2, 1048548]);
 }
 
 pub(crate) fn digest(bytes: &[u8]) -> u64 {
-    let mut sum = 0u64;
-    let mut i = 0;
-    while i < bytes.len() {
-        sum = (sum * 31 + wide(bytes[i])) % 4294967291;
-        i += 1;
+    let mut sum = 0;
+    for &b in bytes {
+        sum = (sum * 31 + u64::from(b)) % 4294967291;
     }
     sum
 }

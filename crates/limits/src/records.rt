@@ -1,23 +1,22 @@
 // The questions about records of a stream: `fresh`, `feed`, `state` and `fragment`.
-use crate::{items, make, print};
-use rpcwire::{Assembler, AssemblerMade, Fed};
-use stdio::{Out, Output, say};
+use crate::cases::{Feeding, Fragmenting};
+use crate::items::front;
+use crate::make::Buffers;
+use crate::print::Page;
+use crate::{make, print};
+use rpcwire::{Assembler, Fed};
 use xdr::Piece;
 
-fn made(to: &mut Output, out: &mut [u8], at: Out, m: AssemblerMade) -> Out {
-    match m {
-        AssemblerMade::Refused(r) => print::refusal(to, out, at, r),
-        AssemblerMade::Ready(_) => say(to, out, at, b" ready"),
-    }
-}
-
 // A state of some capacity.
-pub(crate) fn fresh(capacity: usize, to: &mut Output, out: &mut [u8], at: Out) -> Out {
-    let n = say(to, out, at, b"fresh");
-    let n = print::number(to, out, n, capacity);
-    let n = say(to, out, n, b":");
-    let n = made(to, out, n, rpcwire::fresh_assembler(capacity));
-    say(to, out, n, b"\n")
+pub(crate) fn fresh(capacity: usize, page: &mut Page) {
+    page.say(b"fresh");
+    print::number(page, capacity);
+    page.say(b":");
+    match rpcwire::fresh_assembler(capacity) {
+        Ok(_) => page.say(b" ready"),
+        Err(refusal) => print::refusal(page, refusal),
+    }
+    page.say(b"\n");
 }
 
 fn of_capacity(capacity: usize) -> Assembler {
@@ -32,126 +31,33 @@ fn of_capacity(capacity: usize) -> Assembler {
     }
 }
 
-// The state that a feed leaves, and where the output stands.
-#[derive(Drop)]
-struct Feeding {
-    state: Assembler,
-    at: Out,
-}
-
-// What a feed answers.
-fn fed(to: &mut Output, out: &mut [u8], at: Out, f: Fed) -> Feeding {
-    match f {
+// Feeds a run, says what that gives, and answers the state that it leaves.
+fn feed(given: Assembler, run: &[u8], buf: &mut [u8], page: &mut Page) -> Assembler {
+    match rpcwire::feed(given, run, buf) {
         Fed::Refused {
             refusal,
             state,
             used,
         } => {
-            let n = say(to, out, at, b" refused");
-            let n = print::number(to, out, n, refusal.number() as usize);
-            Feeding {
-                state,
-                at: print::number(to, out, n, used),
-            }
+            page.say(b" refused");
+            print::numbers(page, &[refusal.number() as usize, used]);
+            state
         }
         Fed::More { state, used } => {
-            let n = say(to, out, at, b" more");
-            Feeding {
-                state,
-                at: print::number(to, out, n, used),
-            }
+            page.say(b" more");
+            print::number(page, used);
+            state
         }
         Fed::Complete {
             length,
             state,
             used,
         } => {
-            let n = say(to, out, at, b" complete");
-            let n = print::number(to, out, n, length);
-            Feeding {
-                state,
-                at: print::number(to, out, n, used),
-            }
+            page.say(b" complete");
+            print::numbers(page, &[length, used]);
+            state
         }
     }
-}
-
-// Feeds a run of the stream, if it is not empty.
-fn run(
-    f: Feeding,
-    stream: &[u8],
-    from: usize,
-    length: usize,
-    buf: &mut [u8],
-    to: &mut Output,
-    out: &mut [u8],
-) -> Feeding {
-    if length == 0 {
-        return f;
-    }
-    let s = f.state;
-    let w = f.at;
-    let x = Piece {
-        at: from,
-        count: length,
-        clean: true,
-    };
-    let r = rpcwire::feed(s, xdr::part(stream, x), buf);
-    fed(to, out, w, r)
-}
-
-fn last_run(
-    f: Feeding,
-    stream: &[u8],
-    from: usize,
-    length: usize,
-    buf: &mut [u8],
-    to: &mut Output,
-    out: &mut [u8],
-) -> Out {
-    let g = run(f, stream, from, length, buf, to, out);
-    let w = g.at;
-    print::end(to, out, w, buf)
-}
-
-// The runs of a stream of which the first, of `a` bytes, is fed.
-fn more_runs(
-    f: Feeding,
-    stream: &[u8],
-    a: usize,
-    b: usize,
-    c: usize,
-    buf: &mut [u8],
-    to: &mut Output,
-    out: &mut [u8],
-) -> Out {
-    if stream.len() < a {
-        return f.at;
-    }
-    if stream.len() - a < b {
-        return f.at;
-    }
-    let g = run(f, stream, a, b, buf, to, out);
-    last_run(g, stream, a + b, c, buf, to, out)
-}
-
-fn runs(
-    stream: &[u8],
-    a: usize,
-    b: usize,
-    c: usize,
-    buf: &mut [u8],
-    to: &mut Output,
-    out: &mut [u8],
-    at: Out,
-) -> Out {
-    make::empty(buf);
-    let f = Feeding {
-        state: of_capacity(buf.len()),
-        at,
-    };
-    let g = run(f, stream, 0, a, buf, to, out);
-    more_runs(g, stream, a, b, c, buf, to, out)
 }
 
 // The header of a last fragment.
@@ -159,145 +65,78 @@ fn last(length: u32) -> u32 {
     length % 2147483648 + 2147483648
 }
 
-// The headers of a fragment and a last one of these lengths; or, where the second is 0, of a last one only.
-fn headers(stream: &mut [u8], first: u32, second: u32) {
-    make::rule(stream);
-    if second == 0 {
-        make::word(stream, 0, last(first));
-        return;
+impl Feeding {
+    // The headers of the fragments.
+    fn prepare(&self, stream: &mut [u8]) {
+        make::rule(stream);
+        if self.second == 0 {
+            make::word(stream, 0, last(self.first));
+        } else {
+            make::word(stream, 0, self.first);
+            make::word(stream, 4 + self.first as usize, last(self.second));
+        }
     }
-    make::word(stream, 0, first);
-    make::word(stream, 4 + first as usize, last(second));
-}
 
-fn length_word(to: &mut Output, out: &mut [u8], at: Out, n: usize) -> Out {
-    if n == 0 {
-        return at;
+    pub(crate) fn ask(&self, buffers: &mut Buffers, page: &mut Page) {
+        page.say(b"feed");
+        print::numbers(
+            page,
+            &[self.capacity, self.first as usize, self.second as usize],
+        );
+        for &length in &self.runs {
+            if length > 0 {
+                print::number(page, length);
+            }
+        }
+        page.say(b":");
+        let Some(buf) = buffers.room.get_mut(..self.capacity) else {
+            return;
+        };
+        self.prepare(&mut buffers.message);
+        make::empty(buf);
+        let mut state = of_capacity(self.capacity);
+        let mut at: usize = 0;
+        for &count in &self.runs {
+            if count > 0 {
+                let run = Piece {
+                    at,
+                    count,
+                    clean: true,
+                };
+                state = feed(state, xdr::part(&buffers.message, run), buf, page);
+            }
+            at = at.saturating_add(count);
+        }
+        print::end(page, buf);
     }
-    print::number(to, out, at, n)
-}
-
-fn feed_words(
-    to: &mut Output,
-    out: &mut [u8],
-    at: Out,
-    capacity: usize,
-    first: u32,
-    second: u32,
-    a: usize,
-    b: usize,
-    c: usize,
-) -> Out {
-    let n = say(to, out, at, b"feed");
-    let n = print::three(to, out, n, capacity, first as usize, second as usize);
-    let n = length_word(to, out, n, a);
-    let n = length_word(to, out, n, b);
-    let n = length_word(to, out, n, c);
-    say(to, out, n, b":")
-}
-
-// A stream in three runs, of which the last two may be empty, fed into a buffer of that capacity.
-pub(crate) fn feed(
-    capacity: usize,
-    first: u32,
-    second: u32,
-    a: usize,
-    b: usize,
-    c: usize,
-    stream: &mut [u8],
-    room: &mut [u8],
-    to: &mut Output,
-    out: &mut [u8],
-    at: Out,
-) -> Out {
-    let n = feed_words(to, out, at, capacity, first, second, a, b, c);
-    if room.len() < capacity {
-        return n;
-    }
-    headers(stream, first, second);
-    runs(stream, a, b, c, &mut room[0..capacity], to, out, n)
-}
-
-fn state_words(to: &mut Output, out: &mut [u8], at: Out, capacity: usize) -> Out {
-    let n = say(to, out, at, b"state");
-    let n = print::number(to, out, n, capacity);
-    say(to, out, n, b":")
-}
-
-fn state_into(stream: &[u8], buf: &mut [u8], to: &mut Output, out: &mut [u8], at: Out) -> Out {
-    let f = Feeding {
-        state: of_capacity(buf.len()),
-        at,
-    };
-    let g = run(f, stream, 0, 4, buf, to, out);
-    let w = g.at;
-    say(to, out, w, b"\n")
 }
 
 // A state of some capacity, with a buffer of as many bytes.
-pub(crate) fn state(
-    capacity: usize,
-    stream: &mut [u8],
-    room: &mut [u8],
-    to: &mut Output,
-    out: &mut [u8],
-    at: Out,
-) -> Out {
-    let n = state_words(to, out, at, capacity);
-    if room.len() < capacity {
-        return n;
-    }
-    make::rule(stream);
-    state_into(stream, &mut room[0..capacity], to, out, n)
-}
-
-fn fragment_into(
-    message: &[u8],
-    buf: &mut [u8],
-    start: usize,
-    to: &mut Output,
-    out: &mut [u8],
-    at: Out,
-) -> Out {
-    make::empty(buf);
-    let w = rpcwire::write_fragment(message, buf, start);
-    let n = items::wrote(to, out, at, w);
-    print::end(to, out, n, buf)
-}
-
-fn fragment_words(
-    to: &mut Output,
-    out: &mut [u8],
-    at: Out,
-    length: usize,
-    n: usize,
-    start: usize,
-) -> Out {
-    let m = say(to, out, at, b"fragment");
-    let m = print::three(to, out, m, length, n, start);
-    say(to, out, m, b":")
-}
-
-// A message written as one fragment into a buffer of `n` bytes.
-pub(crate) fn fragment(
-    length: usize,
-    n: usize,
-    start: usize,
-    message: &mut [u8],
-    room: &mut [u8],
-    to: &mut Output,
-    out: &mut [u8],
-    at: Out,
-) -> Out {
-    let m = fragment_words(to, out, at, length, n, start);
-    if room.len() < n {
-        return m;
-    }
-    make::rule(message);
-    let x = Piece {
-        at: 0,
-        count: length,
-        clean: true,
+pub(crate) fn state(capacity: usize, buffers: &mut Buffers, page: &mut Page) {
+    page.say(b"state");
+    print::number(page, capacity);
+    page.say(b":");
+    let Some(buf) = buffers.room.get_mut(..capacity) else {
+        return;
     };
-    fragment_into(xdr::part(message, x), &mut room[0..n], start, to, out, m)
+    make::rule(&mut buffers.message);
+    feed(of_capacity(capacity), front(&buffers.message, 4), buf, page);
+    page.say(b"\n");
+}
+
+impl Fragmenting {
+    pub(crate) fn ask(&self, buffers: &mut Buffers, page: &mut Page) {
+        page.say(b"fragment");
+        print::numbers(page, &[self.length, self.room, self.start]);
+        page.say(b":");
+        let Some(buf) = buffers.room.get_mut(..self.room) else {
+            return;
+        };
+        make::rule(&mut buffers.message);
+        make::empty(buf);
+        let message = front(&buffers.message, self.length);
+        let written = rpcwire::write_fragment(message, buf, self.start);
+        print::written(page, written);
+        print::end(page, buf);
+    }
 }

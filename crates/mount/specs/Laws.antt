@@ -1,5 +1,6 @@
 -- What follows: how each is read, how many bytes it has, and what is laid of it.
 pub mod Path
+pub mod Next
 pub mod Group
 pub mod Export
 pub mod Steps

@@ -1,5 +1,6 @@
 -- What things mean, to be held against appendix I of RFC 1813 and appendix A of RFC 1057. A kind has its type's name, without the 3.
 pub mod Path
+pub mod Options
 pub mod Group
 pub mod Export
 pub mod Ask

@@ -1,6 +1,6 @@
 -- Calls to mount and port mapper, worked: their bytes, and what they call for. And export lists, as they are read and written.
 -- Assumes nothing.
-use Rattle.std.specs.Prelude.{◌≡◌, refl, true, false, List, [], ◌∷◌, ℕ, take}
+use Rattle.std.specs.Prelude.{◌≡◌, refl, true, false, List, [], ◌∷◌, ℕ, take, Some, None}
 use Rattle.std.proofs.Math.Option.{none}
 use Rattle.xdr.specs.Meaning.Answer.{took, refused, opened}
 use Rattle.xdr.specs.Meaning.Items.{number, word, flag, opaque}
@@ -16,7 +16,6 @@ use Rattle.xdr.specs.declared.refusal.Refusal.TheVariants.{Ended}
 use Rattle.mount.specs.Meaning.Path.{dirpath}
 use Rattle.mount.specs.Meaning.Group.{groups}
 use Rattle.mount.specs.Meaning.Export.{node, nodes, exports, next_node, next-export}
-use Rattle.mount.specs.declared.export.NextExport.TheVariants as nextExportIs
 use Rattle.mount.specs.Meaning.Portmap.{port_mapping}
 use Rattle.mount.specs.Meaning.Ask.{refuse, reply, mnt, in_version, mount_procedure, portmap_procedure, handed_on, xid_of, due}
 
@@ -52,8 +51,8 @@ pub listed : (exports.held.read odd 0 ≡ took (record { at = 0; count = 1; clea
     × (output exports odd (record { at = 0; count = 1; clean = false }) ≡ published)
     × (exports.held.read published 0 ≡ took (record { at = 0; count = 1; clean = true }) 32 true)
     × (exports.held.read (take 28 odd) 0 ≡ refused (Ended 28 4))
-    × (next-export.held.read odd 0 ≡ took (nextExportIs.Export (record { ex_dir = record { at = 8; count = 2; clean = true }; ex_groups = record { at = 12; count = 1; clean = false } })) 28 false)
-    × (next-export.held.read odd 28 ≡ took nextExportIs.End 32 true)
+    × (next-export.held.read odd 0 ≡ took (Some (record { ex_dir = record { at = 8; count = 2; clean = true }; ex_groups = record { at = 12; count = 1; clean = false } })) 28 false)
+    × (next-export.held.read odd 28 ≡ took None 32 true)
     × (exports.held.inside odd (record { at = 0; count = 2; clean = true }) ≡ false)
 unfolding number word flag opaque piece_held groups node nodes exports next_node next-export
 listed = (refl, refl, refl, refl, refl, refl, refl)

@@ -1,19 +1,19 @@
 // Calls to the programs mount, version 3 (RFC 1813, appendix I), and port mapper, version 2 (RFC 1057, appendix A): those that need no
 // server are answered here, and the others are read and handed on.
 ghost use Rattle.std.specs.Prelude.{◌≡◌};
-ghost use Rattle.rpcwire.specs.Meaning.Views.{view_caller};
+ghost use Rattle.xdr.specs.Meaning.Views.{view_option};
 ghost use Rattle.mount.specs.Meaning.Ask.{mnt, umnt, getport, taking, path_at, mapping_at, mount_procedure, portmap_procedure, in_version, mount_serves, portmap_serves, handed_on, xid_of, outcome, replying, carried_out, Asks};
 ghost use Rattle.mount.specs.Meaning.Views.{view_asked};
 ghost use Rattle.mount.specs.Laws.Ask.{Sendable};
 
 use crate::path::read_dirpath;
-use crate::portmap::{MappingRead, mapping, read_mapping};
+use crate::portmap::{mapping, read_mapping};
 use rpc::{
-    make_success_reply, proc_unavail_reply_message, prog_mismatch_reply_message, rpc_msg,
-    write_rpc_msg,
+    auth_unix, make_success_reply, proc_unavail_reply_message, prog_mismatch_reply_message,
+    rpc_msg, write_rpc_msg,
 };
-use rpcwire::{Caller, Choice, choose};
-use xdr::{Piece, PieceRead, Refusal, U32Read, Wrote, read_u32};
+use rpcwire::{Choice, choose};
+use xdr::{Piece, Refusal, read_u32};
 
 const MOUNT_PROGRAM: u32 = 100005;
 
@@ -35,6 +35,7 @@ const PMAPPROC_NULL: u32 = 0;
 
 const PMAPPROC_GETPORT: u32 = 3;
 
+// What becomes of a message. All but one of these outcomes are no refusal, and each is carried out in its own way.
 #[derive(Clone, Copy)]
 pub enum Asked {
     Refused(Refusal),
@@ -47,26 +48,26 @@ pub enum Asked {
         prog: u32,
         vers: u32,
         proc: u32,
-        caller: Caller,
+        caller: Option<auth_unix>,
         arguments: usize,
     },
     // A procedure is to answer. `next` is the place behind its arguments.
     Mnt {
-        caller: Caller,
+        caller: Option<auth_unix>,
         path: Piece,
         next: usize,
     },
     Umnt {
-        caller: Caller,
+        caller: Option<auth_unix>,
         path: Piece,
         next: usize,
     },
     Export {
-        caller: Caller,
+        caller: Option<auth_unix>,
         next: usize,
     },
     Getport {
-        caller: Caller,
+        caller: Option<auth_unix>,
         value: mapping,
         next: usize,
     },
@@ -78,46 +79,46 @@ fn reply(message: &[u8], m: rpc_msg, out: &mut [u8]) -> Asked
     ensures { outcome (view_asked result) out.new ≡ replying m out.old }
 {
     match write_rpc_msg(&message[..0], m, out, 0) {
-        Wrote::Refused(r) => Asked::Refused(r),
-        Wrote::Done(n) => Asked::Replied(n),
+        Err(short) => Asked::Refused(short),
+        Ok(n) => Asked::Replied(n),
     }
 }
 
-fn read_mnt(message: &[u8], caller: Caller, arguments: usize) -> Asked
-    ensures { view_asked result ≡ taking (mnt (view_caller caller)) (path_at message.now arguments) }
+fn read_mnt(message: &[u8], caller: Option<auth_unix>, arguments: usize) -> Asked
+    ensures { view_asked result ≡ taking (mnt (view_option caller)) (path_at message.now arguments) }
 {
     match read_dirpath(message, arguments) {
-        PieceRead::Refused(r) => Asked::Refused(r),
-        PieceRead::Took {
-            value: path,
-            next,
-            plain: _,
-        } => Asked::Mnt { caller, path, next },
+        Err(r) => Asked::Refused(r),
+        Ok(path) => Asked::Mnt {
+            caller,
+            path: path.value,
+            next: path.next,
+        },
     }
 }
 
-fn read_umnt(message: &[u8], caller: Caller, arguments: usize) -> Asked
-    ensures { view_asked result ≡ taking (umnt (view_caller caller)) (path_at message.now arguments) }
+fn read_umnt(message: &[u8], caller: Option<auth_unix>, arguments: usize) -> Asked
+    ensures { view_asked result ≡ taking (umnt (view_option caller)) (path_at message.now arguments) }
 {
     match read_dirpath(message, arguments) {
-        PieceRead::Refused(r) => Asked::Refused(r),
-        PieceRead::Took {
-            value: path,
-            next,
-            plain: _,
-        } => Asked::Umnt { caller, path, next },
+        Err(r) => Asked::Refused(r),
+        Ok(path) => Asked::Umnt {
+            caller,
+            path: path.value,
+            next: path.next,
+        },
     }
 }
 
-fn read_getport(message: &[u8], caller: Caller, arguments: usize) -> Asked
-    ensures { view_asked result ≡ taking (getport (view_caller caller)) (mapping_at message.now arguments) }
+fn read_getport(message: &[u8], caller: Option<auth_unix>, arguments: usize) -> Asked
+    ensures { view_asked result ≡ taking (getport (view_option caller)) (mapping_at message.now arguments) }
 {
     match read_mapping(message, arguments) {
-        MappingRead::Refused(r) => Asked::Refused(r),
-        MappingRead::Took { value, next } => Asked::Getport {
+        Err(r) => Asked::Refused(r),
+        Ok(mapping) => Asked::Getport {
             caller,
-            value,
-            next,
+            value: mapping.value,
+            next: mapping.next,
         },
     }
 }
@@ -126,11 +127,11 @@ fn by_mount_procedure(
     message: &[u8],
     xid: u32,
     proc: u32,
-    caller: Caller,
+    caller: Option<auth_unix>,
     arguments: usize,
     out: &mut [u8],
 ) -> Asked
-    ensures { outcome (view_asked result) out.new ≡ carried_out (mount_procedure message.now xid (view_caller caller) arguments proc) out.old }
+    ensures { outcome (view_asked result) out.new ≡ carried_out (mount_procedure message.now xid (view_option caller) arguments proc) out.old }
 {
     match proc {
         MOUNTPROC3_NULL => reply(message, make_success_reply(xid), out),
@@ -148,11 +149,11 @@ fn by_portmap_procedure(
     message: &[u8],
     xid: u32,
     proc: u32,
-    caller: Caller,
+    caller: Option<auth_unix>,
     arguments: usize,
     out: &mut [u8],
 ) -> Asked
-    ensures { outcome (view_asked result) out.new ≡ carried_out (portmap_procedure message.now xid (view_caller caller) arguments proc) out.old }
+    ensures { outcome (view_asked result) out.new ≡ carried_out (portmap_procedure message.now xid (view_option caller) arguments proc) out.old }
 {
     match proc {
         PMAPPROC_NULL => reply(message, make_success_reply(xid), out),
@@ -167,11 +168,11 @@ fn by_mount_version(
     xid: u32,
     vers: u32,
     proc: u32,
-    caller: Caller,
+    caller: Option<auth_unix>,
     arguments: usize,
     out: &mut [u8],
 ) -> Asked
-    ensures { outcome (view_asked result) out.new ≡ carried_out (in_version xid mount_serves vers (mount_procedure message.now xid (view_caller caller) arguments proc)) out.old }
+    ensures { outcome (view_asked result) out.new ≡ carried_out (in_version xid mount_serves vers (mount_procedure message.now xid (view_option caller) arguments proc)) out.old }
 {
     if vers != MOUNT_V3 {
         return reply(message, prog_mismatch_reply_message(xid, MOUNT_V3), out);
@@ -184,11 +185,11 @@ fn by_portmap_version(
     xid: u32,
     vers: u32,
     proc: u32,
-    caller: Caller,
+    caller: Option<auth_unix>,
     arguments: usize,
     out: &mut [u8],
 ) -> Asked
-    ensures { outcome (view_asked result) out.new ≡ carried_out (in_version xid portmap_serves vers (portmap_procedure message.now xid (view_caller caller) arguments proc)) out.old }
+    ensures { outcome (view_asked result) out.new ≡ carried_out (in_version xid portmap_serves vers (portmap_procedure message.now xid (view_option caller) arguments proc)) out.old }
 {
     if vers != PMAP_VERS {
         return reply(message, prog_mismatch_reply_message(xid, PMAP_VERS), out);
@@ -204,11 +205,11 @@ pub fn answer(
     prog: u32,
     vers: u32,
     proc: u32,
-    caller: Caller,
+    caller: Option<auth_unix>,
     arguments: usize,
     out: &mut [u8],
 ) -> Asked
-    ensures { outcome (view_asked result) out.new ≡ carried_out (handed_on message.now xid (view_caller caller) arguments prog vers proc) out.old }
+    ensures { outcome (view_asked result) out.new ≡ carried_out (handed_on message.now xid (view_option caller) arguments prog vers proc) out.old }
 {
     match prog {
         MOUNT_PROGRAM => by_mount_version(message, xid, vers, proc, caller, arguments, out),
@@ -228,8 +229,8 @@ fn xid_of(message: &[u8]) -> u32
     ensures { result ≡ xid_of message.now }
 {
     match read_u32(message, 0) {
-        U32Read::Refused(_) => 0,
-        U32Read::Took { value, next: _ } => value,
+        Err(_) => 0,
+        Ok(word) => word.value,
     }
 }
 

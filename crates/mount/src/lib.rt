@@ -18,16 +18,14 @@ pub mod portmap;
 // end of modules
 
 pub use asking::{Asked, answer, ask};
-pub use export::{
-    NextExport, NextExportRead, exportnode, exports, next_export, read_exports, write_exports,
-};
-pub use group::{NextGroup, NextGroupRead, next_group};
+pub use export::{exportnode, exports, next_export, read_exports, write_exports};
+pub use group::next_group;
 pub use path::{MNTPATHLEN, dirpath, read_dirpath, write_dirpath};
-pub use same::{Compared, same_exports};
+pub use same::same_exports;
 // made by tools/generate: names
 pub use mnt::{
-    Mountres3Read, Mountstat3Read, fhandle3, mountfail3, mountres3, mountres3_ok, mountstat3,
-    read_mountres3, read_mountstat3, write_mountres3, write_mountstat3,
+    fhandle3, mountfail3, mountres3, mountres3_ok, mountstat3, read_mountres3, read_mountstat3,
+    write_mountres3, write_mountstat3,
 };
-pub use portmap::{MappingRead, mapping, read_mapping, write_mapping};
+pub use portmap::{mapping, read_mapping, write_mapping};
 // end of names

@@ -7,18 +7,16 @@ ghost use Rattle.xdr.specs.Meaning.Formats.{bytes, word_list};
 ghost use Rattle.xdr.specs.Meaning.Sizes.{OfSize};
 ghost use Rattle.xdr.specs.Meaning.Public.{laid, Answers, Writes, laid_of};
 ghost use Rattle.xdr.specs.Meaning.Marks.{MarksAre};
-ghost use Rattle.xdr.specs.Meaning.Views.{view_wrote, view_marks};
+ghost use Rattle.xdr.specs.Meaning.Views.{view_found, view, view_wrote, view_marks};
 ghost use Rattle.xdr.specs.Laws.Fields.{Lays};
 ghost use Rattle.mount.specs.Laws.Mnt.{mountres_ok_size, mountres_size};
-ghost use Rattle.mount.specs.Meaning.Mnt.{mountfail_number, mountstat, mountstat_number, found_mountstat3, mountstat_all, lost_mountstat3, view_mountstat3, lost_mountres3_ok, view_mountres3_ok, mountres_ok, lost_mountres3, view_mountres3, mountres};
+ghost use Rattle.mount.specs.Meaning.Mnt.{mountfail_number, mountstat, mountstat_number, mountstat_all, mountres_ok, mountres};
 
 use xdr::inner::{
     opaque_at, opaque_size, put_opaque, put_u32, put_words, u32_at, words_at, words_size,
 };
-use xdr::order::{Opening, open_at, place};
-use xdr::{
-    MOST, Marks, Piece, PieceRead, Refusal, U32Read, Wrote, inside, words_inside, write_u32,
-};
+use xdr::order::{open_at, place};
+use xdr::{MOST, Marks, Piece, Refusal, Took, inside, words_inside, write_u32};
 
 // A file handle, of any length.
 pub type fhandle3 = Piece;
@@ -41,12 +39,6 @@ pub enum mountfail3 {
 pub enum mountstat3 {
     MNT3_OK,
     Failed(mountfail3),
-}
-
-#[derive(Clone, Copy)]
-pub enum Mountstat3Found {
-    None,
-    Is(mountstat3),
 }
 
 impl mountfail3 {
@@ -85,54 +77,37 @@ impl mountstat3 {
         }
     }
 
-    pub fn of(v: u32) -> Mountstat3Found
-        ensures { found_mountstat3 result ≡ among mountstat_number mountstat_all v }
+    pub fn of(v: u32) -> Option<mountstat3>
+        ensures { view_found result ≡ among mountstat_number mountstat_all v }
     {
         match v {
-            0 => Mountstat3Found::Is(mountstat3::MNT3_OK),
-            1 => Mountstat3Found::Is(mountstat3::Failed(mountfail3::MNT3ERR_PERM)),
-            2 => Mountstat3Found::Is(mountstat3::Failed(mountfail3::MNT3ERR_NOENT)),
-            5 => Mountstat3Found::Is(mountstat3::Failed(mountfail3::MNT3ERR_IO)),
-            13 => Mountstat3Found::Is(mountstat3::Failed(mountfail3::MNT3ERR_ACCES)),
-            20 => Mountstat3Found::Is(mountstat3::Failed(mountfail3::MNT3ERR_NOTDIR)),
-            22 => Mountstat3Found::Is(mountstat3::Failed(mountfail3::MNT3ERR_INVAL)),
-            63 => Mountstat3Found::Is(mountstat3::Failed(mountfail3::MNT3ERR_NAMETOOLONG)),
-            10004 => Mountstat3Found::Is(mountstat3::Failed(mountfail3::MNT3ERR_NOTSUPP)),
-            10006 => Mountstat3Found::Is(mountstat3::Failed(mountfail3::MNT3ERR_SERVERFAULT)),
-            _ => Mountstat3Found::None,
+            0 => Some(mountstat3::MNT3_OK),
+            1 => Some(mountstat3::Failed(mountfail3::MNT3ERR_PERM)),
+            2 => Some(mountstat3::Failed(mountfail3::MNT3ERR_NOENT)),
+            5 => Some(mountstat3::Failed(mountfail3::MNT3ERR_IO)),
+            13 => Some(mountstat3::Failed(mountfail3::MNT3ERR_ACCES)),
+            20 => Some(mountstat3::Failed(mountfail3::MNT3ERR_NOTDIR)),
+            22 => Some(mountstat3::Failed(mountfail3::MNT3ERR_INVAL)),
+            63 => Some(mountstat3::Failed(mountfail3::MNT3ERR_NAMETOOLONG)),
+            10004 => Some(mountstat3::Failed(mountfail3::MNT3ERR_NOTSUPP)),
+            10006 => Some(mountstat3::Failed(mountfail3::MNT3ERR_SERVERFAULT)),
+            _ => None,
         }
     }
 }
 
-#[derive(Clone, Copy)]
-pub enum Mountstat3Read {
-    Refused(Refusal),
-    Took { value: mountstat3, next: usize },
-}
-
-impl Mountstat3Read {
-    pub fn refusal(self) -> Refusal
-        ensures { result ≡ lost_mountstat3 self }
-    {
-        match self {
-            Mountstat3Read::Refused(r) => r,
-            Mountstat3Read::Took { value: _, next: _ } => Refusal::PastEnd,
-        }
-    }
-}
-
-pub fn mountstat3_at(src: &[u8], at: usize) -> Mountstat3Read
-    ensures { view_mountstat3 result ≡ mountstat.kind.read src.now at }
+pub fn mountstat3_at(src: &[u8], at: usize) -> Result<Took<mountstat3>, Refusal>
+    ensures { view result ≡ mountstat.kind.read src.now at }
 {
-    let r1 = u32_at(src, at);
-    let U32Read::Took { value: v, next: n } = r1 else {
-        return Mountstat3Read::Refused(r1.refusal());
+    let v = u32_at(src, at)?;
+    let Some(x) = mountstat3::of(v.value) else {
+        return Err(Refusal::Undeclared(at));
     };
-    let f = mountstat3::of(v);
-    let Mountstat3Found::Is(x) = f else {
-        return Mountstat3Read::Refused(Refusal::Undeclared(at));
-    };
-    Mountstat3Read::Took { value: x, next: n }
+    Ok(Took {
+        value: x,
+        next: v.next,
+        plain: true,
+    })
 }
 
 pub fn put_mountstat3(v: mountstat3, out: &mut [u8])
@@ -141,16 +116,14 @@ pub fn put_mountstat3(v: mountstat3, out: &mut [u8])
     put_u32(v.number(), out);
 }
 
-pub fn read_mountstat3(src: &[u8], at: usize) -> Mountstat3Read
-    ensures { Answers (exactly mountstat) src.now at (view_mountstat3 result) }
+pub fn read_mountstat3(src: &[u8], at: usize) -> Result<Took<mountstat3>, Refusal>
+    ensures { Answers (exactly mountstat) src.now at (view result) }
 {
-    match open_at(src, at) {
-        Opening::Refused(r) => Mountstat3Read::Refused(r),
-        Opening::Open => mountstat3_at(src, at),
-    }
+    open_at(src, at)?;
+    mountstat3_at(src, at)
 }
 
-pub fn write_mountstat3(v: mountstat3, out: &mut [u8], at: usize) -> Wrote
+pub fn write_mountstat3(v: mountstat3, out: &mut [u8], at: usize) -> Result<usize, Refusal>
     ensures { Writes (exactly mountstat) [] v at out.old (view_wrote result) out.new }
 {
     write_u32(v.number(), out, at)
@@ -163,60 +136,19 @@ pub struct mountres3_ok {
     pub auth_flavors: Piece,
 }
 
-#[derive(Clone, Copy)]
-pub enum Mountres3OkRead {
-    Refused(Refusal),
-    Took {
-        value: mountres3_ok,
-        next: usize,
-        plain: bool,
-    },
-}
-
-impl Mountres3OkRead {
-    pub fn refusal(self) -> Refusal
-        ensures { result ≡ lost_mountres3_ok self }
-    {
-        match self {
-            Mountres3OkRead::Refused(r) => r,
-            Mountres3OkRead::Took {
-                value: _,
-                next: _,
-                plain: _,
-            } => Refusal::PastEnd,
-        }
-    }
-}
-
-pub fn mountres3_ok_at(src: &[u8], at: usize) -> Mountres3OkRead
-    ensures { view_mountres3_ok result ≡ mountres_ok.held.read src.now at }
+pub fn mountres3_ok_at(src: &[u8], at: usize) -> Result<Took<mountres3_ok>, Refusal>
+    ensures { view result ≡ mountres_ok.held.read src.now at }
 {
-    let r1 = opaque_at(src, at);
-    let PieceRead::Took {
-        value: fhandle,
-        next: n1,
-        plain: p1,
-    } = r1
-    else {
-        return Mountres3OkRead::Refused(r1.refusal());
-    };
-    let r2 = words_at(src, n1);
-    let PieceRead::Took {
-        value: auth_flavors,
-        next: n2,
-        plain: p2,
-    } = r2
-    else {
-        return Mountres3OkRead::Refused(r2.refusal());
-    };
-    Mountres3OkRead::Took {
+    let fhandle = opaque_at(src, at)?;
+    let auth_flavors = words_at(src, fhandle.next)?;
+    Ok(Took {
         value: mountres3_ok {
-            fhandle,
-            auth_flavors,
+            fhandle: fhandle.value,
+            auth_flavors: auth_flavors.value,
         },
-        next: n2,
-        plain: p1 & p2,
-    }
+        next: auth_flavors.next,
+        plain: fhandle.plain & auth_flavors.plain,
+    })
 }
 
 impl mountres3_ok {
@@ -280,65 +212,25 @@ pub enum mountres3 {
     Failed(mountfail3),
 }
 
-#[derive(Clone, Copy)]
-pub enum Mountres3Read {
-    Refused(Refusal),
-    Took {
-        value: mountres3,
-        next: usize,
-        plain: bool,
-    },
-}
-
-impl Mountres3Read {
-    pub fn refusal(self) -> Refusal
-        ensures { result ≡ lost_mountres3 self }
-    {
-        match self {
-            Mountres3Read::Refused(r) => r,
-            Mountres3Read::Took {
-                value: _,
-                next: _,
-                plain: _,
-            } => Refusal::PastEnd,
-        }
-    }
-}
-
-pub fn mountres3_at(src: &[u8], at: usize) -> Mountres3Read
-    ensures { view_mountres3 result ≡ mountres.held.read src.now at }
+pub fn mountres3_at(src: &[u8], at: usize) -> Result<Took<mountres3>, Refusal>
+    ensures { view result ≡ mountres.held.read src.now at }
 {
-    let r1 = mountstat3_at(src, at);
-    let Mountstat3Read::Took {
-        value: status,
-        next: n1,
-    } = r1
-    else {
-        return Mountres3Read::Refused(r1.refusal());
-    };
-    match status {
+    let status = mountstat3_at(src, at)?;
+    match status.value {
         mountstat3::MNT3_OK => {
-            let r2 = mountres3_ok_at(src, n1);
-            let Mountres3OkRead::Took {
-                value: v,
-                next: n2,
-                plain: p2,
-            } = r2
-            else {
-                return Mountres3Read::Refused(r2.refusal());
-            };
-            Mountres3Read::Took {
-                value: mountres3::MNT3_OK(v),
-                next: n2,
-                plain: p2,
-            }
+            let v = mountres3_ok_at(src, status.next)?;
+            Ok(Took {
+                value: mountres3::MNT3_OK(v.value),
+                next: v.next,
+                plain: status.plain & v.plain,
+            })
         }
         mountstat3::Failed(e) => {
-            Mountres3Read::Took {
+            Ok(Took {
                 value: mountres3::Failed(e),
-                next: n1,
-                plain: true,
-            }
+                next: status.next,
+                plain: status.plain,
+            })
         }
     }
 }
@@ -400,28 +292,28 @@ pub fn put_mountres3(src: &[u8], x: mountres3, out: &mut [u8])
     }
 }
 
-pub fn read_mountres3(src: &[u8], at: usize) -> Mountres3Read
-    ensures { Answers mountres src.now at (view_mountres3 result) }
+pub fn read_mountres3(src: &[u8], at: usize) -> Result<Took<mountres3>, Refusal>
+    ensures { Answers mountres src.now at (view result) }
 {
-    match open_at(src, at) {
-        Opening::Refused(r) => Mountres3Read::Refused(r),
-        Opening::Open => mountres3_at(src, at),
-    }
+    open_at(src, at)?;
+    mountres3_at(src, at)
 }
 
-pub fn write_mountres3(src: &[u8], x: mountres3, out: &mut [u8], at: usize) -> Wrote
+pub fn write_mountres3(
+    src: &[u8],
+    x: mountres3,
+    out: &mut [u8],
+    at: usize,
+) -> Result<usize, Refusal>
     ensures { Writes mountres src.now x at out.old (view_wrote result) out.new }
 {
-    let w = place(
+    let end = place(
         src.len(),
         mountres3_inside(src, x),
         mountres3_size(x),
         out.len(),
         at,
-    );
-    let Wrote::Done(_) = w else {
-        return w;
-    };
+    )?;
     put_mountres3(src, x, &mut out[at..]);
-    w
+    Ok(end)
 }

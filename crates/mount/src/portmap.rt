@@ -5,13 +5,13 @@ ghost use Rattle.xdr.specs.Meaning.Items.{word};
 ghost use Rattle.xdr.specs.Meaning.Format.{exactly, ◌⨟◌};
 ghost use Rattle.xdr.specs.Meaning.Sizes.{OfSize};
 ghost use Rattle.xdr.specs.Meaning.Public.{laid, Answers, Writes};
-ghost use Rattle.xdr.specs.Meaning.Views.{view_wrote};
+ghost use Rattle.xdr.specs.Meaning.Views.{view, view_wrote};
 ghost use Rattle.xdr.specs.Laws.Fields.{Lays};
-ghost use Rattle.mount.specs.Meaning.Portmap.{port_mapping, lost_mapping, view_mapping};
+ghost use Rattle.mount.specs.Meaning.Portmap.{port_mapping};
 
 use xdr::inner::{put_u32, u32_at};
-use xdr::order::{Opening, open_at, room};
-use xdr::{Refusal, U32Read, Wrote};
+use xdr::order::{open_at, room};
+use xdr::{Refusal, Took};
 
 #[derive(Clone, Copy)]
 pub struct mapping {
@@ -31,67 +31,23 @@ impl mapping {
     }
 }
 
-#[derive(Clone, Copy)]
-pub enum MappingRead {
-    Refused(Refusal),
-    Took { value: mapping, next: usize },
-}
-
-impl MappingRead {
-    pub fn refusal(self) -> Refusal
-        ensures { result ≡ lost_mapping self }
-    {
-        match self {
-            MappingRead::Refused(r) => r,
-            MappingRead::Took { value: _, next: _ } => Refusal::PastEnd,
-        }
-    }
-}
-
-pub fn mapping_at(src: &[u8], at: usize) -> MappingRead
-    ensures { view_mapping result ≡ port_mapping.kind.read src.now at }
+pub fn mapping_at(src: &[u8], at: usize) -> Result<Took<mapping>, Refusal>
+    ensures { view result ≡ port_mapping.kind.read src.now at }
 {
-    let r1 = u32_at(src, at);
-    let U32Read::Took {
-        value: prog,
-        next: n1,
-    } = r1
-    else {
-        return MappingRead::Refused(r1.refusal());
-    };
-    let r2 = u32_at(src, n1);
-    let U32Read::Took {
-        value: vers,
-        next: n2,
-    } = r2
-    else {
-        return MappingRead::Refused(r2.refusal());
-    };
-    let r3 = u32_at(src, n2);
-    let U32Read::Took {
-        value: prot,
-        next: n3,
-    } = r3
-    else {
-        return MappingRead::Refused(r3.refusal());
-    };
-    let r4 = u32_at(src, n3);
-    let U32Read::Took {
-        value: port,
-        next: n4,
-    } = r4
-    else {
-        return MappingRead::Refused(r4.refusal());
-    };
-    MappingRead::Took {
+    let prog = u32_at(src, at)?;
+    let vers = u32_at(src, prog.next)?;
+    let prot = u32_at(src, vers.next)?;
+    let port = u32_at(src, prot.next)?;
+    Ok(Took {
         value: mapping {
-            prog,
-            vers,
-            prot,
-            port,
+            prog: prog.value,
+            vers: vers.value,
+            prot: prot.value,
+            port: port.value,
         },
-        next: n4,
-    }
+        next: port.next,
+        plain: prog.plain & vers.plain & prot.plain & port.plain,
+    })
 }
 
 fn put_mapping_3(f3: u32, f4: u32, out: &mut [u8])
@@ -137,22 +93,17 @@ pub fn put_mapping(v: mapping, out: &mut [u8])
     put_mapping_1(f1, f2, f3, f4, out);
 }
 
-pub fn read_mapping(src: &[u8], at: usize) -> MappingRead
-    ensures { Answers (exactly port_mapping) src.now at (view_mapping result) }
+pub fn read_mapping(src: &[u8], at: usize) -> Result<Took<mapping>, Refusal>
+    ensures { Answers (exactly port_mapping) src.now at (view result) }
 {
-    match open_at(src, at) {
-        Opening::Refused(r) => MappingRead::Refused(r),
-        Opening::Open => mapping_at(src, at),
-    }
+    open_at(src, at)?;
+    mapping_at(src, at)
 }
 
-pub fn write_mapping(v: mapping, out: &mut [u8], at: usize) -> Wrote
+pub fn write_mapping(v: mapping, out: &mut [u8], at: usize) -> Result<usize, Refusal>
     ensures { Writes (exactly port_mapping) [] v at out.old (view_wrote result) out.new }
 {
-    let w = room(out.len(), at, mapping::SIZE);
-    let Wrote::Done(_) = w else {
-        return w;
-    };
+    let end = room(out.len(), at, mapping::SIZE)?;
     put_mapping(v, &mut out[at..]);
-    w
+    Ok(end)
 }

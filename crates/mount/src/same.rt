@@ -5,18 +5,12 @@ ghost use Rattle.mount.specs.Meaning.Group.{groups, next-group};
 ghost use Rattle.mount.specs.Meaning.Export.{node, nodes, next_node};
 ghost use Rattle.mount.specs.Meaning.Same.{Alike, with_count, worse, standing_of, Compares};
 
-use crate::export::{NextExport, NextExportRead, Walked, exportnode, next_node_at, walk};
-use crate::group::{NextGroup, NextGroupRead, next_group_at};
+use crate::export::{Walked, exportnode, next_node_at, walk};
+use crate::group::next_group_at;
 use xdr::{MOST, Piece, Refusal};
 
-#[derive(Clone, Copy)]
-pub enum Compared {
-    Refused(Refusal),
-    Same,
-    Different,
-}
-
-// How a held list stands in its source: it does not read with its count at its place, it has a path over the bound, or neither.
+// How a held list stands in its source: it does not read with its count at its place, it has a path over the bound, or neither. Of these three
+// outcomes two refuse, and the first goes before the second.
 #[derive(Clone, Copy)]
 pub enum Standing {
     Outside,
@@ -39,8 +33,10 @@ fn stands(src: &[u8], x: Piece) -> Standing
 {
     let at = x.at;
     let n = x.count;
-    match walk(src, at) {
-        Walked::Refused(_) => Standing::Outside,
+    let Ok(list) = walk(src, at) else {
+        return Standing::Outside;
+    };
+    match list {
         Walked::Within {
             count,
             next: _,
@@ -66,43 +62,26 @@ fn both(u: Standing, v: Standing) -> Standing
     }
 }
 
-// Lengths first: a piece that is the front of another is not the same.
+// Two pieces of bytes. The slices' comparison tests their lengths too: a piece that is the front of another is not the same.
 fn same_bytes(a: &[u8], p: Piece, b: &[u8], q: Piece) -> bool
     requires p_value { bytes.held.inside a.now p ≡ true }
     requires q_value { bytes.held.inside b.now q ≡ true }
     ensures { Alike bytes a.now p b.now q result }
 {
-    let n = p.count;
-    if n != q.count {
-        return false;
-    }
-    let i = p.at;
-    let j = q.at;
-    let mut k: usize = 0;
-    while k < n {
-        if a[i + k] != b[j + k] {
-            return false;
-        }
-        k += 1;
-    }
-    true
+    a[p.at..p.at + p.count] == b[q.at..q.at + q.count]
 }
 
-fn same_next_group(a: &[u8], u: NextGroup, b: &[u8], v: NextGroup) -> bool
+fn same_next_group(a: &[u8], u: Option<Piece>, b: &[u8], v: Option<Piece>) -> bool
     requires u_value { next-group.held.inside a.now u ≡ true }
     requires v_value { next-group.held.inside b.now v ≡ true }
     ensures { Alike next-group a.now u b.now v result }
 {
-    let NextGroup::Name(p) = u else {
-        let NextGroup::Name(_) = v else {
-            return true;
-        };
-        return false;
-    };
-    let NextGroup::Name(q) = v else {
-        return false;
-    };
-    same_bytes(a, p, b, q)
+    match (u, v) {
+        (Some(p), Some(q)) => same_bytes(a, p, b, q),
+        (Some(_), None) => false,
+        (None, Some(_)) => false,
+        (None, None) => true,
+    }
 }
 
 // Two lists of names that read. Neither step is refused, since what is left of either list reads too.
@@ -114,32 +93,20 @@ fn same_groups(a: &[u8], x: Piece, b: &[u8], y: Piece) -> bool
     let mut i = x.at;
     let mut j = y.at;
     loop {
-        let s = next_group_at(a, i);
-        let NextGroupRead::Took {
-            value: u,
-            next: m,
-            plain: _,
-        } = s
-        else {
+        let Ok(s) = next_group_at(a, i) else {
             return false;
         };
-        let t = next_group_at(b, j);
-        let NextGroupRead::Took {
-            value: v,
-            next: n,
-            plain: _,
-        } = t
-        else {
+        let Ok(t) = next_group_at(b, j) else {
             return false;
         };
-        if !same_next_group(a, u, b, v) {
+        if !same_next_group(a, s.value, b, t.value) {
             return false;
         }
-        let NextGroup::Name(_) = u else {
+        let Some(_) = s.value else {
             return true;
         };
-        i = m;
-        j = n;
+        i = s.next;
+        j = t.next;
     }
 }
 
@@ -158,21 +125,17 @@ fn same_node(a: &[u8], x: exportnode, b: &[u8], y: exportnode) -> bool
     same_groups(a, g, b, h)
 }
 
-fn same_next_node(a: &[u8], u: NextExport, b: &[u8], v: NextExport) -> bool
+fn same_next_node(a: &[u8], u: Option<exportnode>, b: &[u8], v: Option<exportnode>) -> bool
     requires u_value { next_node.held.inside a.now u ≡ true }
     requires v_value { next_node.held.inside b.now v ≡ true }
     ensures { Alike next_node a.now u b.now v result }
 {
-    let NextExport::Export(p) = u else {
-        let NextExport::Export(_) = v else {
-            return true;
-        };
-        return false;
-    };
-    let NextExport::Export(q) = v else {
-        return false;
-    };
-    same_node(a, p, b, q)
+    match (u, v) {
+        (Some(p), Some(q)) => same_node(a, p, b, q),
+        (Some(_), None) => false,
+        (None, Some(_)) => false,
+        (None, None) => true,
+    }
 }
 
 // Two lists that read, as with names.
@@ -184,56 +147,38 @@ fn same_nodes(a: &[u8], x: Piece, b: &[u8], y: Piece) -> bool
     let mut i = x.at;
     let mut j = y.at;
     loop {
-        let s = next_node_at(a, i);
-        let NextExportRead::Took {
-            value: u,
-            next: m,
-            plain: _,
-        } = s
-        else {
+        let Ok(s) = next_node_at(a, i) else {
             return false;
         };
-        let t = next_node_at(b, j);
-        let NextExportRead::Took {
-            value: v,
-            next: n,
-            plain: _,
-        } = t
-        else {
+        let Ok(t) = next_node_at(b, j) else {
             return false;
         };
-        if !same_next_node(a, u, b, v) {
+        if !same_next_node(a, s.value, b, t.value) {
             return false;
         }
-        let NextExport::Export(_) = u else {
+        let Some(_) = s.value else {
             return true;
         };
-        i = m;
-        j = n;
+        i = s.next;
+        j = t.next;
     }
 }
 
 // Whether two export lists are the same message, each held in its own source; they are refused with 3, then 4, then 10.
-pub fn same_exports(a: &[u8], x: Piece, b: &[u8], y: Piece) -> Compared
+pub fn same_exports(a: &[u8], x: Piece, b: &[u8], y: Piece) -> Result<bool, Refusal>
     ensures { Compares a.now x b.now y result }
 {
     if MOST < a.len() {
-        return Compared::Refused(Refusal::TooLong);
+        return Err(Refusal::TooLong);
     }
     if MOST < b.len() {
-        return Compared::Refused(Refusal::TooLong);
+        return Err(Refusal::TooLong);
     }
     let u = stands(a, x);
     let v = stands(b, y);
     match both(u, v) {
-        Standing::Outside => Compared::Refused(Refusal::Outside),
-        Standing::Long => Compared::Refused(Refusal::LongPath(0)),
-        Standing::Within => {
-            if same_nodes(a, x, b, y) {
-                Compared::Same
-            } else {
-                Compared::Different
-            }
-        }
+        Standing::Outside => Err(Refusal::Outside),
+        Standing::Long => Err(Refusal::LongPath(0)),
+        Standing::Within => Ok(same_nodes(a, x, b, y)),
     }
 }

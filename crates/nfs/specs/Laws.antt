@@ -6,7 +6,6 @@ pub mod Tags
 pub mod Write
 pub mod Bytes
 pub mod Lengths
-pub mod One
 pub mod Sources
 pub mod Unpadded
 -- made by tools/generate: laws

@@ -2,7 +2,6 @@
 -- without the 3. Statuses and attributes stand in the crate nfsattr.
 pub mod Constants
 pub mod Set
-pub mod Views
 pub mod Sources
 -- made by tools/generate: meanings
 pub mod Change

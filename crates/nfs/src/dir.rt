@@ -6,19 +6,18 @@ ghost use Rattle.xdr.specs.Meaning.Format.{exactly, ◌⨟◌};
 ghost use Rattle.xdr.specs.Meaning.Formats.{bytes};
 ghost use Rattle.xdr.specs.Meaning.Public.{laid_of, Answers, Writes};
 ghost use Rattle.xdr.specs.Meaning.Marks.{MarksAre};
-ghost use Rattle.xdr.specs.Meaning.Views.{view_marks, view_wrote};
+ghost use Rattle.xdr.specs.Meaning.Views.{view, view_marks, view_wrote};
 ghost use Rattle.xdr.specs.Laws.Fields.{Lays};
 ghost use Rattle.nfs.specs.Laws.Dir.{nfs_fh_size, post_op_fh_size, diropargs_size, symlinkdata_size};
-ghost use Rattle.nfs.specs.Meaning.Dir.{lost_nfs_fh3, view_nfs_fh3, nfs_fh, lost_post_op_fh3, view_post_op_fh3, post_op_fh, lost_diropargs3, view_diropargs3, diropargs, lost_symlinkdata3, view_symlinkdata3, symlinkdata};
+ghost use Rattle.nfs.specs.Meaning.Dir.{nfs_fh, post_op_fh, diropargs, symlinkdata};
 ghost use Rattle.nfs.specs.Meaning.Set.{sattr};
 
-use crate::answer::Sattr3Read;
 use crate::inner::set::sattr3_at;
 use crate::put::set::{put_sattr3, sattr3_size};
 use crate::set::sattr3;
 use xdr::inner::{bool_at, opaque_at, opaque_size, put_bool, put_opaque};
-use xdr::order::{Opening, open_at, place};
-use xdr::{BoolRead, MOST, Marks, Piece, PieceRead, Refusal, Wrote, inside};
+use xdr::order::{open_at, place};
+use xdr::{MOST, Marks, Piece, Refusal, Took, inside};
 
 // A name or a path: any bytes.
 pub type nfsstring = Piece;
@@ -33,48 +32,15 @@ pub struct nfs_fh3 {
     pub data: Piece,
 }
 
-#[derive(Clone, Copy)]
-pub enum NfsFh3Read {
-    Refused(Refusal),
-    Took {
-        value: nfs_fh3,
-        next: usize,
-        plain: bool,
-    },
-}
-
-impl NfsFh3Read {
-    pub fn refusal(self) -> Refusal
-        ensures { result ≡ lost_nfs_fh3 self }
-    {
-        match self {
-            NfsFh3Read::Refused(r) => r,
-            NfsFh3Read::Took {
-                value: _,
-                next: _,
-                plain: _,
-            } => Refusal::PastEnd,
-        }
-    }
-}
-
-pub fn nfs_fh3_at(src: &[u8], at: usize) -> NfsFh3Read
-    ensures { view_nfs_fh3 result ≡ nfs_fh.held.read src.now at }
+pub fn nfs_fh3_at(src: &[u8], at: usize) -> Result<Took<nfs_fh3>, Refusal>
+    ensures { view result ≡ nfs_fh.held.read src.now at }
 {
-    let r1 = opaque_at(src, at);
-    let PieceRead::Took {
-        value: data,
-        next: n1,
-        plain: p1,
-    } = r1
-    else {
-        return NfsFh3Read::Refused(r1.refusal());
-    };
-    NfsFh3Read::Took {
-        value: nfs_fh3 { data },
-        next: n1,
-        plain: p1,
-    }
+    let data = opaque_at(src, at)?;
+    Ok(Took {
+        value: nfs_fh3 { data: data.value },
+        next: data.next,
+        plain: data.plain,
+    })
 }
 
 impl nfs_fh3 {
@@ -107,30 +73,25 @@ pub fn put_nfs_fh3(src: &[u8], x: nfs_fh3, out: &mut [u8])
     put_opaque(src, f1, out);
 }
 
-pub fn read_nfs_fh3(src: &[u8], at: usize) -> NfsFh3Read
-    ensures { Answers nfs_fh src.now at (view_nfs_fh3 result) }
+pub fn read_nfs_fh3(src: &[u8], at: usize) -> Result<Took<nfs_fh3>, Refusal>
+    ensures { Answers nfs_fh src.now at (view result) }
 {
-    match open_at(src, at) {
-        Opening::Refused(r) => NfsFh3Read::Refused(r),
-        Opening::Open => nfs_fh3_at(src, at),
-    }
+    open_at(src, at)?;
+    nfs_fh3_at(src, at)
 }
 
-pub fn write_nfs_fh3(src: &[u8], x: nfs_fh3, out: &mut [u8], at: usize) -> Wrote
+pub fn write_nfs_fh3(src: &[u8], x: nfs_fh3, out: &mut [u8], at: usize) -> Result<usize, Refusal>
     ensures { Writes nfs_fh src.now x at out.old (view_wrote result) out.new }
 {
-    let w = place(
+    let end = place(
         src.len(),
         nfs_fh3_inside(src, x),
         nfs_fh3_size(x),
         out.len(),
         at,
-    );
-    let Wrote::Done(_) = w else {
-        return w;
-    };
+    )?;
     put_nfs_fh3(src, x, &mut out[at..]);
-    w
+    Ok(end)
 }
 
 #[derive(Clone, Copy)]
@@ -139,64 +100,23 @@ pub enum post_op_fh3 {
     handle(nfs_fh3),
 }
 
-#[derive(Clone, Copy)]
-pub enum PostOpFh3Read {
-    Refused(Refusal),
-    Took {
-        value: post_op_fh3,
-        next: usize,
-        plain: bool,
-    },
-}
-
-impl PostOpFh3Read {
-    pub fn refusal(self) -> Refusal
-        ensures { result ≡ lost_post_op_fh3 self }
-    {
-        match self {
-            PostOpFh3Read::Refused(r) => r,
-            PostOpFh3Read::Took {
-                value: _,
-                next: _,
-                plain: _,
-            } => Refusal::PastEnd,
-        }
-    }
-}
-
-pub fn post_op_fh3_at(src: &[u8], at: usize) -> PostOpFh3Read
-    ensures { view_post_op_fh3 result ≡ post_op_fh.held.read src.now at }
+pub fn post_op_fh3_at(src: &[u8], at: usize) -> Result<Took<post_op_fh3>, Refusal>
+    ensures { view result ≡ post_op_fh.held.read src.now at }
 {
-    let r1 = bool_at(src, at);
-    let BoolRead::Took {
-        value: follows,
-        next: n1,
-        plain: p1,
-    } = r1
-    else {
-        return PostOpFh3Read::Refused(r1.refusal());
-    };
-    if !follows {
-        return PostOpFh3Read::Took {
+    let follows = bool_at(src, at)?;
+    if !follows.value {
+        return Ok(Took {
             value: post_op_fh3::Void,
-            next: n1,
-            plain: p1,
-        };
+            next: follows.next,
+            plain: follows.plain,
+        });
     }
-    let r2 = nfs_fh3_at(src, n1);
-    let NfsFh3Read::Took {
-        value: v,
-        next: n2,
-        plain: p2,
-    } = r2
-    else {
-        return PostOpFh3Read::Refused(r2.refusal());
-    };
-    PostOpFh3Read::Took {
-        value: post_op_fh3::handle(v),
-        next: n2,
-        plain: p1 & p2,
-    }
+    let v = nfs_fh3_at(src, follows.next)?;
+    Ok(Took {
+        value: post_op_fh3::handle(v.value),
+        next: v.next,
+        plain: follows.plain & v.plain,
+    })
 }
 
 impl post_op_fh3 {
@@ -256,30 +176,30 @@ pub fn put_post_op_fh3(src: &[u8], x: post_op_fh3, out: &mut [u8])
     }
 }
 
-pub fn read_post_op_fh3(src: &[u8], at: usize) -> PostOpFh3Read
-    ensures { Answers post_op_fh src.now at (view_post_op_fh3 result) }
+pub fn read_post_op_fh3(src: &[u8], at: usize) -> Result<Took<post_op_fh3>, Refusal>
+    ensures { Answers post_op_fh src.now at (view result) }
 {
-    match open_at(src, at) {
-        Opening::Refused(r) => PostOpFh3Read::Refused(r),
-        Opening::Open => post_op_fh3_at(src, at),
-    }
+    open_at(src, at)?;
+    post_op_fh3_at(src, at)
 }
 
-pub fn write_post_op_fh3(src: &[u8], x: post_op_fh3, out: &mut [u8], at: usize) -> Wrote
+pub fn write_post_op_fh3(
+    src: &[u8],
+    x: post_op_fh3,
+    out: &mut [u8],
+    at: usize,
+) -> Result<usize, Refusal>
     ensures { Writes post_op_fh src.now x at out.old (view_wrote result) out.new }
 {
-    let w = place(
+    let end = place(
         src.len(),
         post_op_fh3_inside(src, x),
         post_op_fh3_size(x),
         out.len(),
         at,
-    );
-    let Wrote::Done(_) = w else {
-        return w;
-    };
+    )?;
     put_post_op_fh3(src, x, &mut out[at..]);
-    w
+    Ok(end)
 }
 
 #[derive(Clone, Copy)]
@@ -288,57 +208,19 @@ pub struct diropargs3 {
     pub name: filename3,
 }
 
-#[derive(Clone, Copy)]
-pub enum Diropargs3Read {
-    Refused(Refusal),
-    Took {
-        value: diropargs3,
-        next: usize,
-        plain: bool,
-    },
-}
-
-impl Diropargs3Read {
-    pub fn refusal(self) -> Refusal
-        ensures { result ≡ lost_diropargs3 self }
-    {
-        match self {
-            Diropargs3Read::Refused(r) => r,
-            Diropargs3Read::Took {
-                value: _,
-                next: _,
-                plain: _,
-            } => Refusal::PastEnd,
-        }
-    }
-}
-
-pub fn diropargs3_at(src: &[u8], at: usize) -> Diropargs3Read
-    ensures { view_diropargs3 result ≡ diropargs.held.read src.now at }
+pub fn diropargs3_at(src: &[u8], at: usize) -> Result<Took<diropargs3>, Refusal>
+    ensures { view result ≡ diropargs.held.read src.now at }
 {
-    let r1 = nfs_fh3_at(src, at);
-    let NfsFh3Read::Took {
-        value: dir,
-        next: n1,
-        plain: p1,
-    } = r1
-    else {
-        return Diropargs3Read::Refused(r1.refusal());
-    };
-    let r2 = opaque_at(src, n1);
-    let PieceRead::Took {
-        value: name,
-        next: n2,
-        plain: p2,
-    } = r2
-    else {
-        return Diropargs3Read::Refused(r2.refusal());
-    };
-    Diropargs3Read::Took {
-        value: diropargs3 { dir, name },
-        next: n2,
-        plain: p1 & p2,
-    }
+    let dir = nfs_fh3_at(src, at)?;
+    let name = opaque_at(src, dir.next)?;
+    Ok(Took {
+        value: diropargs3 {
+            dir: dir.value,
+            name: name.value,
+        },
+        next: name.next,
+        plain: dir.plain & name.plain,
+    })
 }
 
 impl diropargs3 {
@@ -396,30 +278,30 @@ pub fn put_diropargs3(src: &[u8], x: diropargs3, out: &mut [u8])
     put_diropargs3_1(src, f1, f2, out);
 }
 
-pub fn read_diropargs3(src: &[u8], at: usize) -> Diropargs3Read
-    ensures { Answers diropargs src.now at (view_diropargs3 result) }
+pub fn read_diropargs3(src: &[u8], at: usize) -> Result<Took<diropargs3>, Refusal>
+    ensures { Answers diropargs src.now at (view result) }
 {
-    match open_at(src, at) {
-        Opening::Refused(r) => Diropargs3Read::Refused(r),
-        Opening::Open => diropargs3_at(src, at),
-    }
+    open_at(src, at)?;
+    diropargs3_at(src, at)
 }
 
-pub fn write_diropargs3(src: &[u8], x: diropargs3, out: &mut [u8], at: usize) -> Wrote
+pub fn write_diropargs3(
+    src: &[u8],
+    x: diropargs3,
+    out: &mut [u8],
+    at: usize,
+) -> Result<usize, Refusal>
     ensures { Writes diropargs src.now x at out.old (view_wrote result) out.new }
 {
-    let w = place(
+    let end = place(
         src.len(),
         diropargs3_inside(src, x),
         diropargs3_size(x),
         out.len(),
         at,
-    );
-    let Wrote::Done(_) = w else {
-        return w;
-    };
+    )?;
     put_diropargs3(src, x, &mut out[at..]);
-    w
+    Ok(end)
 }
 
 #[derive(Clone, Copy)]
@@ -428,60 +310,19 @@ pub struct symlinkdata3 {
     pub symlink_data: nfspath3,
 }
 
-#[derive(Clone, Copy)]
-pub enum Symlinkdata3Read {
-    Refused(Refusal),
-    Took {
-        value: symlinkdata3,
-        next: usize,
-        plain: bool,
-    },
-}
-
-impl Symlinkdata3Read {
-    pub fn refusal(self) -> Refusal
-        ensures { result ≡ lost_symlinkdata3 self }
-    {
-        match self {
-            Symlinkdata3Read::Refused(r) => r,
-            Symlinkdata3Read::Took {
-                value: _,
-                next: _,
-                plain: _,
-            } => Refusal::PastEnd,
-        }
-    }
-}
-
-pub fn symlinkdata3_at(src: &[u8], at: usize) -> Symlinkdata3Read
-    ensures { view_symlinkdata3 result ≡ symlinkdata.held.read src.now at }
+pub fn symlinkdata3_at(src: &[u8], at: usize) -> Result<Took<symlinkdata3>, Refusal>
+    ensures { view result ≡ symlinkdata.held.read src.now at }
 {
-    let r1 = sattr3_at(src, at);
-    let Sattr3Read::Took {
-        value: symlink_attributes,
-        next: n1,
-        plain: p1,
-    } = r1
-    else {
-        return Symlinkdata3Read::Refused(r1.refusal());
-    };
-    let r2 = opaque_at(src, n1);
-    let PieceRead::Took {
-        value: symlink_data,
-        next: n2,
-        plain: p2,
-    } = r2
-    else {
-        return Symlinkdata3Read::Refused(r2.refusal());
-    };
-    Symlinkdata3Read::Took {
+    let symlink_attributes = sattr3_at(src, at)?;
+    let symlink_data = opaque_at(src, symlink_attributes.next)?;
+    Ok(Took {
         value: symlinkdata3 {
-            symlink_attributes,
-            symlink_data,
+            symlink_attributes: symlink_attributes.value,
+            symlink_data: symlink_data.value,
         },
-        next: n2,
-        plain: p1 & p2,
-    }
+        next: symlink_data.next,
+        plain: symlink_attributes.plain & symlink_data.plain,
+    })
 }
 
 impl symlinkdata3 {
@@ -536,28 +377,28 @@ pub fn put_symlinkdata3(src: &[u8], x: symlinkdata3, out: &mut [u8])
     put_symlinkdata3_1(src, f1, f2, out);
 }
 
-pub fn read_symlinkdata3(src: &[u8], at: usize) -> Symlinkdata3Read
-    ensures { Answers symlinkdata src.now at (view_symlinkdata3 result) }
+pub fn read_symlinkdata3(src: &[u8], at: usize) -> Result<Took<symlinkdata3>, Refusal>
+    ensures { Answers symlinkdata src.now at (view result) }
 {
-    match open_at(src, at) {
-        Opening::Refused(r) => Symlinkdata3Read::Refused(r),
-        Opening::Open => symlinkdata3_at(src, at),
-    }
+    open_at(src, at)?;
+    symlinkdata3_at(src, at)
 }
 
-pub fn write_symlinkdata3(src: &[u8], x: symlinkdata3, out: &mut [u8], at: usize) -> Wrote
+pub fn write_symlinkdata3(
+    src: &[u8],
+    x: symlinkdata3,
+    out: &mut [u8],
+    at: usize,
+) -> Result<usize, Refusal>
     ensures { Writes symlinkdata src.now x at out.old (view_wrote result) out.new }
 {
-    let w = place(
+    let end = place(
         src.len(),
         symlinkdata3_inside(src, x),
         symlinkdata3_size(x),
         out.len(),
         at,
-    );
-    let Wrote::Done(_) = w else {
-        return w;
-    };
+    )?;
     put_symlinkdata3(src, x, &mut out[at..]);
-    w
+    Ok(end)
 }

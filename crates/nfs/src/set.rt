@@ -1,7 +1,7 @@
 // What SETATTR, CREATE, MKDIR, SYMLINK and MKNOD set (RFC 1813, section 2.6).
 ghost use Rattle.std.specs.Prelude.{◌≡◌};
 ghost use Rattle.nfs.specs.Meaning.Set.{how_number, hows, time_how};
-ghost use Rattle.nfs.specs.Meaning.Views.{found_how};
+ghost use Rattle.xdr.specs.Meaning.Views.{view_found};
 ghost use Rattle.xdr.specs.Meaning.Combinators.{among};
 ghost use Rattle.xdr.specs.Meaning.Sizes.{OfSize};
 
@@ -14,12 +14,6 @@ pub enum _time_how {
     DONT_CHANGE,
     SET_TO_SERVER_TIME,
     SET_TO_CLIENT_TIME,
-}
-
-#[derive(Clone, Copy)]
-pub enum HowFound {
-    None,
-    Is(_time_how),
 }
 
 impl _time_how {
@@ -42,14 +36,14 @@ impl _time_how {
         }
     }
 
-    pub fn of(v: u32) -> HowFound
-        ensures { found_how result ≡ among how_number hows v }
+    pub fn of(v: u32) -> Option<_time_how>
+        ensures { view_found result ≡ among how_number hows v }
     {
         match v {
-            0 => HowFound::Is(_time_how::DONT_CHANGE),
-            1 => HowFound::Is(_time_how::SET_TO_SERVER_TIME),
-            2 => HowFound::Is(_time_how::SET_TO_CLIENT_TIME),
-            _ => HowFound::None,
+            0 => Some(_time_how::DONT_CHANGE),
+            1 => Some(_time_how::SET_TO_SERVER_TIME),
+            2 => Some(_time_how::SET_TO_CLIENT_TIME),
+            _ => None,
         }
     }
 }

@@ -10,7 +10,7 @@ ghost use Rattle.nfs.specs.Laws.Sources.{DirReady};
 use crate::dir::{diropargs3, diropargs3_size, nfs_fh3_inside, nfs_fh3_size, put_nfs_fh3};
 use xdr::inner::put_opaque;
 use xdr::order::{longer, place};
-use xdr::{MOST, Wrote, inside};
+use xdr::{MOST, Refusal, inside};
 
 fn put_diropargs3_from(dirs: &[u8], names: &[u8], x: diropargs3, out: &mut [u8])
     requires dir_ready { DirReady dirs.now names.now x }
@@ -31,67 +31,57 @@ pub fn write_diropargs3_from(
     x: diropargs3,
     out: &mut [u8],
     at: usize,
-) -> Wrote
+) -> Result<usize, Refusal>
     ensures { WritesDiropargsFrom dirs.now names.now x at out.old (view_wrote result) out.new }
 {
     let dir = x.dir;
     let name = x.name;
-    let w = place(
+    let end = place(
         longer(dirs.len(), names.len()),
         nfs_fh3_inside(dirs, dir) & inside(names, name),
         diropargs3_size(x),
         out.len(),
         at,
-    );
-    let Wrote::Done(_) = w else {
-        return w;
-    };
+    )?;
     put_diropargs3_from(dirs, names, x, &mut out[at..]);
-    w
+    Ok(end)
 }
 
-// Whether it was written, and the place after it.
-#[derive(Clone, Copy)]
-pub enum Fitted {
-    No,
-    To(usize),
-}
-
-// The same by tests one after another, where the message fits. Where it does not, nothing is written and nothing is said of why: the writer
-// above says that.
+// The same by tests one after another, where the message fits: the place after it. Where it does not, nothing is written and nothing is said of
+// why: the writer above says that.
 pub fn fit_diropargs3_from(
     dirs: &[u8],
     names: &[u8],
     x: diropargs3,
     out: &mut [u8],
     at: usize,
-) -> Fitted
+) -> Option<usize>
     ensures { FitsDiropargsFrom dirs.now names.now x at out.old result out.new }
 {
     let dir = x.dir;
     let name = x.name;
     if MOST < dirs.len() {
-        return Fitted::No;
+        return None;
     }
     if MOST < names.len() {
-        return Fitted::No;
+        return None;
     }
     if !nfs_fh3_inside(dirs, dir) {
-        return Fitted::No;
+        return None;
     }
     if !inside(names, name) {
-        return Fitted::No;
+        return None;
     }
     let size = diropargs3_size(x);
     if MOST < size {
-        return Fitted::No;
+        return None;
     }
     if out.len() < at {
-        return Fitted::No;
+        return None;
     }
     if out.len() - at < size {
-        return Fitted::No;
+        return None;
     }
     put_diropargs3_from(dirs, names, x, &mut out[at..]);
-    Fitted::To(at + size)
+    Some(at + size)
 }

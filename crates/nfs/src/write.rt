@@ -13,49 +13,45 @@ use crate::put::set::{
 };
 use crate::set::{_time_how, sattr3, set_atime, set_mtime};
 use xdr::order::room;
-use xdr::{Wrote, write_opaque, write_u32};
+use xdr::{Refusal, write_opaque, write_u32};
 
-pub fn write_time_how(v: _time_how, out: &mut [u8], at: usize) -> Wrote
+pub fn write_time_how(v: _time_how, out: &mut [u8], at: usize) -> Result<usize, Refusal>
     ensures { Writes (exactly time_how) [] v at out.old (view_wrote result) out.new }
 {
     write_u32(v.number(), out, at)
 }
 
-pub fn write_set_atime(v: set_atime, out: &mut [u8], at: usize) -> Wrote
+pub fn write_set_atime(v: set_atime, out: &mut [u8], at: usize) -> Result<usize, Refusal>
     ensures { Writes (exactly set-atime) [] v at out.old (view_wrote result) out.new }
 {
-    let w = room(out.len(), at, set_atime_size(v));
-    let Wrote::Done(_) = w else {
-        return w;
-    };
+    let end = room(out.len(), at, set_atime_size(v))?;
     put_set_atime(v, &mut out[at..]);
-    w
+    Ok(end)
 }
 
-pub fn write_set_mtime(v: set_mtime, out: &mut [u8], at: usize) -> Wrote
+pub fn write_set_mtime(v: set_mtime, out: &mut [u8], at: usize) -> Result<usize, Refusal>
     ensures { Writes (exactly set-mtime) [] v at out.old (view_wrote result) out.new }
 {
-    let w = room(out.len(), at, set_mtime_size(v));
-    let Wrote::Done(_) = w else {
-        return w;
-    };
+    let end = room(out.len(), at, set_mtime_size(v))?;
     put_set_mtime(v, &mut out[at..]);
-    w
+    Ok(end)
 }
 
-pub fn write_sattr3(v: sattr3, out: &mut [u8], at: usize) -> Wrote
+pub fn write_sattr3(v: sattr3, out: &mut [u8], at: usize) -> Result<usize, Refusal>
     ensures { Writes (exactly sattr) [] v at out.old (view_wrote result) out.new }
 {
-    let w = room(out.len(), at, sattr3_size(v));
-    let Wrote::Done(_) = w else {
-        return w;
-    };
+    let end = room(out.len(), at, sattr3_size(v))?;
     put_sattr3(v, &mut out[at..]);
-    w
+    Ok(end)
 }
 
 // A name or a path, as opaques are written.
-pub fn write_nfsstring(src: &[u8], x: nfsstring, out: &mut [u8], at: usize) -> Wrote
+pub fn write_nfsstring(
+    src: &[u8],
+    x: nfsstring,
+    out: &mut [u8],
+    at: usize,
+) -> Result<usize, Refusal>
     ensures { Writes bytes src.now x at out.old (view_wrote result) out.new }
 {
     write_opaque(src, x, out, at)

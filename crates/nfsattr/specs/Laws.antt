@@ -5,8 +5,6 @@ pub mod Words
 pub mod Closed
 pub mod Read
 pub mod Plans
-pub mod Status
 pub mod Bytes
 pub mod Lengths
-pub mod One
 pub mod Unpadded

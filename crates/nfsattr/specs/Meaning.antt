@@ -2,5 +2,4 @@
 -- the 3.
 pub mod Stat
 pub mod Attr
-pub mod Views
 pub mod Sizes

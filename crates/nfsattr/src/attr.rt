@@ -1,7 +1,7 @@
 // Attributes of files and of file systems (RFC 1813, sections 2.5, 2.6 and 3.3.19). A fixed record carries its size.
 ghost use Rattle.std.specs.Prelude.{◌≡◌};
 ghost use Rattle.nfsattr.specs.Meaning.Attr.{ftype_number, ftypes};
-ghost use Rattle.nfsattr.specs.Meaning.Views.{found_ftype};
+ghost use Rattle.xdr.specs.Meaning.Views.{view_found};
 ghost use Rattle.xdr.specs.Meaning.Combinators.{among};
 
 pub type fileid3 = u64;
@@ -38,12 +38,6 @@ pub enum ftype3 {
     NF3FIFO,
 }
 
-#[derive(Clone, Copy)]
-pub enum FtypeFound {
-    None,
-    Is(ftype3),
-}
-
 impl ftype3 {
     pub const SIZE: usize = 4;
 
@@ -61,18 +55,18 @@ impl ftype3 {
         }
     }
 
-    pub fn of(v: u32) -> FtypeFound
-        ensures { found_ftype result ≡ among ftype_number ftypes v }
+    pub fn of(v: u32) -> Option<ftype3>
+        ensures { view_found result ≡ among ftype_number ftypes v }
     {
         match v {
-            1 => FtypeFound::Is(ftype3::NF3REG),
-            2 => FtypeFound::Is(ftype3::NF3DIR),
-            3 => FtypeFound::Is(ftype3::NF3BLK),
-            4 => FtypeFound::Is(ftype3::NF3CHR),
-            5 => FtypeFound::Is(ftype3::NF3LNK),
-            6 => FtypeFound::Is(ftype3::NF3SOCK),
-            7 => FtypeFound::Is(ftype3::NF3FIFO),
-            _ => FtypeFound::None,
+            1 => Some(ftype3::NF3REG),
+            2 => Some(ftype3::NF3DIR),
+            3 => Some(ftype3::NF3BLK),
+            4 => Some(ftype3::NF3CHR),
+            5 => Some(ftype3::NF3LNK),
+            6 => Some(ftype3::NF3SOCK),
+            7 => Some(ftype3::NF3FIFO),
+            _ => None,
         }
     }
 }

@@ -5,7 +5,6 @@
 // Every input gets an answer. What the answers mean stands in specs/Meaning.
 #![tactic(auto)]
 
-pub mod answer;
 pub mod attr;
 pub mod inner;
 pub mod put;
@@ -14,10 +13,6 @@ pub mod sizes;
 pub mod stat;
 mod write;
 
-pub use answer::{
-    Fattr3Read, Fsinfo3Read, Ftype3Read, Nfsstat3Read, Nfstime3Read, PostOpAttrRead, PreOpAttrRead,
-    Specdata3Read, WccAttrRead, WccDataRead,
-};
 pub use attr::{
     cookie3, cookieverf3, count3, createverf3, fattr3, fileid3, fsinfo3, ftype3, gid3, mode3,
     nfstime3, offset3, post_op_attr, pre_op_attr, size3, specdata3, uid3, wcc_attr, wcc_data,

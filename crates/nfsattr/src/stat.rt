@@ -1,7 +1,7 @@
 // The status that a result begins with (RFC 1813, section 2.5; section 2.6 says what each means).
 ghost use Rattle.std.specs.Prelude.{◌≡◌, ◌≤◌};
 ghost use Rattle.nfsattr.specs.Meaning.Stat.{fail_number, stat_number, failures, statuses};
-ghost use Rattle.nfsattr.specs.Meaning.Views.{found_fail, found_stat};
+ghost use Rattle.xdr.specs.Meaning.Views.{view_found};
 ghost use Rattle.xdr.specs.Meaning.Combinators.{among};
 
 // The 28 failures: a type of their own, so that the failing arm of a result can hold no success.
@@ -43,19 +43,6 @@ pub enum nfsstat3 {
     Failed(nfsfail3),
 }
 
-// What a number is, if it is declared.
-#[derive(Clone, Copy)]
-pub enum FailFound {
-    None,
-    Is(nfsfail3),
-}
-
-#[derive(Clone, Copy)]
-pub enum StatFound {
-    None,
-    Is(nfsstat3),
-}
-
 impl nfsfail3 {
     pub fn number(self) -> u32
         ensures { result ≡ fail_number self }
@@ -92,16 +79,16 @@ impl nfsfail3 {
         }
     }
 
-    pub fn of(v: u32) -> FailFound
-        ensures { found_fail result ≡ among fail_number failures v }
+    pub fn of(v: u32) -> Option<nfsfail3>
+        ensures { view_found result ≡ among fail_number failures v }
     {
         let found = nfsstat3::of(v);
-        let StatFound::Is(status) = found else {
-            return FailFound::None;
+        let Some(status) = found else {
+            return None;
         };
         match status {
-            nfsstat3::NFS3_OK => FailFound::None,
-            nfsstat3::Failed(f) => FailFound::Is(f),
+            nfsstat3::NFS3_OK => None,
+            nfsstat3::Failed(f) => Some(f),
         }
     }
 
@@ -151,11 +138,11 @@ impl nfsstat3 {
     }
 
     // A line for each run of docs/SCOPE.md, Closed lists, in its order.
-    pub fn of(v: u32) -> StatFound
-        ensures { found_stat result ≡ among stat_number statuses v }
+    pub fn of(v: u32) -> Option<nfsstat3>
+        ensures { view_found result ≡ among stat_number statuses v }
     {
         let failure = match v {
-            0 => return StatFound::Is(nfsstat3::NFS3_OK),
+            0 => return Some(nfsstat3::NFS3_OK),
             1 => nfsfail3::NFS3ERR_PERM,
             2 => nfsfail3::NFS3ERR_NOENT,
             5 => nfsfail3::NFS3ERR_IO,
@@ -172,8 +159,8 @@ impl nfsstat3 {
             70 => nfsfail3::NFS3ERR_STALE,
             71 => nfsfail3::NFS3ERR_REMOTE,
             10001..=10008 => nfsfail3::badhandle_to_jukebox(v),
-            _ => return StatFound::None,
+            _ => return None,
         };
-        StatFound::Is(nfsstat3::Failed(failure))
+        Some(nfsstat3::Failed(failure))
     }
 }

@@ -16,104 +16,80 @@ use crate::put::attr::{
 };
 use crate::stat::nfsstat3;
 use xdr::order::room;
-use xdr::{Wrote, write_u32};
+use xdr::{Refusal, write_u32};
 
-pub fn write_nfsstat3(v: nfsstat3, out: &mut [u8], at: usize) -> Wrote
+pub fn write_nfsstat3(v: nfsstat3, out: &mut [u8], at: usize) -> Result<usize, Refusal>
     ensures { Writes (exactly nfsstat) [] v at out.old (view_wrote result) out.new }
 {
     write_u32(v.number(), out, at)
 }
 
-pub fn write_ftype3(v: ftype3, out: &mut [u8], at: usize) -> Wrote
+pub fn write_ftype3(v: ftype3, out: &mut [u8], at: usize) -> Result<usize, Refusal>
     ensures { Writes (exactly ftype) [] v at out.old (view_wrote result) out.new }
 {
     write_u32(v.number(), out, at)
 }
 
-pub fn write_specdata3(v: specdata3, out: &mut [u8], at: usize) -> Wrote
+pub fn write_specdata3(v: specdata3, out: &mut [u8], at: usize) -> Result<usize, Refusal>
     ensures { Writes (exactly specdata) [] v at out.old (view_wrote result) out.new }
 {
-    let w = room(out.len(), at, specdata3::SIZE);
-    let Wrote::Done(_) = w else {
-        return w;
-    };
+    let end = room(out.len(), at, specdata3::SIZE)?;
     put_specdata3(v, &mut out[at..]);
-    w
+    Ok(end)
 }
 
-pub fn write_nfstime3(v: nfstime3, out: &mut [u8], at: usize) -> Wrote
+pub fn write_nfstime3(v: nfstime3, out: &mut [u8], at: usize) -> Result<usize, Refusal>
     ensures { Writes (exactly nfstime) [] v at out.old (view_wrote result) out.new }
 {
-    let w = room(out.len(), at, nfstime3::SIZE);
-    let Wrote::Done(_) = w else {
-        return w;
-    };
+    let end = room(out.len(), at, nfstime3::SIZE)?;
     put_nfstime3(v, &mut out[at..]);
-    w
+    Ok(end)
 }
 
-pub fn write_fattr3(v: fattr3, out: &mut [u8], at: usize) -> Wrote
+pub fn write_fattr3(v: fattr3, out: &mut [u8], at: usize) -> Result<usize, Refusal>
     ensures { Writes (exactly fattr) [] v at out.old (view_wrote result) out.new }
 {
-    let w = room(out.len(), at, fattr3::SIZE);
-    let Wrote::Done(_) = w else {
-        return w;
-    };
+    let end = room(out.len(), at, fattr3::SIZE)?;
     put_fattr3(v, &mut out[at..]);
-    w
+    Ok(end)
 }
 
-pub fn write_wcc_attr(v: wcc_attr, out: &mut [u8], at: usize) -> Wrote
+pub fn write_wcc_attr(v: wcc_attr, out: &mut [u8], at: usize) -> Result<usize, Refusal>
     ensures { Writes (exactly wcc-attr) [] v at out.old (view_wrote result) out.new }
 {
-    let w = room(out.len(), at, wcc_attr::SIZE);
-    let Wrote::Done(_) = w else {
-        return w;
-    };
+    let end = room(out.len(), at, wcc_attr::SIZE)?;
     put_wcc_attr(v, &mut out[at..]);
-    w
+    Ok(end)
 }
 
-pub fn write_pre_op_attr(v: pre_op_attr, out: &mut [u8], at: usize) -> Wrote
+pub fn write_pre_op_attr(v: pre_op_attr, out: &mut [u8], at: usize) -> Result<usize, Refusal>
     ensures { Writes (exactly pre-op-attr) [] v at out.old (view_wrote result) out.new }
 {
-    let w = room(out.len(), at, pre_op_attr_size(v));
-    let Wrote::Done(_) = w else {
-        return w;
-    };
+    let end = room(out.len(), at, pre_op_attr_size(v))?;
     put_pre_op_attr(v, &mut out[at..]);
-    w
+    Ok(end)
 }
 
-pub fn write_post_op_attr(v: post_op_attr, out: &mut [u8], at: usize) -> Wrote
+pub fn write_post_op_attr(v: post_op_attr, out: &mut [u8], at: usize) -> Result<usize, Refusal>
     ensures { Writes (exactly post-op-attr) [] v at out.old (view_wrote result) out.new }
 {
-    let w = room(out.len(), at, post_op_attr_size(v));
-    let Wrote::Done(_) = w else {
-        return w;
-    };
+    let end = room(out.len(), at, post_op_attr_size(v))?;
     put_post_op_attr(v, &mut out[at..]);
-    w
+    Ok(end)
 }
 
-pub fn write_wcc_data(v: wcc_data, out: &mut [u8], at: usize) -> Wrote
+pub fn write_wcc_data(v: wcc_data, out: &mut [u8], at: usize) -> Result<usize, Refusal>
     ensures { Writes (exactly wcc-data) [] v at out.old (view_wrote result) out.new }
 {
-    let w = room(out.len(), at, wcc_data_size(v));
-    let Wrote::Done(_) = w else {
-        return w;
-    };
+    let end = room(out.len(), at, wcc_data_size(v))?;
     put_wcc_data(v, &mut out[at..]);
-    w
+    Ok(end)
 }
 
-pub fn write_fsinfo3(v: fsinfo3, out: &mut [u8], at: usize) -> Wrote
+pub fn write_fsinfo3(v: fsinfo3, out: &mut [u8], at: usize) -> Result<usize, Refusal>
     ensures { Writes (exactly fsinfo) [] v at out.old (view_wrote result) out.new }
 {
-    let w = room(out.len(), at, fsinfo3_size(v));
-    let Wrote::Done(_) = w else {
-        return w;
-    };
+    let end = room(out.len(), at, fsinfo3_size(v))?;
     put_fsinfo3(v, &mut out[at..]);
-    w
+    Ok(end)
 }

@@ -13,12 +13,11 @@ pub mod write;
 
 // made by tools/generate: names
 pub use read::{
-    READ3args, READ3res, READ3resfail, READ3resok, Read3argsRead, Read3resRead, read_read3args,
-    read_read3res, write_read3args, write_read3res,
+    READ3args, READ3res, READ3resfail, READ3resok, read_read3args, read_read3res, write_read3args,
+    write_read3res,
 };
 pub use write::{
-    StableHowRead, WRITE3args, WRITE3res, WRITE3resfail, WRITE3resok, Write3argsRead,
-    Write3resRead, read_stable_how, read_write3args, read_write3res, stable_how, write_stable_how,
-    write_write3args, write_write3res,
+    WRITE3args, WRITE3res, WRITE3resfail, WRITE3resok, read_stable_how, read_write3args,
+    read_write3res, stable_how, write_stable_how, write_write3args, write_write3res,
 };
 // end of names

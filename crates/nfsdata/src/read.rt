@@ -6,16 +6,15 @@ ghost use Rattle.xdr.specs.Meaning.Format.{exactly, ◌⨟◌};
 ghost use Rattle.xdr.specs.Meaning.Formats.{bytes};
 ghost use Rattle.xdr.specs.Meaning.Public.{laid_of, Answers, Writes, laid};
 ghost use Rattle.xdr.specs.Meaning.Marks.{MarksAre};
-ghost use Rattle.xdr.specs.Meaning.Views.{view_marks, view_wrote};
+ghost use Rattle.xdr.specs.Meaning.Views.{view, view_marks, view_wrote};
 ghost use Rattle.xdr.specs.Laws.Fields.{Lays};
 ghost use Rattle.nfs.specs.Meaning.Dir.{nfs_fh};
 ghost use Rattle.nfsattr.specs.Meaning.Attr.{post-op-attr};
 ghost use Rattle.nfsattr.specs.Meaning.Stat.{nfsstat};
 ghost use Rattle.nfsdata.specs.Laws.Read.{read_args_size, read_resok_size, read_res_size};
-ghost use Rattle.nfsdata.specs.Meaning.Read.{lost_read3args, view_read3args, read_args, lost_read3resok, view_read3resok, read_resok, lost_read3resfail, view_read3resfail, read_resfail, lost_read3res, view_read3res, read_res};
+ghost use Rattle.nfsdata.specs.Meaning.Read.{read_args, read_resok, read_resfail, read_res};
 
-use nfs::dir::{NfsFh3Read, nfs_fh3, nfs_fh3_at, nfs_fh3_inside, nfs_fh3_size, put_nfs_fh3};
-use nfsattr::answer::{Nfsstat3Read, PostOpAttrRead};
+use nfs::dir::{nfs_fh3, nfs_fh3_at, nfs_fh3_inside, nfs_fh3_size, put_nfs_fh3};
 use nfsattr::attr::{count3, offset3, post_op_attr};
 use nfsattr::inner::attr::post_op_attr_at;
 use nfsattr::inner::stat::nfsstat3_at;
@@ -25,8 +24,8 @@ use nfsattr::stat::{nfsfail3, nfsstat3};
 use xdr::inner::{
     bool_at, opaque_at, opaque_size, put_bool, put_opaque, put_u32, put_u64, u32_at, u64_at,
 };
-use xdr::order::{Opening, open_at, place};
-use xdr::{BoolRead, MOST, Marks, Piece, PieceRead, Refusal, U32Read, U64Read, Wrote, inside};
+use xdr::order::{open_at, place};
+use xdr::{MOST, Marks, Piece, Refusal, Took, inside};
 
 #[derive(Clone, Copy)]
 pub struct READ3args {
@@ -35,68 +34,21 @@ pub struct READ3args {
     pub count: count3,
 }
 
-#[derive(Clone, Copy)]
-pub enum Read3argsRead {
-    Refused(Refusal),
-    Took {
-        value: READ3args,
-        next: usize,
-        plain: bool,
-    },
-}
-
-impl Read3argsRead {
-    pub fn refusal(self) -> Refusal
-        ensures { result ≡ lost_read3args self }
-    {
-        match self {
-            Read3argsRead::Refused(r) => r,
-            Read3argsRead::Took {
-                value: _,
-                next: _,
-                plain: _,
-            } => Refusal::PastEnd,
-        }
-    }
-}
-
-pub fn read3args_at(src: &[u8], at: usize) -> Read3argsRead
-    ensures { view_read3args result ≡ read_args.held.read src.now at }
+pub fn read3args_at(src: &[u8], at: usize) -> Result<Took<READ3args>, Refusal>
+    ensures { view result ≡ read_args.held.read src.now at }
 {
-    let r1 = nfs_fh3_at(src, at);
-    let NfsFh3Read::Took {
-        value: file,
-        next: n1,
-        plain: p1,
-    } = r1
-    else {
-        return Read3argsRead::Refused(r1.refusal());
-    };
-    let r2 = u64_at(src, n1);
-    let U64Read::Took {
-        value: offset,
-        next: n2,
-    } = r2
-    else {
-        return Read3argsRead::Refused(r2.refusal());
-    };
-    let r3 = u32_at(src, n2);
-    let U32Read::Took {
-        value: count,
-        next: n3,
-    } = r3
-    else {
-        return Read3argsRead::Refused(r3.refusal());
-    };
-    Read3argsRead::Took {
+    let file = nfs_fh3_at(src, at)?;
+    let offset = u64_at(src, file.next)?;
+    let count = u32_at(src, offset.next)?;
+    Ok(Took {
         value: READ3args {
-            file,
-            offset,
-            count,
+            file: file.value,
+            offset: offset.value,
+            count: count.value,
         },
-        next: n3,
-        plain: p1,
-    }
+        next: count.next,
+        plain: file.plain & offset.plain & count.plain,
+    })
 }
 
 impl READ3args {
@@ -162,30 +114,30 @@ pub fn put_read3args(src: &[u8], x: READ3args, out: &mut [u8])
     put_read3args_1(src, f1, f2, f3, out);
 }
 
-pub fn read_read3args(src: &[u8], at: usize) -> Read3argsRead
-    ensures { Answers read_args src.now at (view_read3args result) }
+pub fn read_read3args(src: &[u8], at: usize) -> Result<Took<READ3args>, Refusal>
+    ensures { Answers read_args src.now at (view result) }
 {
-    match open_at(src, at) {
-        Opening::Refused(r) => Read3argsRead::Refused(r),
-        Opening::Open => read3args_at(src, at),
-    }
+    open_at(src, at)?;
+    read3args_at(src, at)
 }
 
-pub fn write_read3args(src: &[u8], x: READ3args, out: &mut [u8], at: usize) -> Wrote
+pub fn write_read3args(
+    src: &[u8],
+    x: READ3args,
+    out: &mut [u8],
+    at: usize,
+) -> Result<usize, Refusal>
     ensures { Writes read_args src.now x at out.old (view_wrote result) out.new }
 {
-    let w = place(
+    let end = place(
         src.len(),
         read3args_inside(src, x),
         read3args_size(x),
         out.len(),
         at,
-    );
-    let Wrote::Done(_) = w else {
-        return w;
-    };
+    )?;
     put_read3args(src, x, &mut out[at..]);
-    w
+    Ok(end)
 }
 
 #[derive(Clone, Copy)]
@@ -196,79 +148,23 @@ pub struct READ3resok {
     pub data: Piece,
 }
 
-#[derive(Clone, Copy)]
-pub enum Read3resokRead {
-    Refused(Refusal),
-    Took {
-        value: READ3resok,
-        next: usize,
-        plain: bool,
-    },
-}
-
-impl Read3resokRead {
-    pub fn refusal(self) -> Refusal
-        ensures { result ≡ lost_read3resok self }
-    {
-        match self {
-            Read3resokRead::Refused(r) => r,
-            Read3resokRead::Took {
-                value: _,
-                next: _,
-                plain: _,
-            } => Refusal::PastEnd,
-        }
-    }
-}
-
-pub fn read3resok_at(src: &[u8], at: usize) -> Read3resokRead
-    ensures { view_read3resok result ≡ read_resok.held.read src.now at }
+pub fn read3resok_at(src: &[u8], at: usize) -> Result<Took<READ3resok>, Refusal>
+    ensures { view result ≡ read_resok.held.read src.now at }
 {
-    let r1 = post_op_attr_at(src, at);
-    let PostOpAttrRead::Took {
-        value: file_attributes,
-        next: n1,
-        plain: p1,
-    } = r1
-    else {
-        return Read3resokRead::Refused(r1.refusal());
-    };
-    let r2 = u32_at(src, n1);
-    let U32Read::Took {
-        value: count,
-        next: n2,
-    } = r2
-    else {
-        return Read3resokRead::Refused(r2.refusal());
-    };
-    let r3 = bool_at(src, n2);
-    let BoolRead::Took {
-        value: eof,
-        next: n3,
-        plain: p3,
-    } = r3
-    else {
-        return Read3resokRead::Refused(r3.refusal());
-    };
-    let r4 = opaque_at(src, n3);
-    let PieceRead::Took {
-        value: data,
-        next: n4,
-        plain: p4,
-    } = r4
-    else {
-        return Read3resokRead::Refused(r4.refusal());
-    };
-    Read3resokRead::Took {
+    let file_attributes = post_op_attr_at(src, at)?;
+    let count = u32_at(src, file_attributes.next)?;
+    let eof = bool_at(src, count.next)?;
+    let data = opaque_at(src, eof.next)?;
+    Ok(Took {
         value: READ3resok {
-            file_attributes,
-            count,
-            eof,
-            data,
+            file_attributes: file_attributes.value,
+            count: count.value,
+            eof: eof.value,
+            data: data.value,
         },
-        next: n4,
-        plain: p1 & p3 & p4,
-    }
+        next: data.next,
+        plain: file_attributes.plain & count.plain & eof.plain & data.plain,
+    })
 }
 
 impl READ3resok {
@@ -350,48 +246,17 @@ pub struct READ3resfail {
     pub file_attributes: post_op_attr,
 }
 
-#[derive(Clone, Copy)]
-pub enum Read3resfailRead {
-    Refused(Refusal),
-    Took {
-        value: READ3resfail,
-        next: usize,
-        plain: bool,
-    },
-}
-
-impl Read3resfailRead {
-    pub fn refusal(self) -> Refusal
-        ensures { result ≡ lost_read3resfail self }
-    {
-        match self {
-            Read3resfailRead::Refused(r) => r,
-            Read3resfailRead::Took {
-                value: _,
-                next: _,
-                plain: _,
-            } => Refusal::PastEnd,
-        }
-    }
-}
-
-pub fn read3resfail_at(src: &[u8], at: usize) -> Read3resfailRead
-    ensures { view_read3resfail result ≡ read_resfail.kind.read src.now at }
+pub fn read3resfail_at(src: &[u8], at: usize) -> Result<Took<READ3resfail>, Refusal>
+    ensures { view result ≡ read_resfail.kind.read src.now at }
 {
-    let r1 = post_op_attr_at(src, at);
-    let PostOpAttrRead::Took {
-        value: file_attributes,
-        next: n1,
-        plain: p1,
-    } = r1
-    else {
-        return Read3resfailRead::Refused(r1.refusal());
-    };
-    Read3resfailRead::Took {
-        value: READ3resfail { file_attributes },
-        next: n1,
-        plain: p1,
-    }
+    let file_attributes = post_op_attr_at(src, at)?;
+    Ok(Took {
+        value: READ3resfail {
+            file_attributes: file_attributes.value,
+        },
+        next: file_attributes.next,
+        plain: file_attributes.plain,
+    })
 }
 
 pub fn read3resfail_size(v: READ3resfail) -> usize
@@ -414,74 +279,26 @@ pub enum READ3res {
     Failed(nfsfail3, READ3resfail),
 }
 
-#[derive(Clone, Copy)]
-pub enum Read3resRead {
-    Refused(Refusal),
-    Took {
-        value: READ3res,
-        next: usize,
-        plain: bool,
-    },
-}
-
-impl Read3resRead {
-    pub fn refusal(self) -> Refusal
-        ensures { result ≡ lost_read3res self }
-    {
-        match self {
-            Read3resRead::Refused(r) => r,
-            Read3resRead::Took {
-                value: _,
-                next: _,
-                plain: _,
-            } => Refusal::PastEnd,
-        }
-    }
-}
-
-pub fn read3res_at(src: &[u8], at: usize) -> Read3resRead
-    ensures { view_read3res result ≡ read_res.held.read src.now at }
+pub fn read3res_at(src: &[u8], at: usize) -> Result<Took<READ3res>, Refusal>
+    ensures { view result ≡ read_res.held.read src.now at }
 {
-    let r1 = nfsstat3_at(src, at);
-    let Nfsstat3Read::Took {
-        value: status,
-        next: n1,
-    } = r1
-    else {
-        return Read3resRead::Refused(r1.refusal());
-    };
-    match status {
+    let status = nfsstat3_at(src, at)?;
+    match status.value {
         nfsstat3::NFS3_OK => {
-            let r2 = read3resok_at(src, n1);
-            let Read3resokRead::Took {
-                value: v,
-                next: n2,
-                plain: p2,
-            } = r2
-            else {
-                return Read3resRead::Refused(r2.refusal());
-            };
-            Read3resRead::Took {
-                value: READ3res::NFS3_OK(v),
-                next: n2,
-                plain: p2,
-            }
+            let v = read3resok_at(src, status.next)?;
+            Ok(Took {
+                value: READ3res::NFS3_OK(v.value),
+                next: v.next,
+                plain: status.plain & v.plain,
+            })
         }
         nfsstat3::Failed(e) => {
-            let r2 = read3resfail_at(src, n1);
-            let Read3resfailRead::Took {
-                value: v,
-                next: n2,
-                plain: p2,
-            } = r2
-            else {
-                return Read3resRead::Refused(r2.refusal());
-            };
-            Read3resRead::Took {
-                value: READ3res::Failed(e, v),
-                next: n2,
-                plain: p2,
-            }
+            let v = read3resfail_at(src, status.next)?;
+            Ok(Took {
+                value: READ3res::Failed(e, v.value),
+                next: v.next,
+                plain: status.plain & v.plain,
+            })
         }
     }
 }
@@ -553,28 +370,23 @@ pub fn put_read3res(src: &[u8], x: READ3res, out: &mut [u8])
     }
 }
 
-pub fn read_read3res(src: &[u8], at: usize) -> Read3resRead
-    ensures { Answers read_res src.now at (view_read3res result) }
+pub fn read_read3res(src: &[u8], at: usize) -> Result<Took<READ3res>, Refusal>
+    ensures { Answers read_res src.now at (view result) }
 {
-    match open_at(src, at) {
-        Opening::Refused(r) => Read3resRead::Refused(r),
-        Opening::Open => read3res_at(src, at),
-    }
+    open_at(src, at)?;
+    read3res_at(src, at)
 }
 
-pub fn write_read3res(src: &[u8], x: READ3res, out: &mut [u8], at: usize) -> Wrote
+pub fn write_read3res(src: &[u8], x: READ3res, out: &mut [u8], at: usize) -> Result<usize, Refusal>
     ensures { Writes read_res src.now x at out.old (view_wrote result) out.new }
 {
-    let w = place(
+    let end = place(
         src.len(),
         read3res_inside(src, x),
         read3res_size(x),
         out.len(),
         at,
-    );
-    let Wrote::Done(_) = w else {
-        return w;
-    };
+    )?;
     put_read3res(src, x, &mut out[at..]);
-    w
+    Ok(end)
 }

@@ -8,16 +8,15 @@ ghost use Rattle.xdr.specs.Meaning.Formats.{bytes};
 ghost use Rattle.xdr.specs.Meaning.Sizes.{OfSize};
 ghost use Rattle.xdr.specs.Meaning.Public.{laid, Answers, Writes, laid_of};
 ghost use Rattle.xdr.specs.Meaning.Marks.{MarksAre};
-ghost use Rattle.xdr.specs.Meaning.Views.{view_wrote, view_marks};
+ghost use Rattle.xdr.specs.Meaning.Views.{view_found, view, view_wrote, view_marks};
 ghost use Rattle.xdr.specs.Laws.Fields.{Lays};
 ghost use Rattle.nfs.specs.Meaning.Dir.{nfs_fh};
 ghost use Rattle.nfsattr.specs.Meaning.Attr.{wcc-data};
 ghost use Rattle.nfsattr.specs.Meaning.Stat.{nfsstat};
 ghost use Rattle.nfsdata.specs.Laws.Write.{write_args_size, write_res_size};
-ghost use Rattle.nfsdata.specs.Meaning.Write.{stable-how, stable_how_number, found_stable_how, stable_how_all, lost_stable_how, view_stable_how, lost_write3args, view_write3args, write_args, lost_write3resok, view_write3resok, write_resok, lost_write3resfail, view_write3resfail, write_resfail, lost_write3res, view_write3res, write_res};
+ghost use Rattle.nfsdata.specs.Meaning.Write.{stable-how, stable_how_number, stable_how_all, write_args, write_resok, write_resfail, write_res};
 
-use nfs::dir::{NfsFh3Read, nfs_fh3, nfs_fh3_at, nfs_fh3_inside, nfs_fh3_size, put_nfs_fh3};
-use nfsattr::answer::{Nfsstat3Read, WccDataRead};
+use nfs::dir::{nfs_fh3, nfs_fh3_at, nfs_fh3_inside, nfs_fh3_size, put_nfs_fh3};
 use nfsattr::attr::{count3, offset3, wcc_data, writeverf3};
 use nfsattr::inner::attr::wcc_data_at;
 use nfsattr::inner::stat::nfsstat3_at;
@@ -25,20 +24,14 @@ use nfsattr::put::attr::{put_wcc_data, wcc_data_size};
 use nfsattr::put::stat::put_nfsstat3;
 use nfsattr::stat::{nfsfail3, nfsstat3};
 use xdr::inner::{opaque_at, opaque_size, put_opaque, put_u32, put_u64, u32_at, u64_at};
-use xdr::order::{Opening, open_at, place};
-use xdr::{MOST, Marks, Piece, PieceRead, Refusal, U32Read, U64Read, Wrote, inside, write_u32};
+use xdr::order::{open_at, place};
+use xdr::{MOST, Marks, Piece, Refusal, Took, inside, write_u32};
 
 #[derive(Clone, Copy)]
 pub enum stable_how {
     UNSTABLE,
     DATA_SYNC,
     FILE_SYNC,
-}
-
-#[derive(Clone, Copy)]
-pub enum StableHowFound {
-    None,
-    Is(stable_how),
 }
 
 impl stable_how {
@@ -60,47 +53,30 @@ impl stable_how {
         }
     }
 
-    pub fn of(v: u32) -> StableHowFound
-        ensures { found_stable_how result ≡ among stable_how_number stable_how_all v }
+    pub fn of(v: u32) -> Option<stable_how>
+        ensures { view_found result ≡ among stable_how_number stable_how_all v }
     {
         match v {
-            0 => StableHowFound::Is(stable_how::UNSTABLE),
-            1 => StableHowFound::Is(stable_how::DATA_SYNC),
-            2 => StableHowFound::Is(stable_how::FILE_SYNC),
-            _ => StableHowFound::None,
+            0 => Some(stable_how::UNSTABLE),
+            1 => Some(stable_how::DATA_SYNC),
+            2 => Some(stable_how::FILE_SYNC),
+            _ => None,
         }
     }
 }
 
-#[derive(Clone, Copy)]
-pub enum StableHowRead {
-    Refused(Refusal),
-    Took { value: stable_how, next: usize },
-}
-
-impl StableHowRead {
-    pub fn refusal(self) -> Refusal
-        ensures { result ≡ lost_stable_how self }
-    {
-        match self {
-            StableHowRead::Refused(r) => r,
-            StableHowRead::Took { value: _, next: _ } => Refusal::PastEnd,
-        }
-    }
-}
-
-pub fn stable_how_at(src: &[u8], at: usize) -> StableHowRead
-    ensures { view_stable_how result ≡ stable-how.kind.read src.now at }
+pub fn stable_how_at(src: &[u8], at: usize) -> Result<Took<stable_how>, Refusal>
+    ensures { view result ≡ stable-how.kind.read src.now at }
 {
-    let r1 = u32_at(src, at);
-    let U32Read::Took { value: v, next: n } = r1 else {
-        return StableHowRead::Refused(r1.refusal());
+    let v = u32_at(src, at)?;
+    let Some(x) = stable_how::of(v.value) else {
+        return Err(Refusal::Undeclared(at));
     };
-    let f = stable_how::of(v);
-    let StableHowFound::Is(x) = f else {
-        return StableHowRead::Refused(Refusal::Undeclared(at));
-    };
-    StableHowRead::Took { value: x, next: n }
+    Ok(Took {
+        value: x,
+        next: v.next,
+        plain: true,
+    })
 }
 
 pub fn put_stable_how(v: stable_how, out: &mut [u8])
@@ -109,16 +85,14 @@ pub fn put_stable_how(v: stable_how, out: &mut [u8])
     put_u32(v.number(), out);
 }
 
-pub fn read_stable_how(src: &[u8], at: usize) -> StableHowRead
-    ensures { Answers (exactly stable-how) src.now at (view_stable_how result) }
+pub fn read_stable_how(src: &[u8], at: usize) -> Result<Took<stable_how>, Refusal>
+    ensures { Answers (exactly stable-how) src.now at (view result) }
 {
-    match open_at(src, at) {
-        Opening::Refused(r) => StableHowRead::Refused(r),
-        Opening::Open => stable_how_at(src, at),
-    }
+    open_at(src, at)?;
+    stable_how_at(src, at)
 }
 
-pub fn write_stable_how(v: stable_how, out: &mut [u8], at: usize) -> Wrote
+pub fn write_stable_how(v: stable_how, out: &mut [u8], at: usize) -> Result<usize, Refusal>
     ensures { Writes (exactly stable-how) [] v at out.old (view_wrote result) out.new }
 {
     write_u32(v.number(), out, at)
@@ -133,152 +107,53 @@ pub struct WRITE3args {
     pub data: Piece,
 }
 
-#[derive(Clone, Copy)]
-pub enum Write3argsRead {
-    Refused(Refusal),
-    Took {
-        value: WRITE3args,
-        next: usize,
-        plain: bool,
-    },
-}
-
-impl Write3argsRead {
-    pub fn refusal(self) -> Refusal
-        ensures { result ≡ lost_write3args self }
-    {
-        match self {
-            Write3argsRead::Refused(r) => r,
-            Write3argsRead::Took {
-                value: _,
-                next: _,
-                plain: _,
-            } => Refusal::PastEnd,
-        }
-    }
-}
-
 // Where not all of its fields are there.
-fn write3args_cut(src: &[u8], at: usize) -> Write3argsRead
-    ensures { view_write3args result ≡ write_args.held.read src.now at }
+fn write3args_cut(src: &[u8], at: usize) -> Result<Took<WRITE3args>, Refusal>
+    ensures { view result ≡ write_args.held.read src.now at }
 {
-    let r1 = nfs_fh3_at(src, at);
-    let NfsFh3Read::Took {
-        value: file,
-        next: n1,
-        plain: p1,
-    } = r1
-    else {
-        return Write3argsRead::Refused(r1.refusal());
-    };
-    let r2 = u64_at(src, n1);
-    let U64Read::Took {
-        value: offset,
-        next: n2,
-    } = r2
-    else {
-        return Write3argsRead::Refused(r2.refusal());
-    };
-    let r3 = u32_at(src, n2);
-    let U32Read::Took {
-        value: count,
-        next: n3,
-    } = r3
-    else {
-        return Write3argsRead::Refused(r3.refusal());
-    };
-    let r4 = stable_how_at(src, n3);
-    let StableHowRead::Took {
-        value: stable,
-        next: n4,
-    } = r4
-    else {
-        return Write3argsRead::Refused(r4.refusal());
-    };
-    let r5 = opaque_at(src, n4);
-    let PieceRead::Took {
-        value: data,
-        next: n5,
-        plain: p5,
-    } = r5
-    else {
-        return Write3argsRead::Refused(r5.refusal());
-    };
-    Write3argsRead::Took {
+    let file = nfs_fh3_at(src, at)?;
+    let offset = u64_at(src, file.next)?;
+    let count = u32_at(src, offset.next)?;
+    let stable = stable_how_at(src, count.next)?;
+    let data = opaque_at(src, stable.next)?;
+    Ok(Took {
         value: WRITE3args {
-            file,
-            offset,
-            count,
-            stable,
-            data,
+            file: file.value,
+            offset: offset.value,
+            count: count.value,
+            stable: stable.value,
+            data: data.value,
         },
-        next: n5,
-        plain: p1 & p5,
-    }
+        next: data.next,
+        plain: file.plain & offset.plain & count.plain & stable.plain & data.plain,
+    })
 }
 
-pub fn write3args_at(src: &[u8], at: usize) -> Write3argsRead
-    ensures { view_write3args result ≡ write_args.held.read src.now at }
+pub fn write3args_at(src: &[u8], at: usize) -> Result<Took<WRITE3args>, Refusal>
+    ensures { view result ≡ write_args.held.read src.now at }
 {
-    let r1 = nfs_fh3_at(src, at);
-    let NfsFh3Read::Took {
-        value: file,
-        next: n1,
-        plain: p1,
-    } = r1
-    else {
-        return Write3argsRead::Refused(r1.refusal());
-    };
+    let file = nfs_fh3_at(src, at)?;
     if src.len() < 20 {
         return write3args_cut(src, at);
     }
-    if src.len() - 20 < n1 {
+    if src.len() - 20 < file.next {
         return write3args_cut(src, at);
     }
-    let r2 = u64_at(src, n1);
-    let U64Read::Took {
-        value: offset,
-        next: n2,
-    } = r2
-    else {
-        return Write3argsRead::Refused(r2.refusal());
-    };
-    let r3 = u32_at(src, n2);
-    let U32Read::Took {
-        value: count,
-        next: n3,
-    } = r3
-    else {
-        return Write3argsRead::Refused(r3.refusal());
-    };
-    let r4 = stable_how_at(src, n3);
-    let StableHowRead::Took {
-        value: stable,
-        next: n4,
-    } = r4
-    else {
-        return Write3argsRead::Refused(r4.refusal());
-    };
-    let r5 = opaque_at(src, n4);
-    let PieceRead::Took {
-        value: data,
-        next: n5,
-        plain: p5,
-    } = r5
-    else {
-        return Write3argsRead::Refused(r5.refusal());
-    };
-    Write3argsRead::Took {
+    let offset = u64_at(src, file.next)?;
+    let count = u32_at(src, offset.next)?;
+    let stable = stable_how_at(src, count.next)?;
+    let data = opaque_at(src, stable.next)?;
+    Ok(Took {
         value: WRITE3args {
-            file,
-            offset,
-            count,
-            stable,
-            data,
+            file: file.value,
+            offset: offset.value,
+            count: count.value,
+            stable: stable.value,
+            data: data.value,
         },
-        next: n5,
-        plain: p1 & p5,
-    }
+        next: data.next,
+        plain: file.plain & offset.plain & count.plain & stable.plain & data.plain,
+    })
 }
 
 impl WRITE3args {
@@ -377,30 +252,30 @@ pub fn put_write3args(src: &[u8], x: WRITE3args, out: &mut [u8])
     put_write3args_1(src, f1, f2, f3, f4, f5, out);
 }
 
-pub fn read_write3args(src: &[u8], at: usize) -> Write3argsRead
-    ensures { Answers write_args src.now at (view_write3args result) }
+pub fn read_write3args(src: &[u8], at: usize) -> Result<Took<WRITE3args>, Refusal>
+    ensures { Answers write_args src.now at (view result) }
 {
-    match open_at(src, at) {
-        Opening::Refused(r) => Write3argsRead::Refused(r),
-        Opening::Open => write3args_at(src, at),
-    }
+    open_at(src, at)?;
+    write3args_at(src, at)
 }
 
-pub fn write_write3args(src: &[u8], x: WRITE3args, out: &mut [u8], at: usize) -> Wrote
+pub fn write_write3args(
+    src: &[u8],
+    x: WRITE3args,
+    out: &mut [u8],
+    at: usize,
+) -> Result<usize, Refusal>
     ensures { Writes write_args src.now x at out.old (view_wrote result) out.new }
 {
-    let w = place(
+    let end = place(
         src.len(),
         write3args_inside(src, x),
         write3args_size(x),
         out.len(),
         at,
-    );
-    let Wrote::Done(_) = w else {
-        return w;
-    };
+    )?;
     put_write3args(src, x, &mut out[at..]);
-    w
+    Ok(end)
 }
 
 #[derive(Clone, Copy)]
@@ -411,77 +286,23 @@ pub struct WRITE3resok {
     pub verf: writeverf3,
 }
 
-#[derive(Clone, Copy)]
-pub enum Write3resokRead {
-    Refused(Refusal),
-    Took {
-        value: WRITE3resok,
-        next: usize,
-        plain: bool,
-    },
-}
-
-impl Write3resokRead {
-    pub fn refusal(self) -> Refusal
-        ensures { result ≡ lost_write3resok self }
-    {
-        match self {
-            Write3resokRead::Refused(r) => r,
-            Write3resokRead::Took {
-                value: _,
-                next: _,
-                plain: _,
-            } => Refusal::PastEnd,
-        }
-    }
-}
-
-pub fn write3resok_at(src: &[u8], at: usize) -> Write3resokRead
-    ensures { view_write3resok result ≡ write_resok.kind.read src.now at }
+pub fn write3resok_at(src: &[u8], at: usize) -> Result<Took<WRITE3resok>, Refusal>
+    ensures { view result ≡ write_resok.kind.read src.now at }
 {
-    let r1 = wcc_data_at(src, at);
-    let WccDataRead::Took {
-        value: file_wcc,
-        next: n1,
-        plain: p1,
-    } = r1
-    else {
-        return Write3resokRead::Refused(r1.refusal());
-    };
-    let r2 = u32_at(src, n1);
-    let U32Read::Took {
-        value: count,
-        next: n2,
-    } = r2
-    else {
-        return Write3resokRead::Refused(r2.refusal());
-    };
-    let r3 = stable_how_at(src, n2);
-    let StableHowRead::Took {
-        value: committed,
-        next: n3,
-    } = r3
-    else {
-        return Write3resokRead::Refused(r3.refusal());
-    };
-    let r4 = u64_at(src, n3);
-    let U64Read::Took {
-        value: verf,
-        next: n4,
-    } = r4
-    else {
-        return Write3resokRead::Refused(r4.refusal());
-    };
-    Write3resokRead::Took {
+    let file_wcc = wcc_data_at(src, at)?;
+    let count = u32_at(src, file_wcc.next)?;
+    let committed = stable_how_at(src, count.next)?;
+    let verf = u64_at(src, committed.next)?;
+    Ok(Took {
         value: WRITE3resok {
-            file_wcc,
-            count,
-            committed,
-            verf,
+            file_wcc: file_wcc.value,
+            count: count.value,
+            committed: committed.value,
+            verf: verf.value,
         },
-        next: n4,
-        plain: p1,
-    }
+        next: verf.next,
+        plain: file_wcc.plain & count.plain & committed.plain & verf.plain,
+    })
 }
 
 pub fn write3resok_size(v: WRITE3resok) -> usize
@@ -540,48 +361,17 @@ pub struct WRITE3resfail {
     pub file_wcc: wcc_data,
 }
 
-#[derive(Clone, Copy)]
-pub enum Write3resfailRead {
-    Refused(Refusal),
-    Took {
-        value: WRITE3resfail,
-        next: usize,
-        plain: bool,
-    },
-}
-
-impl Write3resfailRead {
-    pub fn refusal(self) -> Refusal
-        ensures { result ≡ lost_write3resfail self }
-    {
-        match self {
-            Write3resfailRead::Refused(r) => r,
-            Write3resfailRead::Took {
-                value: _,
-                next: _,
-                plain: _,
-            } => Refusal::PastEnd,
-        }
-    }
-}
-
-pub fn write3resfail_at(src: &[u8], at: usize) -> Write3resfailRead
-    ensures { view_write3resfail result ≡ write_resfail.kind.read src.now at }
+pub fn write3resfail_at(src: &[u8], at: usize) -> Result<Took<WRITE3resfail>, Refusal>
+    ensures { view result ≡ write_resfail.kind.read src.now at }
 {
-    let r1 = wcc_data_at(src, at);
-    let WccDataRead::Took {
-        value: file_wcc,
-        next: n1,
-        plain: p1,
-    } = r1
-    else {
-        return Write3resfailRead::Refused(r1.refusal());
-    };
-    Write3resfailRead::Took {
-        value: WRITE3resfail { file_wcc },
-        next: n1,
-        plain: p1,
-    }
+    let file_wcc = wcc_data_at(src, at)?;
+    Ok(Took {
+        value: WRITE3resfail {
+            file_wcc: file_wcc.value,
+        },
+        next: file_wcc.next,
+        plain: file_wcc.plain,
+    })
 }
 
 pub fn write3resfail_size(v: WRITE3resfail) -> usize
@@ -604,74 +394,26 @@ pub enum WRITE3res {
     Failed(nfsfail3, WRITE3resfail),
 }
 
-#[derive(Clone, Copy)]
-pub enum Write3resRead {
-    Refused(Refusal),
-    Took {
-        value: WRITE3res,
-        next: usize,
-        plain: bool,
-    },
-}
-
-impl Write3resRead {
-    pub fn refusal(self) -> Refusal
-        ensures { result ≡ lost_write3res self }
-    {
-        match self {
-            Write3resRead::Refused(r) => r,
-            Write3resRead::Took {
-                value: _,
-                next: _,
-                plain: _,
-            } => Refusal::PastEnd,
-        }
-    }
-}
-
-pub fn write3res_at(src: &[u8], at: usize) -> Write3resRead
-    ensures { view_write3res result ≡ write_res.held.read src.now at }
+pub fn write3res_at(src: &[u8], at: usize) -> Result<Took<WRITE3res>, Refusal>
+    ensures { view result ≡ write_res.held.read src.now at }
 {
-    let r1 = nfsstat3_at(src, at);
-    let Nfsstat3Read::Took {
-        value: status,
-        next: n1,
-    } = r1
-    else {
-        return Write3resRead::Refused(r1.refusal());
-    };
-    match status {
+    let status = nfsstat3_at(src, at)?;
+    match status.value {
         nfsstat3::NFS3_OK => {
-            let r2 = write3resok_at(src, n1);
-            let Write3resokRead::Took {
-                value: v,
-                next: n2,
-                plain: p2,
-            } = r2
-            else {
-                return Write3resRead::Refused(r2.refusal());
-            };
-            Write3resRead::Took {
-                value: WRITE3res::NFS3_OK(v),
-                next: n2,
-                plain: p2,
-            }
+            let v = write3resok_at(src, status.next)?;
+            Ok(Took {
+                value: WRITE3res::NFS3_OK(v.value),
+                next: v.next,
+                plain: status.plain & v.plain,
+            })
         }
         nfsstat3::Failed(e) => {
-            let r2 = write3resfail_at(src, n1);
-            let Write3resfailRead::Took {
-                value: v,
-                next: n2,
-                plain: p2,
-            } = r2
-            else {
-                return Write3resRead::Refused(r2.refusal());
-            };
-            Write3resRead::Took {
-                value: WRITE3res::Failed(e, v),
-                next: n2,
-                plain: p2,
-            }
+            let v = write3resfail_at(src, status.next)?;
+            Ok(Took {
+                value: WRITE3res::Failed(e, v.value),
+                next: v.next,
+                plain: status.plain & v.plain,
+            })
         }
     }
 }
@@ -743,28 +485,28 @@ pub fn put_write3res(src: &[u8], x: WRITE3res, out: &mut [u8])
     }
 }
 
-pub fn read_write3res(src: &[u8], at: usize) -> Write3resRead
-    ensures { Answers write_res src.now at (view_write3res result) }
+pub fn read_write3res(src: &[u8], at: usize) -> Result<Took<WRITE3res>, Refusal>
+    ensures { Answers write_res src.now at (view result) }
 {
-    match open_at(src, at) {
-        Opening::Refused(r) => Write3resRead::Refused(r),
-        Opening::Open => write3res_at(src, at),
-    }
+    open_at(src, at)?;
+    write3res_at(src, at)
 }
 
-pub fn write_write3res(src: &[u8], x: WRITE3res, out: &mut [u8], at: usize) -> Wrote
+pub fn write_write3res(
+    src: &[u8],
+    x: WRITE3res,
+    out: &mut [u8],
+    at: usize,
+) -> Result<usize, Refusal>
     ensures { Writes write_res src.now x at out.old (view_wrote result) out.new }
 {
-    let w = place(
+    let end = place(
         src.len(),
         write3res_inside(src, x),
         write3res_size(x),
         out.len(),
         at,
-    );
-    let Wrote::Done(_) = w else {
-        return w;
-    };
+    )?;
     put_write3res(src, x, &mut out[at..]);
-    w
+    Ok(end)
 }

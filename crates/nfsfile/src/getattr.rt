@@ -5,70 +5,38 @@ ghost use Rattle.xdr.specs.Meaning.Format.{exactly, ◌⨟◌};
 ghost use Rattle.xdr.specs.Meaning.Sizes.{OfSize};
 ghost use Rattle.xdr.specs.Meaning.Public.{laid_of, Answers, Writes, laid};
 ghost use Rattle.xdr.specs.Meaning.Marks.{MarksAre};
-ghost use Rattle.xdr.specs.Meaning.Views.{view_marks, view_wrote};
+ghost use Rattle.xdr.specs.Meaning.Views.{view, view_marks, view_wrote};
 ghost use Rattle.xdr.specs.Laws.Fields.{Lays};
 ghost use Rattle.nfsattr.specs.Meaning.Stat.{nfsstat};
 ghost use Rattle.nfsfile.specs.Laws.Getattr.{getattr_args_size, getattr_res_size};
-ghost use Rattle.nfsfile.specs.Meaning.Getattr.{lost_getattr3args, view_getattr3args, getattr_args, getattr_resok, lost_getattr3resok, view_getattr3resok, lost_getattr3res, view_getattr3res, getattr_res};
+ghost use Rattle.nfsfile.specs.Meaning.Getattr.{getattr_args, getattr_resok, getattr_res};
 
-use nfs::dir::{NfsFh3Read, nfs_fh3, nfs_fh3_at, nfs_fh3_inside, nfs_fh3_size, put_nfs_fh3};
-use nfsattr::answer::{Fattr3Read, Nfsstat3Read};
+use nfs::dir::{nfs_fh3, nfs_fh3_at, nfs_fh3_inside, nfs_fh3_size, put_nfs_fh3};
 use nfsattr::attr::fattr3;
 use nfsattr::inner::attr::fattr3_at;
 use nfsattr::inner::stat::nfsstat3_at;
 use nfsattr::put::attr::put_fattr3;
 use nfsattr::put::stat::put_nfsstat3;
 use nfsattr::stat::{nfsfail3, nfsstat3};
-use xdr::order::{Opening, open_at, place};
-use xdr::{MOST, Marks, Refusal, Wrote};
+use xdr::order::{open_at, place};
+use xdr::{MOST, Marks, Refusal, Took};
 
 #[derive(Clone, Copy)]
 pub struct GETATTR3args {
     pub object: nfs_fh3,
 }
 
-#[derive(Clone, Copy)]
-pub enum Getattr3argsRead {
-    Refused(Refusal),
-    Took {
-        value: GETATTR3args,
-        next: usize,
-        plain: bool,
-    },
-}
-
-impl Getattr3argsRead {
-    pub fn refusal(self) -> Refusal
-        ensures { result ≡ lost_getattr3args self }
-    {
-        match self {
-            Getattr3argsRead::Refused(r) => r,
-            Getattr3argsRead::Took {
-                value: _,
-                next: _,
-                plain: _,
-            } => Refusal::PastEnd,
-        }
-    }
-}
-
-pub fn getattr3args_at(src: &[u8], at: usize) -> Getattr3argsRead
-    ensures { view_getattr3args result ≡ getattr_args.held.read src.now at }
+pub fn getattr3args_at(src: &[u8], at: usize) -> Result<Took<GETATTR3args>, Refusal>
+    ensures { view result ≡ getattr_args.held.read src.now at }
 {
-    let r1 = nfs_fh3_at(src, at);
-    let NfsFh3Read::Took {
-        value: object,
-        next: n1,
-        plain: p1,
-    } = r1
-    else {
-        return Getattr3argsRead::Refused(r1.refusal());
-    };
-    Getattr3argsRead::Took {
-        value: GETATTR3args { object },
-        next: n1,
-        plain: p1,
-    }
+    let object = nfs_fh3_at(src, at)?;
+    Ok(Took {
+        value: GETATTR3args {
+            object: object.value,
+        },
+        next: object.next,
+        plain: object.plain,
+    })
 }
 
 impl GETATTR3args {
@@ -102,30 +70,30 @@ pub fn put_getattr3args(src: &[u8], x: GETATTR3args, out: &mut [u8])
     put_nfs_fh3(src, f1, out);
 }
 
-pub fn read_getattr3args(src: &[u8], at: usize) -> Getattr3argsRead
-    ensures { Answers getattr_args src.now at (view_getattr3args result) }
+pub fn read_getattr3args(src: &[u8], at: usize) -> Result<Took<GETATTR3args>, Refusal>
+    ensures { Answers getattr_args src.now at (view result) }
 {
-    match open_at(src, at) {
-        Opening::Refused(r) => Getattr3argsRead::Refused(r),
-        Opening::Open => getattr3args_at(src, at),
-    }
+    open_at(src, at)?;
+    getattr3args_at(src, at)
 }
 
-pub fn write_getattr3args(src: &[u8], x: GETATTR3args, out: &mut [u8], at: usize) -> Wrote
+pub fn write_getattr3args(
+    src: &[u8],
+    x: GETATTR3args,
+    out: &mut [u8],
+    at: usize,
+) -> Result<usize, Refusal>
     ensures { Writes getattr_args src.now x at out.old (view_wrote result) out.new }
 {
-    let w = place(
+    let end = place(
         src.len(),
         getattr3args_inside(src, x),
         getattr3args_size(x),
         out.len(),
         at,
-    );
-    let Wrote::Done(_) = w else {
-        return w;
-    };
+    )?;
     put_getattr3args(src, x, &mut out[at..]);
-    w
+    Ok(end)
 }
 
 #[derive(Clone, Copy)]
@@ -143,38 +111,17 @@ impl GETATTR3resok {
     }
 }
 
-#[derive(Clone, Copy)]
-pub enum Getattr3resokRead {
-    Refused(Refusal),
-    Took { value: GETATTR3resok, next: usize },
-}
-
-impl Getattr3resokRead {
-    pub fn refusal(self) -> Refusal
-        ensures { result ≡ lost_getattr3resok self }
-    {
-        match self {
-            Getattr3resokRead::Refused(r) => r,
-            Getattr3resokRead::Took { value: _, next: _ } => Refusal::PastEnd,
-        }
-    }
-}
-
-pub fn getattr3resok_at(src: &[u8], at: usize) -> Getattr3resokRead
-    ensures { view_getattr3resok result ≡ getattr_resok.kind.read src.now at }
+pub fn getattr3resok_at(src: &[u8], at: usize) -> Result<Took<GETATTR3resok>, Refusal>
+    ensures { view result ≡ getattr_resok.kind.read src.now at }
 {
-    let r1 = fattr3_at(src, at);
-    let Fattr3Read::Took {
-        value: obj_attributes,
-        next: n1,
-    } = r1
-    else {
-        return Getattr3resokRead::Refused(r1.refusal());
-    };
-    Getattr3resokRead::Took {
-        value: GETATTR3resok { obj_attributes },
-        next: n1,
-    }
+    let obj_attributes = fattr3_at(src, at)?;
+    Ok(Took {
+        value: GETATTR3resok {
+            obj_attributes: obj_attributes.value,
+        },
+        next: obj_attributes.next,
+        plain: obj_attributes.plain,
+    })
 }
 
 pub fn put_getattr3resok(v: GETATTR3resok, out: &mut [u8])
@@ -190,50 +137,25 @@ pub enum GETATTR3res {
     Failed(nfsfail3),
 }
 
-#[derive(Clone, Copy)]
-pub enum Getattr3resRead {
-    Refused(Refusal),
-    Took { value: GETATTR3res, next: usize },
-}
-
-impl Getattr3resRead {
-    pub fn refusal(self) -> Refusal
-        ensures { result ≡ lost_getattr3res self }
-    {
-        match self {
-            Getattr3resRead::Refused(r) => r,
-            Getattr3resRead::Took { value: _, next: _ } => Refusal::PastEnd,
-        }
-    }
-}
-
-pub fn getattr3res_at(src: &[u8], at: usize) -> Getattr3resRead
-    ensures { view_getattr3res result ≡ getattr_res.held.read src.now at }
+pub fn getattr3res_at(src: &[u8], at: usize) -> Result<Took<GETATTR3res>, Refusal>
+    ensures { view result ≡ getattr_res.held.read src.now at }
 {
-    let r1 = nfsstat3_at(src, at);
-    let Nfsstat3Read::Took {
-        value: status,
-        next: n1,
-    } = r1
-    else {
-        return Getattr3resRead::Refused(r1.refusal());
-    };
-    match status {
+    let status = nfsstat3_at(src, at)?;
+    match status.value {
         nfsstat3::NFS3_OK => {
-            let r2 = getattr3resok_at(src, n1);
-            let Getattr3resokRead::Took { value: v, next: n2 } = r2 else {
-                return Getattr3resRead::Refused(r2.refusal());
-            };
-            Getattr3resRead::Took {
-                value: GETATTR3res::NFS3_OK(v),
-                next: n2,
-            }
+            let v = getattr3resok_at(src, status.next)?;
+            Ok(Took {
+                value: GETATTR3res::NFS3_OK(v.value),
+                next: v.next,
+                plain: status.plain & v.plain,
+            })
         }
         nfsstat3::Failed(e) => {
-            Getattr3resRead::Took {
+            Ok(Took {
                 value: GETATTR3res::Failed(e),
-                next: n1,
-            }
+                next: status.next,
+                plain: status.plain,
+            })
         }
     }
 }
@@ -295,28 +217,28 @@ pub fn put_getattr3res(src: &[u8], x: GETATTR3res, out: &mut [u8])
     }
 }
 
-pub fn read_getattr3res(src: &[u8], at: usize) -> Getattr3resRead
-    ensures { Answers getattr_res src.now at (view_getattr3res result) }
+pub fn read_getattr3res(src: &[u8], at: usize) -> Result<Took<GETATTR3res>, Refusal>
+    ensures { Answers getattr_res src.now at (view result) }
 {
-    match open_at(src, at) {
-        Opening::Refused(r) => Getattr3resRead::Refused(r),
-        Opening::Open => getattr3res_at(src, at),
-    }
+    open_at(src, at)?;
+    getattr3res_at(src, at)
 }
 
-pub fn write_getattr3res(src: &[u8], x: GETATTR3res, out: &mut [u8], at: usize) -> Wrote
+pub fn write_getattr3res(
+    src: &[u8],
+    x: GETATTR3res,
+    out: &mut [u8],
+    at: usize,
+) -> Result<usize, Refusal>
     ensures { Writes getattr_res src.now x at out.old (view_wrote result) out.new }
 {
-    let w = place(
+    let end = place(
         src.len(),
         getattr3res_inside(src, x),
         getattr3res_size(x),
         out.len(),
         at,
-    );
-    let Wrote::Done(_) = w else {
-        return w;
-    };
+    )?;
     put_getattr3res(src, x, &mut out[at..]);
-    w
+    Ok(end)
 }

@@ -14,16 +14,15 @@ pub mod setattr;
 
 // made by tools/generate: names
 pub use getattr::{
-    GETATTR3args, GETATTR3res, GETATTR3resok, Getattr3argsRead, Getattr3resRead, read_getattr3args,
-    read_getattr3res, write_getattr3args, write_getattr3res,
+    GETATTR3args, GETATTR3res, GETATTR3resok, read_getattr3args, read_getattr3res,
+    write_getattr3args, write_getattr3res,
 };
 pub use lookup::{
-    LOOKUP3args, LOOKUP3res, LOOKUP3resfail, LOOKUP3resok, Lookup3argsRead, Lookup3resRead,
-    read_lookup3args, read_lookup3res, write_lookup3args, write_lookup3res,
+    LOOKUP3args, LOOKUP3res, LOOKUP3resfail, LOOKUP3resok, read_lookup3args, read_lookup3res,
+    write_lookup3args, write_lookup3res,
 };
 pub use setattr::{
-    SETATTR3args, SETATTR3res, SETATTR3resfail, SETATTR3resok, Sattrguard3Read, Setattr3argsRead,
-    Setattr3resRead, read_sattrguard3, read_setattr3args, read_setattr3res, sattrguard3,
-    write_sattrguard3, write_setattr3args, write_setattr3res,
+    SETATTR3args, SETATTR3res, SETATTR3resfail, SETATTR3resok, read_sattrguard3, read_setattr3args,
+    read_setattr3res, sattrguard3, write_sattrguard3, write_setattr3args, write_setattr3res,
 };
 // end of names

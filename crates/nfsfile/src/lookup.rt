@@ -4,75 +4,41 @@ ghost use Rattle.std.specs.Prelude.{◌≡◌, length};
 ghost use Rattle.xdr.specs.Meaning.Format.{exactly, ◌⨟◌};
 ghost use Rattle.xdr.specs.Meaning.Public.{laid_of, Answers, Writes, laid};
 ghost use Rattle.xdr.specs.Meaning.Marks.{MarksAre};
-ghost use Rattle.xdr.specs.Meaning.Views.{view_marks, view_wrote};
+ghost use Rattle.xdr.specs.Meaning.Views.{view, view_marks, view_wrote};
 ghost use Rattle.xdr.specs.Laws.Fields.{Lays};
 ghost use Rattle.nfs.specs.Meaning.Dir.{nfs_fh};
 ghost use Rattle.nfsattr.specs.Meaning.Attr.{post-op-attr};
 ghost use Rattle.nfsattr.specs.Meaning.Stat.{nfsstat};
 ghost use Rattle.nfsfile.specs.Laws.Lookup.{lookup_args_size, lookup_resok_size, lookup_res_size};
-ghost use Rattle.nfsfile.specs.Meaning.Lookup.{lost_lookup3args, view_lookup3args, lookup_args, lost_lookup3resok, view_lookup3resok, lookup_resok, lost_lookup3resfail, view_lookup3resfail, lookup_resfail, lost_lookup3res, view_lookup3res, lookup_res};
+ghost use Rattle.nfsfile.specs.Meaning.Lookup.{lookup_args, lookup_resok, lookup_resfail, lookup_res};
 
 use nfs::dir::{
-    Diropargs3Read, NfsFh3Read, diropargs3, diropargs3_at, diropargs3_inside, diropargs3_size,
-    nfs_fh3, nfs_fh3_at, nfs_fh3_inside, nfs_fh3_size, put_diropargs3, put_nfs_fh3,
+    diropargs3, diropargs3_at, diropargs3_inside, diropargs3_size, nfs_fh3, nfs_fh3_at,
+    nfs_fh3_inside, nfs_fh3_size, put_diropargs3, put_nfs_fh3,
 };
-use nfsattr::answer::{Nfsstat3Read, PostOpAttrRead};
 use nfsattr::attr::post_op_attr;
 use nfsattr::inner::attr::post_op_attr_at;
 use nfsattr::inner::stat::nfsstat3_at;
 use nfsattr::put::attr::{post_op_attr_size, put_post_op_attr};
 use nfsattr::put::stat::put_nfsstat3;
 use nfsattr::stat::{nfsfail3, nfsstat3};
-use xdr::order::{Opening, open_at, place};
-use xdr::{MOST, Marks, Refusal, Wrote};
+use xdr::order::{open_at, place};
+use xdr::{MOST, Marks, Refusal, Took};
 
 #[derive(Clone, Copy)]
 pub struct LOOKUP3args {
     pub what: diropargs3,
 }
 
-#[derive(Clone, Copy)]
-pub enum Lookup3argsRead {
-    Refused(Refusal),
-    Took {
-        value: LOOKUP3args,
-        next: usize,
-        plain: bool,
-    },
-}
-
-impl Lookup3argsRead {
-    pub fn refusal(self) -> Refusal
-        ensures { result ≡ lost_lookup3args self }
-    {
-        match self {
-            Lookup3argsRead::Refused(r) => r,
-            Lookup3argsRead::Took {
-                value: _,
-                next: _,
-                plain: _,
-            } => Refusal::PastEnd,
-        }
-    }
-}
-
-pub fn lookup3args_at(src: &[u8], at: usize) -> Lookup3argsRead
-    ensures { view_lookup3args result ≡ lookup_args.held.read src.now at }
+pub fn lookup3args_at(src: &[u8], at: usize) -> Result<Took<LOOKUP3args>, Refusal>
+    ensures { view result ≡ lookup_args.held.read src.now at }
 {
-    let r1 = diropargs3_at(src, at);
-    let Diropargs3Read::Took {
-        value: what,
-        next: n1,
-        plain: p1,
-    } = r1
-    else {
-        return Lookup3argsRead::Refused(r1.refusal());
-    };
-    Lookup3argsRead::Took {
-        value: LOOKUP3args { what },
-        next: n1,
-        plain: p1,
-    }
+    let what = diropargs3_at(src, at)?;
+    Ok(Took {
+        value: LOOKUP3args { what: what.value },
+        next: what.next,
+        plain: what.plain,
+    })
 }
 
 impl LOOKUP3args {
@@ -108,30 +74,30 @@ pub fn put_lookup3args(src: &[u8], x: LOOKUP3args, out: &mut [u8])
     put_diropargs3(src, f1, out);
 }
 
-pub fn read_lookup3args(src: &[u8], at: usize) -> Lookup3argsRead
-    ensures { Answers lookup_args src.now at (view_lookup3args result) }
+pub fn read_lookup3args(src: &[u8], at: usize) -> Result<Took<LOOKUP3args>, Refusal>
+    ensures { Answers lookup_args src.now at (view result) }
 {
-    match open_at(src, at) {
-        Opening::Refused(r) => Lookup3argsRead::Refused(r),
-        Opening::Open => lookup3args_at(src, at),
-    }
+    open_at(src, at)?;
+    lookup3args_at(src, at)
 }
 
-pub fn write_lookup3args(src: &[u8], x: LOOKUP3args, out: &mut [u8], at: usize) -> Wrote
+pub fn write_lookup3args(
+    src: &[u8],
+    x: LOOKUP3args,
+    out: &mut [u8],
+    at: usize,
+) -> Result<usize, Refusal>
     ensures { Writes lookup_args src.now x at out.old (view_wrote result) out.new }
 {
-    let w = place(
+    let end = place(
         src.len(),
         lookup3args_inside(src, x),
         lookup3args_size(x),
         out.len(),
         at,
-    );
-    let Wrote::Done(_) = w else {
-        return w;
-    };
+    )?;
     put_lookup3args(src, x, &mut out[at..]);
-    w
+    Ok(end)
 }
 
 #[derive(Clone, Copy)]
@@ -141,70 +107,21 @@ pub struct LOOKUP3resok {
     pub dir_attributes: post_op_attr,
 }
 
-#[derive(Clone, Copy)]
-pub enum Lookup3resokRead {
-    Refused(Refusal),
-    Took {
-        value: LOOKUP3resok,
-        next: usize,
-        plain: bool,
-    },
-}
-
-impl Lookup3resokRead {
-    pub fn refusal(self) -> Refusal
-        ensures { result ≡ lost_lookup3resok self }
-    {
-        match self {
-            Lookup3resokRead::Refused(r) => r,
-            Lookup3resokRead::Took {
-                value: _,
-                next: _,
-                plain: _,
-            } => Refusal::PastEnd,
-        }
-    }
-}
-
-pub fn lookup3resok_at(src: &[u8], at: usize) -> Lookup3resokRead
-    ensures { view_lookup3resok result ≡ lookup_resok.held.read src.now at }
+pub fn lookup3resok_at(src: &[u8], at: usize) -> Result<Took<LOOKUP3resok>, Refusal>
+    ensures { view result ≡ lookup_resok.held.read src.now at }
 {
-    let r1 = nfs_fh3_at(src, at);
-    let NfsFh3Read::Took {
-        value: object,
-        next: n1,
-        plain: p1,
-    } = r1
-    else {
-        return Lookup3resokRead::Refused(r1.refusal());
-    };
-    let r2 = post_op_attr_at(src, n1);
-    let PostOpAttrRead::Took {
-        value: obj_attributes,
-        next: n2,
-        plain: p2,
-    } = r2
-    else {
-        return Lookup3resokRead::Refused(r2.refusal());
-    };
-    let r3 = post_op_attr_at(src, n2);
-    let PostOpAttrRead::Took {
-        value: dir_attributes,
-        next: n3,
-        plain: p3,
-    } = r3
-    else {
-        return Lookup3resokRead::Refused(r3.refusal());
-    };
-    Lookup3resokRead::Took {
+    let object = nfs_fh3_at(src, at)?;
+    let obj_attributes = post_op_attr_at(src, object.next)?;
+    let dir_attributes = post_op_attr_at(src, obj_attributes.next)?;
+    Ok(Took {
         value: LOOKUP3resok {
-            object,
-            obj_attributes,
-            dir_attributes,
+            object: object.value,
+            obj_attributes: obj_attributes.value,
+            dir_attributes: dir_attributes.value,
         },
-        next: n3,
-        plain: p1 & p2 & p3,
-    }
+        next: dir_attributes.next,
+        plain: object.plain & obj_attributes.plain & dir_attributes.plain,
+    })
 }
 
 impl LOOKUP3resok {
@@ -278,48 +195,17 @@ pub struct LOOKUP3resfail {
     pub dir_attributes: post_op_attr,
 }
 
-#[derive(Clone, Copy)]
-pub enum Lookup3resfailRead {
-    Refused(Refusal),
-    Took {
-        value: LOOKUP3resfail,
-        next: usize,
-        plain: bool,
-    },
-}
-
-impl Lookup3resfailRead {
-    pub fn refusal(self) -> Refusal
-        ensures { result ≡ lost_lookup3resfail self }
-    {
-        match self {
-            Lookup3resfailRead::Refused(r) => r,
-            Lookup3resfailRead::Took {
-                value: _,
-                next: _,
-                plain: _,
-            } => Refusal::PastEnd,
-        }
-    }
-}
-
-pub fn lookup3resfail_at(src: &[u8], at: usize) -> Lookup3resfailRead
-    ensures { view_lookup3resfail result ≡ lookup_resfail.kind.read src.now at }
+pub fn lookup3resfail_at(src: &[u8], at: usize) -> Result<Took<LOOKUP3resfail>, Refusal>
+    ensures { view result ≡ lookup_resfail.kind.read src.now at }
 {
-    let r1 = post_op_attr_at(src, at);
-    let PostOpAttrRead::Took {
-        value: dir_attributes,
-        next: n1,
-        plain: p1,
-    } = r1
-    else {
-        return Lookup3resfailRead::Refused(r1.refusal());
-    };
-    Lookup3resfailRead::Took {
-        value: LOOKUP3resfail { dir_attributes },
-        next: n1,
-        plain: p1,
-    }
+    let dir_attributes = post_op_attr_at(src, at)?;
+    Ok(Took {
+        value: LOOKUP3resfail {
+            dir_attributes: dir_attributes.value,
+        },
+        next: dir_attributes.next,
+        plain: dir_attributes.plain,
+    })
 }
 
 pub fn lookup3resfail_size(v: LOOKUP3resfail) -> usize
@@ -342,74 +228,26 @@ pub enum LOOKUP3res {
     Failed(nfsfail3, LOOKUP3resfail),
 }
 
-#[derive(Clone, Copy)]
-pub enum Lookup3resRead {
-    Refused(Refusal),
-    Took {
-        value: LOOKUP3res,
-        next: usize,
-        plain: bool,
-    },
-}
-
-impl Lookup3resRead {
-    pub fn refusal(self) -> Refusal
-        ensures { result ≡ lost_lookup3res self }
-    {
-        match self {
-            Lookup3resRead::Refused(r) => r,
-            Lookup3resRead::Took {
-                value: _,
-                next: _,
-                plain: _,
-            } => Refusal::PastEnd,
-        }
-    }
-}
-
-pub fn lookup3res_at(src: &[u8], at: usize) -> Lookup3resRead
-    ensures { view_lookup3res result ≡ lookup_res.held.read src.now at }
+pub fn lookup3res_at(src: &[u8], at: usize) -> Result<Took<LOOKUP3res>, Refusal>
+    ensures { view result ≡ lookup_res.held.read src.now at }
 {
-    let r1 = nfsstat3_at(src, at);
-    let Nfsstat3Read::Took {
-        value: status,
-        next: n1,
-    } = r1
-    else {
-        return Lookup3resRead::Refused(r1.refusal());
-    };
-    match status {
+    let status = nfsstat3_at(src, at)?;
+    match status.value {
         nfsstat3::NFS3_OK => {
-            let r2 = lookup3resok_at(src, n1);
-            let Lookup3resokRead::Took {
-                value: v,
-                next: n2,
-                plain: p2,
-            } = r2
-            else {
-                return Lookup3resRead::Refused(r2.refusal());
-            };
-            Lookup3resRead::Took {
-                value: LOOKUP3res::NFS3_OK(v),
-                next: n2,
-                plain: p2,
-            }
+            let v = lookup3resok_at(src, status.next)?;
+            Ok(Took {
+                value: LOOKUP3res::NFS3_OK(v.value),
+                next: v.next,
+                plain: status.plain & v.plain,
+            })
         }
         nfsstat3::Failed(e) => {
-            let r2 = lookup3resfail_at(src, n1);
-            let Lookup3resfailRead::Took {
-                value: v,
-                next: n2,
-                plain: p2,
-            } = r2
-            else {
-                return Lookup3resRead::Refused(r2.refusal());
-            };
-            Lookup3resRead::Took {
-                value: LOOKUP3res::Failed(e, v),
-                next: n2,
-                plain: p2,
-            }
+            let v = lookup3resfail_at(src, status.next)?;
+            Ok(Took {
+                value: LOOKUP3res::Failed(e, v.value),
+                next: v.next,
+                plain: status.plain & v.plain,
+            })
         }
     }
 }
@@ -481,28 +319,28 @@ pub fn put_lookup3res(src: &[u8], x: LOOKUP3res, out: &mut [u8])
     }
 }
 
-pub fn read_lookup3res(src: &[u8], at: usize) -> Lookup3resRead
-    ensures { Answers lookup_res src.now at (view_lookup3res result) }
+pub fn read_lookup3res(src: &[u8], at: usize) -> Result<Took<LOOKUP3res>, Refusal>
+    ensures { Answers lookup_res src.now at (view result) }
 {
-    match open_at(src, at) {
-        Opening::Refused(r) => Lookup3resRead::Refused(r),
-        Opening::Open => lookup3res_at(src, at),
-    }
+    open_at(src, at)?;
+    lookup3res_at(src, at)
 }
 
-pub fn write_lookup3res(src: &[u8], x: LOOKUP3res, out: &mut [u8], at: usize) -> Wrote
+pub fn write_lookup3res(
+    src: &[u8],
+    x: LOOKUP3res,
+    out: &mut [u8],
+    at: usize,
+) -> Result<usize, Refusal>
     ensures { Writes lookup_res src.now x at out.old (view_wrote result) out.new }
 {
-    let w = place(
+    let end = place(
         src.len(),
         lookup3res_inside(src, x),
         lookup3res_size(x),
         out.len(),
         at,
-    );
-    let Wrote::Done(_) = w else {
-        return w;
-    };
+    )?;
     put_lookup3res(src, x, &mut out[at..]);
-    w
+    Ok(end)
 }

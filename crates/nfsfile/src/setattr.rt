@@ -5,21 +5,19 @@ ghost use Rattle.xdr.specs.Meaning.Items.{flag};
 ghost use Rattle.xdr.specs.Meaning.Format.{exactly, ◌⨟◌};
 ghost use Rattle.xdr.specs.Meaning.Public.{laid, Answers, Writes, laid_of};
 ghost use Rattle.xdr.specs.Meaning.Marks.{MarksAre};
-ghost use Rattle.xdr.specs.Meaning.Views.{view_wrote, view_marks};
+ghost use Rattle.xdr.specs.Meaning.Views.{view, view_wrote, view_marks};
 ghost use Rattle.xdr.specs.Laws.Fields.{Lays};
 ghost use Rattle.nfs.specs.Meaning.Dir.{nfs_fh};
 ghost use Rattle.nfs.specs.Meaning.Set.{sattr};
 ghost use Rattle.nfsattr.specs.Meaning.Attr.{nfstime};
 ghost use Rattle.nfsattr.specs.Meaning.Stat.{nfsstat};
 ghost use Rattle.nfsfile.specs.Laws.Setattr.{setattr_args_size, setattr_res_size};
-ghost use Rattle.nfsfile.specs.Meaning.Setattr.{lost_sattrguard3, view_sattrguard3, sattrguard, lost_setattr3args, view_setattr3args, setattr_args, lost_setattr3resok, view_setattr3resok, setattr_resok, lost_setattr3resfail, view_setattr3resfail, setattr_resfail, lost_setattr3res, view_setattr3res, setattr_res};
+ghost use Rattle.nfsfile.specs.Meaning.Setattr.{sattrguard, setattr_args, setattr_resok, setattr_resfail, setattr_res};
 
-use nfs::answer::Sattr3Read;
-use nfs::dir::{NfsFh3Read, nfs_fh3, nfs_fh3_at, nfs_fh3_inside, nfs_fh3_size, put_nfs_fh3};
+use nfs::dir::{nfs_fh3, nfs_fh3_at, nfs_fh3_inside, nfs_fh3_size, put_nfs_fh3};
 use nfs::inner::set::sattr3_at;
 use nfs::put::set::{put_sattr3, sattr3_size};
 use nfs::set::sattr3;
-use nfsattr::answer::{Nfsstat3Read, Nfstime3Read, WccDataRead};
 use nfsattr::attr::{nfstime3, wcc_data};
 use nfsattr::inner::attr::{nfstime3_at, wcc_data_at};
 use nfsattr::inner::stat::nfsstat3_at;
@@ -27,8 +25,8 @@ use nfsattr::put::attr::{put_nfstime3, put_wcc_data, wcc_data_size};
 use nfsattr::put::stat::put_nfsstat3;
 use nfsattr::stat::{nfsfail3, nfsstat3};
 use xdr::inner::{bool_at, put_bool};
-use xdr::order::{Opening, open_at, place, room};
-use xdr::{BoolRead, MOST, Marks, Refusal, Wrote};
+use xdr::order::{open_at, place, room};
+use xdr::{MOST, Marks, Refusal, Took};
 
 #[derive(Clone, Copy)]
 pub enum sattrguard3 {
@@ -36,59 +34,23 @@ pub enum sattrguard3 {
     obj_ctime(nfstime3),
 }
 
-#[derive(Clone, Copy)]
-pub enum Sattrguard3Read {
-    Refused(Refusal),
-    Took {
-        value: sattrguard3,
-        next: usize,
-        plain: bool,
-    },
-}
-
-impl Sattrguard3Read {
-    pub fn refusal(self) -> Refusal
-        ensures { result ≡ lost_sattrguard3 self }
-    {
-        match self {
-            Sattrguard3Read::Refused(r) => r,
-            Sattrguard3Read::Took {
-                value: _,
-                next: _,
-                plain: _,
-            } => Refusal::PastEnd,
-        }
-    }
-}
-
-pub fn sattrguard3_at(src: &[u8], at: usize) -> Sattrguard3Read
-    ensures { view_sattrguard3 result ≡ sattrguard.kind.read src.now at }
+pub fn sattrguard3_at(src: &[u8], at: usize) -> Result<Took<sattrguard3>, Refusal>
+    ensures { view result ≡ sattrguard.kind.read src.now at }
 {
-    let r1 = bool_at(src, at);
-    let BoolRead::Took {
-        value: follows,
-        next: n1,
-        plain: p1,
-    } = r1
-    else {
-        return Sattrguard3Read::Refused(r1.refusal());
-    };
-    if !follows {
-        return Sattrguard3Read::Took {
+    let follows = bool_at(src, at)?;
+    if !follows.value {
+        return Ok(Took {
             value: sattrguard3::Void,
-            next: n1,
-            plain: p1,
-        };
+            next: follows.next,
+            plain: follows.plain,
+        });
     }
-    let r2 = nfstime3_at(src, n1);
-    let Nfstime3Read::Took { value: v, next: n2 } = r2 else {
-        return Sattrguard3Read::Refused(r2.refusal());
-    };
-    Sattrguard3Read::Took {
-        value: sattrguard3::obj_ctime(v),
-        next: n2,
-        plain: p1,
-    }
+    let v = nfstime3_at(src, follows.next)?;
+    Ok(Took {
+        value: sattrguard3::obj_ctime(v.value),
+        next: v.next,
+        plain: follows.plain & v.plain,
+    })
 }
 
 pub fn sattrguard3_size(v: sattrguard3) -> usize
@@ -122,24 +84,19 @@ pub fn put_sattrguard3(v: sattrguard3, out: &mut [u8])
     }
 }
 
-pub fn read_sattrguard3(src: &[u8], at: usize) -> Sattrguard3Read
-    ensures { Answers (exactly sattrguard) src.now at (view_sattrguard3 result) }
+pub fn read_sattrguard3(src: &[u8], at: usize) -> Result<Took<sattrguard3>, Refusal>
+    ensures { Answers (exactly sattrguard) src.now at (view result) }
 {
-    match open_at(src, at) {
-        Opening::Refused(r) => Sattrguard3Read::Refused(r),
-        Opening::Open => sattrguard3_at(src, at),
-    }
+    open_at(src, at)?;
+    sattrguard3_at(src, at)
 }
 
-pub fn write_sattrguard3(v: sattrguard3, out: &mut [u8], at: usize) -> Wrote
+pub fn write_sattrguard3(v: sattrguard3, out: &mut [u8], at: usize) -> Result<usize, Refusal>
     ensures { Writes (exactly sattrguard) [] v at out.old (view_wrote result) out.new }
 {
-    let w = room(out.len(), at, sattrguard3_size(v));
-    let Wrote::Done(_) = w else {
-        return w;
-    };
+    let end = room(out.len(), at, sattrguard3_size(v))?;
     put_sattrguard3(v, &mut out[at..]);
-    w
+    Ok(end)
 }
 
 #[derive(Clone, Copy)]
@@ -149,70 +106,21 @@ pub struct SETATTR3args {
     pub guard: sattrguard3,
 }
 
-#[derive(Clone, Copy)]
-pub enum Setattr3argsRead {
-    Refused(Refusal),
-    Took {
-        value: SETATTR3args,
-        next: usize,
-        plain: bool,
-    },
-}
-
-impl Setattr3argsRead {
-    pub fn refusal(self) -> Refusal
-        ensures { result ≡ lost_setattr3args self }
-    {
-        match self {
-            Setattr3argsRead::Refused(r) => r,
-            Setattr3argsRead::Took {
-                value: _,
-                next: _,
-                plain: _,
-            } => Refusal::PastEnd,
-        }
-    }
-}
-
-pub fn setattr3args_at(src: &[u8], at: usize) -> Setattr3argsRead
-    ensures { view_setattr3args result ≡ setattr_args.held.read src.now at }
+pub fn setattr3args_at(src: &[u8], at: usize) -> Result<Took<SETATTR3args>, Refusal>
+    ensures { view result ≡ setattr_args.held.read src.now at }
 {
-    let r1 = nfs_fh3_at(src, at);
-    let NfsFh3Read::Took {
-        value: object,
-        next: n1,
-        plain: p1,
-    } = r1
-    else {
-        return Setattr3argsRead::Refused(r1.refusal());
-    };
-    let r2 = sattr3_at(src, n1);
-    let Sattr3Read::Took {
-        value: new_attributes,
-        next: n2,
-        plain: p2,
-    } = r2
-    else {
-        return Setattr3argsRead::Refused(r2.refusal());
-    };
-    let r3 = sattrguard3_at(src, n2);
-    let Sattrguard3Read::Took {
-        value: guard,
-        next: n3,
-        plain: p3,
-    } = r3
-    else {
-        return Setattr3argsRead::Refused(r3.refusal());
-    };
-    Setattr3argsRead::Took {
+    let object = nfs_fh3_at(src, at)?;
+    let new_attributes = sattr3_at(src, object.next)?;
+    let guard = sattrguard3_at(src, new_attributes.next)?;
+    Ok(Took {
         value: SETATTR3args {
-            object,
-            new_attributes,
-            guard,
+            object: object.value,
+            new_attributes: new_attributes.value,
+            guard: guard.value,
         },
-        next: n3,
-        plain: p1 & p2 & p3,
-    }
+        next: guard.next,
+        plain: object.plain & new_attributes.plain & guard.plain,
+    })
 }
 
 impl SETATTR3args {
@@ -281,30 +189,30 @@ pub fn put_setattr3args(src: &[u8], x: SETATTR3args, out: &mut [u8])
     put_setattr3args_1(src, f1, f2, f3, out);
 }
 
-pub fn read_setattr3args(src: &[u8], at: usize) -> Setattr3argsRead
-    ensures { Answers setattr_args src.now at (view_setattr3args result) }
+pub fn read_setattr3args(src: &[u8], at: usize) -> Result<Took<SETATTR3args>, Refusal>
+    ensures { Answers setattr_args src.now at (view result) }
 {
-    match open_at(src, at) {
-        Opening::Refused(r) => Setattr3argsRead::Refused(r),
-        Opening::Open => setattr3args_at(src, at),
-    }
+    open_at(src, at)?;
+    setattr3args_at(src, at)
 }
 
-pub fn write_setattr3args(src: &[u8], x: SETATTR3args, out: &mut [u8], at: usize) -> Wrote
+pub fn write_setattr3args(
+    src: &[u8],
+    x: SETATTR3args,
+    out: &mut [u8],
+    at: usize,
+) -> Result<usize, Refusal>
     ensures { Writes setattr_args src.now x at out.old (view_wrote result) out.new }
 {
-    let w = place(
+    let end = place(
         src.len(),
         setattr3args_inside(src, x),
         setattr3args_size(x),
         out.len(),
         at,
-    );
-    let Wrote::Done(_) = w else {
-        return w;
-    };
+    )?;
     put_setattr3args(src, x, &mut out[at..]);
-    w
+    Ok(end)
 }
 
 #[derive(Clone, Copy)]
@@ -312,48 +220,17 @@ pub struct SETATTR3resok {
     pub obj_wcc: wcc_data,
 }
 
-#[derive(Clone, Copy)]
-pub enum Setattr3resokRead {
-    Refused(Refusal),
-    Took {
-        value: SETATTR3resok,
-        next: usize,
-        plain: bool,
-    },
-}
-
-impl Setattr3resokRead {
-    pub fn refusal(self) -> Refusal
-        ensures { result ≡ lost_setattr3resok self }
-    {
-        match self {
-            Setattr3resokRead::Refused(r) => r,
-            Setattr3resokRead::Took {
-                value: _,
-                next: _,
-                plain: _,
-            } => Refusal::PastEnd,
-        }
-    }
-}
-
-pub fn setattr3resok_at(src: &[u8], at: usize) -> Setattr3resokRead
-    ensures { view_setattr3resok result ≡ setattr_resok.kind.read src.now at }
+pub fn setattr3resok_at(src: &[u8], at: usize) -> Result<Took<SETATTR3resok>, Refusal>
+    ensures { view result ≡ setattr_resok.kind.read src.now at }
 {
-    let r1 = wcc_data_at(src, at);
-    let WccDataRead::Took {
-        value: obj_wcc,
-        next: n1,
-        plain: p1,
-    } = r1
-    else {
-        return Setattr3resokRead::Refused(r1.refusal());
-    };
-    Setattr3resokRead::Took {
-        value: SETATTR3resok { obj_wcc },
-        next: n1,
-        plain: p1,
-    }
+    let obj_wcc = wcc_data_at(src, at)?;
+    Ok(Took {
+        value: SETATTR3resok {
+            obj_wcc: obj_wcc.value,
+        },
+        next: obj_wcc.next,
+        plain: obj_wcc.plain,
+    })
 }
 
 pub fn setattr3resok_size(v: SETATTR3resok) -> usize
@@ -375,48 +252,17 @@ pub struct SETATTR3resfail {
     pub obj_wcc: wcc_data,
 }
 
-#[derive(Clone, Copy)]
-pub enum Setattr3resfailRead {
-    Refused(Refusal),
-    Took {
-        value: SETATTR3resfail,
-        next: usize,
-        plain: bool,
-    },
-}
-
-impl Setattr3resfailRead {
-    pub fn refusal(self) -> Refusal
-        ensures { result ≡ lost_setattr3resfail self }
-    {
-        match self {
-            Setattr3resfailRead::Refused(r) => r,
-            Setattr3resfailRead::Took {
-                value: _,
-                next: _,
-                plain: _,
-            } => Refusal::PastEnd,
-        }
-    }
-}
-
-pub fn setattr3resfail_at(src: &[u8], at: usize) -> Setattr3resfailRead
-    ensures { view_setattr3resfail result ≡ setattr_resfail.kind.read src.now at }
+pub fn setattr3resfail_at(src: &[u8], at: usize) -> Result<Took<SETATTR3resfail>, Refusal>
+    ensures { view result ≡ setattr_resfail.kind.read src.now at }
 {
-    let r1 = wcc_data_at(src, at);
-    let WccDataRead::Took {
-        value: obj_wcc,
-        next: n1,
-        plain: p1,
-    } = r1
-    else {
-        return Setattr3resfailRead::Refused(r1.refusal());
-    };
-    Setattr3resfailRead::Took {
-        value: SETATTR3resfail { obj_wcc },
-        next: n1,
-        plain: p1,
-    }
+    let obj_wcc = wcc_data_at(src, at)?;
+    Ok(Took {
+        value: SETATTR3resfail {
+            obj_wcc: obj_wcc.value,
+        },
+        next: obj_wcc.next,
+        plain: obj_wcc.plain,
+    })
 }
 
 pub fn setattr3resfail_size(v: SETATTR3resfail) -> usize
@@ -439,74 +285,26 @@ pub enum SETATTR3res {
     Failed(nfsfail3, SETATTR3resfail),
 }
 
-#[derive(Clone, Copy)]
-pub enum Setattr3resRead {
-    Refused(Refusal),
-    Took {
-        value: SETATTR3res,
-        next: usize,
-        plain: bool,
-    },
-}
-
-impl Setattr3resRead {
-    pub fn refusal(self) -> Refusal
-        ensures { result ≡ lost_setattr3res self }
-    {
-        match self {
-            Setattr3resRead::Refused(r) => r,
-            Setattr3resRead::Took {
-                value: _,
-                next: _,
-                plain: _,
-            } => Refusal::PastEnd,
-        }
-    }
-}
-
-pub fn setattr3res_at(src: &[u8], at: usize) -> Setattr3resRead
-    ensures { view_setattr3res result ≡ setattr_res.held.read src.now at }
+pub fn setattr3res_at(src: &[u8], at: usize) -> Result<Took<SETATTR3res>, Refusal>
+    ensures { view result ≡ setattr_res.held.read src.now at }
 {
-    let r1 = nfsstat3_at(src, at);
-    let Nfsstat3Read::Took {
-        value: status,
-        next: n1,
-    } = r1
-    else {
-        return Setattr3resRead::Refused(r1.refusal());
-    };
-    match status {
+    let status = nfsstat3_at(src, at)?;
+    match status.value {
         nfsstat3::NFS3_OK => {
-            let r2 = setattr3resok_at(src, n1);
-            let Setattr3resokRead::Took {
-                value: v,
-                next: n2,
-                plain: p2,
-            } = r2
-            else {
-                return Setattr3resRead::Refused(r2.refusal());
-            };
-            Setattr3resRead::Took {
-                value: SETATTR3res::NFS3_OK(v),
-                next: n2,
-                plain: p2,
-            }
+            let v = setattr3resok_at(src, status.next)?;
+            Ok(Took {
+                value: SETATTR3res::NFS3_OK(v.value),
+                next: v.next,
+                plain: status.plain & v.plain,
+            })
         }
         nfsstat3::Failed(e) => {
-            let r2 = setattr3resfail_at(src, n1);
-            let Setattr3resfailRead::Took {
-                value: v,
-                next: n2,
-                plain: p2,
-            } = r2
-            else {
-                return Setattr3resRead::Refused(r2.refusal());
-            };
-            Setattr3resRead::Took {
-                value: SETATTR3res::Failed(e, v),
-                next: n2,
-                plain: p2,
-            }
+            let v = setattr3resfail_at(src, status.next)?;
+            Ok(Took {
+                value: SETATTR3res::Failed(e, v.value),
+                next: v.next,
+                plain: status.plain & v.plain,
+            })
         }
     }
 }
@@ -578,28 +376,28 @@ pub fn put_setattr3res(src: &[u8], x: SETATTR3res, out: &mut [u8])
     }
 }
 
-pub fn read_setattr3res(src: &[u8], at: usize) -> Setattr3resRead
-    ensures { Answers setattr_res src.now at (view_setattr3res result) }
+pub fn read_setattr3res(src: &[u8], at: usize) -> Result<Took<SETATTR3res>, Refusal>
+    ensures { Answers setattr_res src.now at (view result) }
 {
-    match open_at(src, at) {
-        Opening::Refused(r) => Setattr3resRead::Refused(r),
-        Opening::Open => setattr3res_at(src, at),
-    }
+    open_at(src, at)?;
+    setattr3res_at(src, at)
 }
 
-pub fn write_setattr3res(src: &[u8], x: SETATTR3res, out: &mut [u8], at: usize) -> Wrote
+pub fn write_setattr3res(
+    src: &[u8],
+    x: SETATTR3res,
+    out: &mut [u8],
+    at: usize,
+) -> Result<usize, Refusal>
     ensures { Writes setattr_res src.now x at out.old (view_wrote result) out.new }
 {
-    let w = place(
+    let end = place(
         src.len(),
         setattr3res_inside(src, x),
         setattr3res_size(x),
         out.len(),
         at,
-    );
-    let Wrote::Done(_) = w else {
-        return w;
-    };
+    )?;
     put_setattr3res(src, x, &mut out[at..]);
-    w
+    Ok(end)
 }

@@ -10,7 +10,5 @@ pub mod procedures;
 // end of modules
 
 // made by tools/generate: names
-pub use procedures::{
-    Arguments, ArgumentsRead, Results, ResultsRead, read_arguments, read_results,
-};
+pub use procedures::{Arguments, Results, read_arguments, read_results};
 // end of names

@@ -12,30 +12,20 @@ ghost use Rattle.rpc.specs.Meaning.Crate.{rpc-msg};
 ghost use Rattle.xdr.specs.Meaning.Format.{exactly};
 ghost use Rattle.xdr.specs.Meaning.Formats.{bytes};
 ghost use Rattle.xdr.specs.Meaning.Items.{word, hyper, flag};
-ghost use Rattle.nfsattr.specs.Meaning.Views.{view_fattr3};
-ghost use Rattle.nfs.specs.Meaning.Dir.{view_nfs_fh3, view_diropargs3};
-ghost use Rattle.nfs.specs.Meaning.Views.{view_sattr3};
-ghost use Rattle.rpc.specs.Meaning.Views.{view_rpc_msg};
-ghost use Rattle.xdr.specs.Meaning.Views.{view_u32, view_u64, view_bool, view_piece};
-ghost use Rattle.reader.specs.Meaning.Step.{Stepped};
+ghost use Rattle.xdr.specs.Meaning.Views.{view};
+ghost use Rattle.reader.specs.Meaning.Step.{Stepped, onward};
 
-use after::{
-    after_bool, after_diropargs3, after_fattr3, after_nfs_fh3, after_opaque, after_rpc_msg,
-    after_sattr3, after_u32, after_u64,
+use nfs::{
+    diropargs3, fattr3, nfs_fh3, read_diropargs3, read_fattr3, read_nfs_fh3, read_sattr3, sattr3,
 };
-use nfs::{read_diropargs3, read_fattr3, read_nfs_fh3, read_sattr3};
-use rpc::read_rpc_msg;
-use xdr::{read_bool, read_opaque, read_u32, read_u64};
+use rpc::{read_rpc_msg, rpc_msg};
+use xdr::{Piece, Refusal, Took, read_bool, read_opaque, read_u32, read_u64};
 
-mod after;
 pub mod call;
 pub mod step;
 
-pub use call::{MkdirRead, read_mkdir};
-pub use step::{
-    BoolStep, Diropargs3Step, Fattr3Step, NfsFh3Step, OpaqueStep, RpcMsgStep, Sattr3Step, U32Step,
-    U64Step,
-};
+pub use call::{Mkdir, read_mkdir};
+pub use step::Step;
 
 // A message and the place of what comes next in it.
 #[derive(Clone, Copy)]
@@ -49,6 +39,16 @@ fn left_of(src: &[u8], at: usize) -> usize
     ensures { result ≡ length src.now - at }
 {
     if src.len() < at { 0 } else { src.len() - at }
+}
+
+// Where a reader stands after an answer.
+fn place_after<T>(answer: &Result<Took<T>, Refusal>, at: usize) -> usize
+    ensures { result ≡ onward (view answer.now) at }
+{
+    match answer {
+        Ok(took) => took.next,
+        Err(_) => at,
+    }
 }
 
 impl<'a> Reader<'a> {
@@ -72,102 +72,70 @@ impl<'a> Reader<'a> {
         left_of(self.src, self.at)
     }
 
-    pub fn rpc_msg(self) -> RpcMsgStep<'a>
-        ensures { Stepped rpc-msg self.entry (view_rpc_msg result.answer) result.reader }
+    // Moves behind what was taken; after a refusal it stays.
+    fn step<T: Copy>(self, answer: Result<Took<T>, Refusal>) -> Step<'a, T>
+        ensures answer { result.answer ≡ answer }
+        ensures src { result.reader.src ≡ self.entry.src }
+        ensures at { result.reader.at ≡ onward (view answer) self.entry.at }
     {
-        let answer = read_rpc_msg(self.src, self.at);
-        let at = after_rpc_msg(answer, self.at);
-        RpcMsgStep {
+        let at = place_after(&answer, self.at);
+        Step {
             reader: Reader { src: self.src, at },
             answer,
         }
     }
 
-    pub fn u32(self) -> U32Step<'a>
-        ensures { Stepped (exactly word) self.entry (view_u32 result.answer) result.reader }
+    pub fn rpc_msg(self) -> Step<'a, rpc_msg>
+        ensures { Stepped rpc-msg self.entry (view result.answer) result.reader }
     {
-        let answer = read_u32(self.src, self.at);
-        let at = after_u32(answer, self.at);
-        U32Step {
-            reader: Reader { src: self.src, at },
-            answer,
-        }
+        self.step(read_rpc_msg(self.src, self.at))
     }
 
-    pub fn u64(self) -> U64Step<'a>
-        ensures { Stepped (exactly hyper) self.entry (view_u64 result.answer) result.reader }
+    pub fn u32(self) -> Step<'a, u32>
+        ensures { Stepped (exactly word) self.entry (view result.answer) result.reader }
     {
-        let answer = read_u64(self.src, self.at);
-        let at = after_u64(answer, self.at);
-        U64Step {
-            reader: Reader { src: self.src, at },
-            answer,
-        }
+        self.step(read_u32(self.src, self.at))
     }
 
-    pub fn bool(self) -> BoolStep<'a>
-        ensures { Stepped (exactly flag) self.entry (view_bool result.answer) result.reader }
+    pub fn u64(self) -> Step<'a, u64>
+        ensures { Stepped (exactly hyper) self.entry (view result.answer) result.reader }
     {
-        let answer = read_bool(self.src, self.at);
-        let at = after_bool(answer, self.at);
-        BoolStep {
-            reader: Reader { src: self.src, at },
-            answer,
-        }
+        self.step(read_u64(self.src, self.at))
     }
 
-    pub fn opaque(self) -> OpaqueStep<'a>
-        ensures { Stepped bytes self.entry (view_piece result.answer) result.reader }
+    pub fn bool(self) -> Step<'a, bool>
+        ensures { Stepped (exactly flag) self.entry (view result.answer) result.reader }
     {
-        let answer = read_opaque(self.src, self.at);
-        let at = after_opaque(answer, self.at);
-        OpaqueStep {
-            reader: Reader { src: self.src, at },
-            answer,
-        }
+        self.step(read_bool(self.src, self.at))
     }
 
-    pub fn nfs_fh3(self) -> NfsFh3Step<'a>
-        ensures { Stepped nfs_fh self.entry (view_nfs_fh3 result.answer) result.reader }
+    pub fn opaque(self) -> Step<'a, Piece>
+        ensures { Stepped bytes self.entry (view result.answer) result.reader }
     {
-        let answer = read_nfs_fh3(self.src, self.at);
-        let at = after_nfs_fh3(answer, self.at);
-        NfsFh3Step {
-            reader: Reader { src: self.src, at },
-            answer,
-        }
+        self.step(read_opaque(self.src, self.at))
     }
 
-    pub fn diropargs3(self) -> Diropargs3Step<'a>
-        ensures { Stepped diropargs self.entry (view_diropargs3 result.answer) result.reader }
+    pub fn nfs_fh3(self) -> Step<'a, nfs_fh3>
+        ensures { Stepped nfs_fh self.entry (view result.answer) result.reader }
     {
-        let answer = read_diropargs3(self.src, self.at);
-        let at = after_diropargs3(answer, self.at);
-        Diropargs3Step {
-            reader: Reader { src: self.src, at },
-            answer,
-        }
+        self.step(read_nfs_fh3(self.src, self.at))
     }
 
-    pub fn sattr3(self) -> Sattr3Step<'a>
-        ensures { Stepped (exactly sattr) self.entry (view_sattr3 result.answer) result.reader }
+    pub fn diropargs3(self) -> Step<'a, diropargs3>
+        ensures { Stepped diropargs self.entry (view result.answer) result.reader }
     {
-        let answer = read_sattr3(self.src, self.at);
-        let at = after_sattr3(answer, self.at);
-        Sattr3Step {
-            reader: Reader { src: self.src, at },
-            answer,
-        }
+        self.step(read_diropargs3(self.src, self.at))
     }
 
-    pub fn fattr3(self) -> Fattr3Step<'a>
-        ensures { Stepped (exactly fattr) self.entry (view_fattr3 result.answer) result.reader }
+    pub fn sattr3(self) -> Step<'a, sattr3>
+        ensures { Stepped (exactly sattr) self.entry (view result.answer) result.reader }
     {
-        let answer = read_fattr3(self.src, self.at);
-        let at = after_fattr3(answer, self.at);
-        Fattr3Step {
-            reader: Reader { src: self.src, at },
-            answer,
-        }
+        self.step(read_sattr3(self.src, self.at))
+    }
+
+    pub fn fattr3(self) -> Step<'a, fattr3>
+        ensures { Stepped (exactly fattr) self.entry (view result.answer) result.reader }
+    {
+        self.step(read_fattr3(self.src, self.at))
     }
 }

@@ -3,7 +3,7 @@
 use Rattle.xdr.specs.Meaning.Answer.{Answer, took, refused}
 use Rattle.xdr.specs.Meaning.Items.{word}
 use Rattle.rpc.specs.Meaning.Auth.{opaque-auth}
-use Rattle.rpc.specs.Meaning.Reading.{mismatch-info, accept_arms}
+use Rattle.rpc.specs.Meaning.Reading.{accept_arms}
 use Rattle.rpc.specs.Meaning.Crate as Crate
 use Rattle.rpc.specs.Meaning.Current as Current
 use Rattle.rpc.specs.declared.auth.opaque_auth.{opaque_auth}

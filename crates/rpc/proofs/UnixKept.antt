@@ -1,6 +1,6 @@
 -- The auth_unix inside a credential, read as a public reading of auth_unix: what it accepts, what is plain, how it refuses, and what more bytes change.
 -- Assumes nothing.
-use Rattle.std.specs.Prelude.{◌≡◌, refl, ◌↔◌, Bool, true, false, List, ◌++◌, ℕ, ◌+◌, ◌≤◌, length, drop}
+use Rattle.std.specs.Prelude.{◌≡◌, refl, ◌↔◌, Bool, true, false, List, ℕ, ◌+◌, ◌≤◌, length, drop}
 use Rattle.std.proofs.Common.{sym, ap, subst, ◌∙◌, arith, take-append-drop}
 use Rattle.xdr.specs.Meaning.Bytes.{Bytes, part}
 use Rattle.xdr.specs.Meaning.Refusal.{OfReading}

@@ -11,5 +11,3 @@ pub mod Current
 pub mod Narrowed
 pub mod Sources
 pub mod Makers
-pub mod Views
-pub mod CurrentViews

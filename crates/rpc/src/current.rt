@@ -1,6 +1,5 @@
 // The current reading: RFC 5531's own accept statuses, with SYSTEM_ERR 5, and its fifteen authentication numbers, where the crate has older
 // lists. What does not depend on the lists is the crate's: calls, credentials, versions, the makers of replies.
-pub mod answer;
 mod fit;
 pub mod inner;
 mod marks;
@@ -10,10 +9,6 @@ mod read;
 pub mod reply;
 mod write;
 
-pub use answer::{
-    CurrentAcceptBodyRead, CurrentAcceptStatRead, CurrentAcceptedReplyRead, CurrentAuthStatRead,
-    CurrentRejectedReplyRead, CurrentReplyBodyRead, CurrentRpcBodyRead, CurrentRpcMsgRead,
-};
 pub use message::{rpc_body, rpc_msg};
 pub use read::{
     read_current_accept_body, read_current_accept_stat, read_current_accepted_reply,

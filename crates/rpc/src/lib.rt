@@ -5,7 +5,6 @@
 // lists, which are longer than the crate's. Every input gets an answer. What the answers mean stands in specs/Meaning.
 #![tactic(auto)]
 
-pub mod answer;
 pub mod auth;
 pub mod current;
 mod fit;
@@ -18,15 +17,8 @@ mod read;
 pub mod reply;
 mod write;
 
-pub use answer::{
-    AcceptBodyRead, AcceptStatRead, AcceptedReplyRead, AuthFlavorRead, AuthStatRead, AuthUnixRead,
-    CallBodyRead, MismatchInfoRead, MsgTypeRead, OpaqueAuthRead, RejectStatRead, RejectedReplyRead,
-    ReplyBodyRead, ReplyStatRead, RpcBodyRead, RpcMsgRead,
-};
 pub use auth::{auth_flavor, auth_stat, auth_unix, opaque_auth};
 pub use current::{
-    CurrentAcceptBodyRead, CurrentAcceptStatRead, CurrentAcceptedReplyRead, CurrentAuthStatRead,
-    CurrentRejectedReplyRead, CurrentReplyBodyRead, CurrentRpcBodyRead, CurrentRpcMsgRead,
     read_current_accept_body, read_current_accept_stat, read_current_accepted_reply,
     read_current_auth_stat, read_current_rejected_reply, read_current_reply_body,
     read_current_rpc_body, read_current_rpc_msg, write_current_accept_body,

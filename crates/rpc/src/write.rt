@@ -28,196 +28,191 @@ use crate::reply::{
     reply_body, reply_stat,
 };
 use xdr::order::{longer, place};
-use xdr::{Wrote, inside, words_inside, write_u32};
+use xdr::{Refusal, inside, words_inside, write_u32};
 
 // A closed enumeration is the word of its number.
-pub fn write_msg_type(m: msg_type, out: &mut [u8], at: usize) -> Wrote
+pub fn write_msg_type(m: msg_type, out: &mut [u8], at: usize) -> Result<usize, Refusal>
     ensures { Writes (exactly msg-type) [] m at out.old (view_wrote result) out.new }
 {
     write_u32(m.number(), out, at)
 }
 
-pub fn write_reply_stat(m: reply_stat, out: &mut [u8], at: usize) -> Wrote
+pub fn write_reply_stat(m: reply_stat, out: &mut [u8], at: usize) -> Result<usize, Refusal>
     ensures { Writes (exactly reply-stat) [] m at out.old (view_wrote result) out.new }
 {
     write_u32(m.number(), out, at)
 }
 
-pub fn write_accept_stat(m: accept_stat, out: &mut [u8], at: usize) -> Wrote
+pub fn write_accept_stat(m: accept_stat, out: &mut [u8], at: usize) -> Result<usize, Refusal>
     ensures { Writes (exactly accept-stat) [] m at out.old (view_wrote result) out.new }
 {
     write_u32(m.number(), out, at)
 }
 
-pub fn write_reject_stat(m: reject_stat, out: &mut [u8], at: usize) -> Wrote
+pub fn write_reject_stat(m: reject_stat, out: &mut [u8], at: usize) -> Result<usize, Refusal>
     ensures { Writes (exactly reject-stat) [] m at out.old (view_wrote result) out.new }
 {
     write_u32(m.number(), out, at)
 }
 
-pub fn write_auth_flavor(m: auth_flavor, out: &mut [u8], at: usize) -> Wrote
+pub fn write_auth_flavor(m: auth_flavor, out: &mut [u8], at: usize) -> Result<usize, Refusal>
     ensures { Writes (exactly auth-flavor) [] m at out.old (view_wrote result) out.new }
 {
     write_u32(m.number(), out, at)
 }
 
-pub fn write_auth_stat(m: auth_stat, out: &mut [u8], at: usize) -> Wrote
+pub fn write_auth_stat(m: auth_stat, out: &mut [u8], at: usize) -> Result<usize, Refusal>
     ensures { Writes (exactly auth-stat) [] m at out.old (view_wrote result) out.new }
 {
     write_u32(m.number(), out, at)
 }
 
-pub fn write_opaque_auth(src: &[u8], m: opaque_auth, out: &mut [u8], at: usize) -> Wrote
+pub fn write_opaque_auth(
+    src: &[u8],
+    m: opaque_auth,
+    out: &mut [u8],
+    at: usize,
+) -> Result<usize, Refusal>
     ensures { Writes opaque-auth src.now m at out.old (view_wrote result) out.new }
 {
-    let w = place(
+    let end = place(
         src.len(),
         opaque_auth_inside(src, m),
         opaque_auth_size(m),
         out.len(),
         at,
-    );
-    let Wrote::Done(_) = w else {
-        return w;
-    };
+    )?;
     put_opaque_auth(src, m, &mut out[at..]);
-    w
+    Ok(end)
 }
 
-pub fn write_auth_unix(src: &[u8], m: auth_unix, out: &mut [u8], at: usize) -> Wrote
+pub fn write_auth_unix(
+    src: &[u8],
+    m: auth_unix,
+    out: &mut [u8],
+    at: usize,
+) -> Result<usize, Refusal>
     ensures { Writes auth-unix src.now m at out.old (view_wrote result) out.new }
 {
-    let w = place(
+    let end = place(
         src.len(),
         auth_unix_inside(src, m),
         auth_unix_size(m),
         out.len(),
         at,
-    );
-    let Wrote::Done(_) = w else {
-        return w;
-    };
+    )?;
     put_auth_unix(src, m, &mut out[at..]);
-    w
+    Ok(end)
 }
 
-pub fn write_mismatch_info(m: mismatch_info, out: &mut [u8], at: usize) -> Wrote
+pub fn write_mismatch_info(m: mismatch_info, out: &mut [u8], at: usize) -> Result<usize, Refusal>
     ensures { Writes (exactly mismatch-info) [] m at out.old (view_wrote result) out.new }
 {
-    let w = place(0, true, mismatch_info::SIZE, out.len(), at);
-    let Wrote::Done(_) = w else {
-        return w;
-    };
+    let end = place(0, true, mismatch_info::SIZE, out.len(), at)?;
     put_mismatch_info(m, &mut out[at..]);
-    w
+    Ok(end)
 }
 
-pub fn write_call_body(src: &[u8], m: call_body, out: &mut [u8], at: usize) -> Wrote
+pub fn write_call_body(
+    src: &[u8],
+    m: call_body,
+    out: &mut [u8],
+    at: usize,
+) -> Result<usize, Refusal>
     ensures { Writes call-body src.now m at out.old (view_wrote result) out.new }
 {
-    let w = place(
+    let end = place(
         src.len(),
         call_body_inside(src, m),
         call_body_size(m),
         out.len(),
         at,
-    );
-    let Wrote::Done(_) = w else {
-        return w;
-    };
+    )?;
     put_call_body(src, m, &mut out[at..]);
-    w
+    Ok(end)
 }
 
-pub fn write_accept_body(m: accept_body, out: &mut [u8], at: usize) -> Wrote
+pub fn write_accept_body(m: accept_body, out: &mut [u8], at: usize) -> Result<usize, Refusal>
     ensures { Writes (exactly accept-body) [] m at out.old (view_wrote result) out.new }
 {
-    let w = place(0, true, accept_body_size(m), out.len(), at);
-    let Wrote::Done(_) = w else {
-        return w;
-    };
+    let end = place(0, true, accept_body_size(m), out.len(), at)?;
     put_accept_body(m, &mut out[at..]);
-    w
+    Ok(end)
 }
 
-pub fn write_accepted_reply(src: &[u8], m: accepted_reply, out: &mut [u8], at: usize) -> Wrote
+pub fn write_accepted_reply(
+    src: &[u8],
+    m: accepted_reply,
+    out: &mut [u8],
+    at: usize,
+) -> Result<usize, Refusal>
     ensures { Writes accepted-reply src.now m at out.old (view_wrote result) out.new }
 {
-    let w = place(
+    let end = place(
         src.len(),
         accepted_reply_inside(src, m),
         accepted_reply_size(m),
         out.len(),
         at,
-    );
-    let Wrote::Done(_) = w else {
-        return w;
-    };
+    )?;
     put_accepted_reply(src, m, &mut out[at..]);
-    w
+    Ok(end)
 }
 
-pub fn write_rejected_reply(m: rejected_reply, out: &mut [u8], at: usize) -> Wrote
+pub fn write_rejected_reply(m: rejected_reply, out: &mut [u8], at: usize) -> Result<usize, Refusal>
     ensures { Writes (exactly rejected-reply) [] m at out.old (view_wrote result) out.new }
 {
-    let w = place(0, true, rejected_reply_size(m), out.len(), at);
-    let Wrote::Done(_) = w else {
-        return w;
-    };
+    let end = place(0, true, rejected_reply_size(m), out.len(), at)?;
     put_rejected_reply(m, &mut out[at..]);
-    w
+    Ok(end)
 }
 
-pub fn write_reply_body(src: &[u8], m: reply_body, out: &mut [u8], at: usize) -> Wrote
+pub fn write_reply_body(
+    src: &[u8],
+    m: reply_body,
+    out: &mut [u8],
+    at: usize,
+) -> Result<usize, Refusal>
     ensures { Writes reply-body src.now m at out.old (view_wrote result) out.new }
 {
-    let w = place(
+    let end = place(
         src.len(),
         reply_body_inside(src, m),
         reply_body_size(m),
         out.len(),
         at,
-    );
-    let Wrote::Done(_) = w else {
-        return w;
-    };
+    )?;
     put_reply_body(src, m, &mut out[at..]);
-    w
+    Ok(end)
 }
 
-pub fn write_rpc_body(src: &[u8], m: rpc_body, out: &mut [u8], at: usize) -> Wrote
+pub fn write_rpc_body(src: &[u8], m: rpc_body, out: &mut [u8], at: usize) -> Result<usize, Refusal>
     ensures { Writes rpc-body src.now m at out.old (view_wrote result) out.new }
 {
-    let w = place(
+    let end = place(
         src.len(),
         rpc_body_inside(src, m),
         rpc_body_size(m),
         out.len(),
         at,
-    );
-    let Wrote::Done(_) = w else {
-        return w;
-    };
+    )?;
     put_rpc_body(src, m, &mut out[at..]);
-    w
+    Ok(end)
 }
 
-pub fn write_rpc_msg(src: &[u8], m: rpc_msg, out: &mut [u8], at: usize) -> Wrote
+pub fn write_rpc_msg(src: &[u8], m: rpc_msg, out: &mut [u8], at: usize) -> Result<usize, Refusal>
     ensures { Writes rpc-msg src.now m at out.old (view_wrote result) out.new }
 {
     let body = m.body;
-    let w = place(
+    let end = place(
         src.len(),
         rpc_body_inside(src, body),
         4 + rpc_body_size(body),
         out.len(),
         at,
-    );
-    let Wrote::Done(_) = w else {
-        return w;
-    };
+    )?;
     put_rpc_msg(src, m, &mut out[at..]);
-    w
+    Ok(end)
 }
 
 // From two sources: the name is a piece of `names`, and the gids of `groups`.
@@ -227,23 +222,20 @@ pub fn write_auth_unix_from(
     m: auth_unix,
     out: &mut [u8],
     at: usize,
-) -> Wrote
+) -> Result<usize, Refusal>
     ensures { WritesUnixFrom names.now groups.now m at out.old (view_wrote result) out.new }
 {
     let machinename = m.machinename;
     let gids = m.gids;
-    let w = place(
+    let end = place(
         longer(names.len(), groups.len()),
         inside(names, machinename) & words_inside(groups, gids),
         auth_unix_size(m),
         out.len(),
         at,
-    );
-    let Wrote::Done(_) = w else {
-        return w;
-    };
+    )?;
     put_auth_unix_from(names, groups, m, &mut out[at..]);
-    w
+    Ok(end)
 }
 
 // The rpc_msg of a call from two sources: the credential's body is a piece of `creds`, and the verifier's of `verfs`.
@@ -254,19 +246,16 @@ pub fn write_call_from(
     m: call_body,
     out: &mut [u8],
     at: usize,
-) -> Wrote
+) -> Result<usize, Refusal>
     ensures { WritesCallFrom creds.now verfs.now xid m at out.old (view_wrote result) out.new }
 {
-    let w = place(
+    let end = place(
         longer(creds.len(), verfs.len()),
         call_inside_from(creds, verfs, m),
         8 + call_body_size(m),
         out.len(),
         at,
-    );
-    let Wrote::Done(_) = w else {
-        return w;
-    };
+    )?;
     put_call_from(creds, verfs, xid, m, &mut out[at..]);
-    w
+    Ok(end)
 }

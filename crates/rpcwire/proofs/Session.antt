@@ -1,9 +1,9 @@
 -- However a stream is cut into runs, it gives the same records, the same total used, the same stop and the same state at the end: every
 -- way of feeding it is its bytes one by one.
 -- Assumes nothing.
-use Rattle.std.specs.Prelude.{◌≡◌, ◌↔◌, ◌⊎◌, Bool, cond, leb, ltb, length, set, take, drop}
+use Rattle.std.specs.Prelude.{◌≡◌, ◌⊎◌, Bool, cond, leb, ltb, length, set, take, drop}
 use Rattle.std.proofs.Math.Path.{refl, sym, ap}
-use Rattle.std.proofs.Common.{◌∙◌, subst, subst₂, inl, inr, ⊎_elim, add-zero, add_assoc, arith, length-set, length-append, length-drop, take-append-drop, take-suc-set, length-take-le, leb-true}
+use Rattle.std.proofs.Common.{◌∙◌, subst, subst₂, inl, inr, ⊎_elim, add-zero, add_assoc, arith, length-set, length-append, take-append-drop, take-suc-set, length-take-le, leb-true}
 use Rattle.std.proofs.Math.Option.{Option, none, some}
 use mathlib.Core.List.{List, [], ◌∷◌, ◌++◌, foldl, foldl-append, append_assoc}
 use Rattle.std.proofs.Math.Bool.{true, false}
@@ -15,8 +15,8 @@ use Rattle.xdr.specs.Meaning.Answer.{most}
 use Rattle.xdr.specs.Laws.Lists.{bytes_take, bytes_drop}
 use Rattle.xdr.specs.declared.refusal.Refusal.TheVariants.{TooLong, Overrun}
 use Rattle.rpcwire.specs.Meaning.Stream.{Said, more, complete, refused, Now, stand, fresh, feed_of, step_at, header_byte, headed, settled, fits_of, fresh_of, made, unmade}
-use Rattle.rpcwire.specs.Meaning.Promise.{used_said, placed_said, state_said, shift_said, shift, resume_said}
-use Rattle.rpcwire.specs.Meaning.Session.{Stop, Heard, unheard, first, note, Call, note_call, heard, Next, Calls, Over, Equal, Way, StopsAfter, HoweverCut, OnTheWay, SameStop, Stopping, Function, Keeps, call_of, in_runs, WhateverFeeds, singly, ByteByByte}
+use Rattle.rpcwire.specs.Meaning.Promise.{used_said, placed_said, state_said, shift_said, resume_said}
+use Rattle.rpcwire.specs.Meaning.Session.{Stop, Heard, unheard, first, note, Call, note_call, heard, Next, Calls, Over, Equal, Way, HoweverCut, OnTheWay, SameStop, Stopping, Function, Keeps, call_of, in_runs, WhateverFeeds, singly, ByteByByte}
 use Rattle.rpcwire.specs.Laws.Fits.{fit}
 use Rattle.rpcwire.specs.Laws.Steps.{begin-more, Sound, used}
 use Rattle.rpcwire.specs.Laws.Promise.{fresh-fits, sound, split, feed-stopped, feed-byte, byte-used, promised}

@@ -1,6 +1,6 @@
 // Records assembled from a stream. The state is a value: it goes in with a run of bytes and the buffer that the record grows in, and
 // comes back with the answer.
-ghost use Rattle.std.specs.Prelude.{◌≡◌, ◌≤◌, ◌^◌, min};
+ghost use Rattle.std.specs.Prelude.{◌≡◌, ◌≤◌, ◌^◌};
 ghost use Rattle.rpcwire.specs.Meaning.Stream.{in_header, in_fragment, halted, fits_of, flags_fit, settled, header_byte, fresh_of, Feeds};
 ghost use Rattle.rpcwire.specs.Meaning.Views.{view_made, view_fed};
 
@@ -23,14 +23,8 @@ pub struct Assembler {
     pub stopped: bool,
 }
 
-// What asking for a capacity led to.
-#[derive(Clone, Copy)]
-pub enum AssemblerMade {
-    Refused(Refusal),
-    Ready(Assembler),
-}
-
-// What a run of bytes led to: the state to go on with, and how many bytes of the run were used.
+// What a run of bytes led to: the state to go on with, and how many bytes of the run were used. It is no `Result`, for a refusal hands both
+// back too.
 #[derive(Clone, Copy)]
 pub enum Fed {
     // Unfit, with the state as given; or Overrun, with the stopped state.
@@ -98,13 +92,13 @@ impl Assembler {
 }
 
 // A state for records of up to `capacity` bytes, before the first byte.
-pub fn fresh_assembler(capacity: usize) -> AssemblerMade
+pub fn fresh_assembler(capacity: usize) -> Result<Assembler, Refusal>
     ensures { view_made result ≡ fresh_of capacity }
 {
     if MOST < capacity {
-        return AssemblerMade::Refused(Refusal::TooLong);
+        return Err(Refusal::TooLong);
     }
-    AssemblerMade::Ready(Assembler::in_header(capacity, 0, 0, 0))
+    Ok(Assembler::in_header(capacity, 0, 0, 0))
 }
 
 // 256 to the count.
@@ -214,21 +208,6 @@ fn header_byte(capacity: usize, placed: usize, count: usize, word: usize, used: 
     settle(capacity, placed, n, 2147483648 <= word, used)
 }
 
-fn least(a: usize, b: usize) -> usize
-    ensures { result ≡ min a b }
-{
-    if a <= b {
-        return a;
-    }
-    b
-}
-
-fn wide(b: u8) -> usize
-    ensures { result ≡ b }
-{
-    b as usize
-}
-
 // Feeds a run of bytes to the assembler, with the buffer that the record grows in. What it answers, and what the buffer then holds, is
 // what the stream rules say of the run taken byte by byte; but a fragment's bytes are copied all at once.
 pub fn feed(state: Assembler, run: &[u8], buf: &mut [u8]) -> Fed
@@ -250,12 +229,13 @@ pub fn feed(state: Assembler, run: &[u8], buf: &mut [u8]) -> Fed
     }
     let mut s = state;
     let mut i: usize = 0;
+    // A turn uses one header byte, or all that the run has of a fragment, so no `for` over the run would do.
     while i < run.len() {
         let capacity = s.capacity;
         let placed = s.placed;
         let left = s.left;
         if left == 0 {
-            let word = s.header_value * 256 + wide(run[i]);
+            let word = s.header_value * 256 + run[i] as usize;
             let step = header_byte(capacity, placed, s.header_count, word, i + 1);
             let Fed::More { state: next, used } = step else {
                 return step;
@@ -263,7 +243,7 @@ pub fn feed(state: Assembler, run: &[u8], buf: &mut [u8]) -> Fed
             s = next;
             i = used;
         } else {
-            let n = least(left, run.len() - i);
+            let n = left.min(run.len() - i);
             let end = i + n;
             buf[placed..placed + n].copy_from_slice(&run[i..end]);
             let step = settle(capacity, placed + n, left - n, s.last, end);

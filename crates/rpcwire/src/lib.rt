@@ -8,6 +8,6 @@ pub mod assembler;
 pub mod choice;
 mod fragment;
 
-pub use assembler::{Assembler, AssemblerMade, Fed, feed, fits, fresh_assembler};
-pub use choice::{Caller, Choice, choose, current_choose};
+pub use assembler::{Assembler, Fed, feed, fits, fresh_assembler};
+pub use choice::{Choice, choose, current_choose};
 pub use fragment::write_fragment;

@@ -8,14 +8,10 @@ use std::io::{Cursor, Error, Write};
 fn words_end(text: &[u8]) -> usize
     ensures { result ≤ length text.now }
 {
-    let mut i = 0;
-    while i < text.len() {
-        if text[i..].starts_with(b" (os error ") {
-            return i;
-        }
-        i += 1;
-    }
-    text.len()
+    let number = b" (os error ".as_slice();
+    text.windows(number.len())
+        .position(|part| part == number)
+        .unwrap_or(text.len())
 }
 
 // Says on standard error what failed, and why. (A message of the C library's has a fraction of this room.)

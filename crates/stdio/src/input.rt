@@ -1,13 +1,15 @@
 // Standard input.
-ghost use Rattle.std.specs.Prelude.{true, ◌≡◌, ◌≤◌, ◌<◌, length, take, IsNone, IsSome};
-ghost use Rattle.std.specs.Io.KnownBytes.{Consumes, IsAtEnd};
+ghost use Rattle.std.specs.Prelude.{◌≤◌, length};
+ghost use Rattle.std.specs.Io.{ReadsAtMost};
+ghost use Rattle.std.specs.Io.KnownBytes.{ReadConsumes};
 ghost use Rattle.stdio.specs.Input.{Reads, Takes};
 
 use crate::fail::fail;
 use crate::stream::Stream;
-use crate::wait::{Try, pause};
-use std::io::{Read, Write};
+use crate::wait::{passes, pause};
+use std::io::{Read, Result, Write};
 
+// What a reading gave. It is no `Result`: there are three outcomes, and what cannot be read was said already.
 #[derive(Clone, Copy)]
 pub enum Got {
     // The input has ended.
@@ -18,34 +20,18 @@ pub enum Got {
     Bytes(usize),
 }
 
-fn try_read<R: Read>(from: &mut R, space: &mut [u8]) -> Try
-    ensures bound { result.count ≤ length space.new }
-    ensures bytes { Consumes (R.remaining from.old) (R.remaining from.new) (take result.count space.new) }
-    ensures again { result.again ≡ true → result.count ≡ 0 }
-    ensures failed { IsSome result.failed → result.count ≡ 0 }
-    ensures end { IsNone result.failed → result.count ≡ 0 → 0 < length space.old → IsAtEnd (R.remaining from.new) }
+// Reads once there is something. (A proved loop ends: its turns are counted to a number that no run reaches.)
+fn wait_and_read<R: Read>(from: &mut R, space: &mut [u8]) -> Result<usize>
+    ensures bound { ReadsAtMost result space.new }
+    ensures bytes { ReadConsumes (R.remaining from.old) (R.remaining from.new) result space.new }
 {
-    match from.read(space) {
-        Ok(n) => Try::moved(n),
-        Err(e) => Try::failed(e),
+    for _ in 0..u64::MAX {
+        match from.read(space) {
+            Err(why) if passes(&why) => pause(),
+            answer => return answer,
+        }
     }
-}
-
-// Reads once there is something. (A proved loop ends: its turns are counted down from a number that no run uses up.)
-fn wait_and_read<R: Read>(from: &mut R, space: &mut [u8]) -> Try
-    ensures bound { result.count ≤ length space.new }
-    ensures bytes { Consumes (R.remaining from.old) (R.remaining from.new) (take result.count space.new) }
-    ensures failed { IsSome result.failed → result.count ≡ 0 }
-    ensures end { IsNone result.failed → result.count ≡ 0 → 0 < length space.old → IsAtEnd (R.remaining from.new) }
-{
-    let mut turns = u64::MAX;
-    let mut t = try_read(from, space);
-    while turns > 0 && t.again {
-        pause();
-        t = try_read(from, space);
-        turns -= 1;
-    }
-    t
+    from.read(space)
 }
 
 // Reads into `space` and copies what came to the front of the buffer.
@@ -54,17 +40,17 @@ fn read_by<R: Read, E: Write>(from: &mut Stream<R, E>, space: &mut [u8], buf: &m
     ensures reads { Reads buf.old result buf.new }
     ensures takes { Takes (R.remaining from.old.stream) (R.remaining from.new.stream) (length space.old) result buf.new }
 {
-    let t = wait_and_read(&mut from.stream, space);
-    if let Some(why) = t.failed {
-        fail(&mut from.errors, "standard input", &why);
-        return Got::Failed;
+    match wait_and_read(&mut from.stream, space) {
+        Ok(0) => Got::End,
+        Ok(n) => {
+            buf[..n].copy_from_slice(&space[..n]);
+            Got::Bytes(n)
+        }
+        Err(why) => {
+            fail(&mut from.errors, "standard input", &why);
+            Got::Failed
+        }
     }
-    let n = t.count;
-    if n == 0 {
-        return Got::End;
-    }
-    buf[..n].copy_from_slice(&space[..n]);
-    Got::Bytes(n)
 }
 
 // Reads what there is, at most 4,096 bytes. An empty buffer gets `End`.
@@ -73,9 +59,6 @@ pub fn read<R: Read, E: Write>(from: &mut Stream<R, E>, buf: &mut [u8]) -> Got
     ensures takes { Takes (R.remaining from.old.stream) (R.remaining from.new.stream) (length buf.old) result buf.new }
 {
     let mut space = [0u8; 4096];
-    if buf.len() < 4096 {
-        let n = buf.len();
-        return read_by(from, &mut space[..n], buf);
-    }
-    read_by(from, &mut space, buf)
+    let n = buf.len().min(space.len());
+    read_by(from, &mut space[..n], buf)
 }

@@ -8,6 +8,7 @@
 mod fail;
 mod input;
 mod output;
+mod printer;
 mod stream;
 #[cfg(test)]
 mod tests;
@@ -15,4 +16,5 @@ mod wait;
 
 pub use input::{Got, read};
 pub use output::{Out, complain, flush, number, say};
+pub use printer::Printer;
 pub use stream::{Input, Output, Stream};

@@ -1,16 +1,17 @@
 // Standard output. Text waits in a buffer that the caller lends, and is written out where the buffer is full or flushed.
-ghost use Rattle.std.specs.Prelude.{true, false, ◌≡◌, ◌+◌, ◌≤◌, leb, length, take};
+ghost use Rattle.std.specs.Prelude.{true, false, ◌≡◌, ◌+◌, ◌≤◌, leb, length, take, IsOk, OnOk};
+ghost use Rattle.std.specs.Io.{WritesAtMost};
 ghost use Rattle.std.proofs.lemmas.List.Edits.{sets};
-ghost use Rattle.std.specs.Io.KnownBytes.{Appends};
+ghost use Rattle.std.specs.Io.KnownBytes.{Appends, WriteAppends};
 ghost use Rattle.stdio.specs.Output.{Said, Flushed, Numbered, Kept, KeptNumber};
 
 use crate::fail::fail;
 use crate::stream::Stream;
-use crate::wait::{Try, pause};
-use std::io::{Error, ErrorKind, Write};
+use crate::wait::{passes, pause};
+use std::io::{Error, ErrorKind, Result, Write};
 
 // How much text waits at the front of the buffer; and if some was lost because a write failed, which was said on standard error. Then no more
-// is taken.
+// is taken. (It is no `Option` of a count: what comes in lost goes out as it came, with its count.)
 #[derive(Clone, Copy)]
 pub struct Out {
     pub count: usize,
@@ -29,56 +30,49 @@ impl Out {
     }
 }
 
-fn try_write<W: Write>(to: &mut W, bytes: &[u8]) -> Try
-    ensures bound { result.count ≤ length bytes.now }
-    ensures sent { Appends (W.contents to.old) (W.contents to.new) (take result.count bytes.now) }
-    ensures again { result.again ≡ true → result.count ≡ 0 }
+// Writes some of the bytes, from the first on, once there is room for them. (A proved loop ends: its turns are counted to a number that no
+// run reaches.)
+fn write_some<W: Write>(to: &mut W, bytes: &[u8]) -> Result<usize>
+    ensures bound { WritesAtMost result bytes.now }
+    ensures sent { WriteAppends (W.contents to.old) (W.contents to.new) result bytes.now }
 {
-    match to.write(bytes) {
-        Ok(n) => Try::moved(n),
-        Err(e) => Try::failed(e),
+    for _ in 0..u64::MAX {
+        match to.write(bytes) {
+            Err(why) if passes(&why) => pause(),
+            answer => return answer,
+        }
     }
+    to.write(bytes)
 }
 
-// Writes some of the bytes, from the first on, once there is room for them; 0 says that it failed. (A proved loop ends: its turns are counted
-// down from a number that no run uses up.)
-fn write_some<W: Write>(to: &mut W, bytes: &[u8]) -> Try
-    ensures bound { result.count ≤ length bytes.now }
-    ensures sent { Appends (W.contents to.old) (W.contents to.new) (take result.count bytes.now) }
+// Writes all of the bytes. A write that takes nothing and does not fail has no error of its own.
+fn try_write_all<W: Write>(to: &mut W, bytes: &[u8]) -> Result<()>
+    ensures none { length bytes.now ≡ 0 → IsOk result }
+    ensures sent { OnOk result (Appends (W.contents to.old) (W.contents to.new) bytes.now) }
 {
-    let mut turns = u64::MAX;
-    let mut t = try_write(to, bytes);
-    while turns > 0 && t.again {
-        pause();
-        t = try_write(to, bytes);
-        turns -= 1;
+    let mut done = 0;
+    while done < bytes.len() {
+        let n = write_some(to, &bytes[done..])?;
+        if n == 0 {
+            return Err(Error::from(ErrorKind::WriteZero));
+        }
+        done += n;
     }
-    t
+    Ok(())
 }
 
-// Why nothing was written. A write that takes nothing and does not fail has no error of its own.
-fn why_none(t: Try) -> Error {
-    match t.failed {
-        Some(why) => why,
-        None => Error::from(ErrorKind::WriteZero),
-    }
-}
-
-// Writes all of the bytes, and answers true; or says on standard error that it cannot.
+// Whether all of the bytes are written; if not, it is said on standard error.
 fn write_all<W: Write, E: Write>(to: &mut Stream<W, E>, bytes: &[u8]) -> bool
     ensures none { length bytes.now ≡ 0 → result ≡ true }
     ensures sent { result ≡ true → Appends (W.contents to.old.stream) (W.contents to.new.stream) bytes.now }
 {
-    let mut done = 0;
-    while done < bytes.len() {
-        let t = write_some(&mut to.stream, &bytes[done..]);
-        if t.count == 0 {
-            fail(&mut to.errors, "standard output", &why_none(t));
-            return false;
+    match try_write_all(&mut to.stream, bytes) {
+        Ok(()) => true,
+        Err(why) => {
+            fail(&mut to.errors, "standard output", &why);
+            false
         }
-        done += t.count;
     }
-    true
 }
 
 // Writes what waits at the front of a buffer.
@@ -87,9 +81,10 @@ fn write_front<W: Write, E: Write>(to: &mut Stream<W, E>, buf: &[u8], count: usi
     ensures sent { result ≡ true → Appends (W.contents to.old.stream) (W.contents to.new.stream) (take count buf.now) }
 {
     if count < buf.len() {
-        return write_all(to, &buf[..count]);
+        write_all(to, &buf[..count])
+    } else {
+        write_all(to, buf)
     }
-    write_all(to, buf)
 }
 
 // Writes out what waits.
@@ -100,25 +95,16 @@ pub fn flush<W: Write, E: Write>(to: &mut Stream<W, E>, buf: &[u8], at: Out) -> 
     if at.lost {
         return at;
     }
-    if write_front(to, buf, at.count) {
-        return Out::new();
-    }
     Out {
         count: 0,
-        lost: true,
+        lost: !write_front(to, buf, at.count),
     }
 }
 
 fn fits(count: usize, n: usize, room: usize) -> bool
     ensures { result ≡ leb (count + n) room }
 {
-    if room < n {
-        return false;
-    }
-    if room - n < count {
-        return false;
-    }
-    true
+    n <= room && count <= room - n
 }
 
 // Copies text into a buffer that has room for it from a place on.
@@ -175,8 +161,5 @@ pub fn number<W: Write, E: Write>(to: &mut Stream<W, E>, buf: &mut [u8], at: Out
 
 // Says something on standard error, at once. What cannot be said there is lost: there is nowhere else to say it.
 pub fn complain<E: Write>(errors: &mut E, text: &[u8]) {
-    match errors.write_all(text) {
-        Ok(()) => {}
-        Err(_) => {}
-    }
+    let _ = errors.write_all(text);
 }

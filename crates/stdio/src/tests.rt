@@ -1,5 +1,5 @@
 // What is said where a stream fails, and that calls that are not ready are made again.
-use crate::{Got, Out, Stream, flush, number, read, say};
+use crate::{Got, Out, Printer, Stream, flush, number, read, say};
 use std::alloc::Global;
 use std::io::{Error, Read, Result, Write};
 
@@ -53,6 +53,29 @@ fn writes_all(rt: HostRuntime) {
     assert!(rt; !lost);
     assert!(rt; to.stream.taken.as_slice() == b"counted 1048576, and that is all".as_slice());
     assert!(rt; to.errors.is_empty());
+}
+
+// The same by a printer, which has the buffer and knows what waits in it.
+#[test]
+fn prints_all(rt: HostRuntime) {
+    let narrow = Narrow {
+        room: 1000,
+        ready: true,
+        taken: Vec::new(rt.alloc()),
+    };
+    let mut printer = Printer::<Narrow, Vec<u8>, 10>::new(Stream::new(
+        narrow,
+        Vec::new(rt.alloc()),
+    ));
+    printer.say(b"counted ");
+    printer.number(1048576);
+    printer.say(b", and that is all");
+    printer.flush();
+    assert!(rt; !printer.at.lost);
+    assert!(rt;
+        printer.to.stream.taken.as_slice() == b"counted 1048576, and that is all".as_slice()
+    );
+    assert!(rt; printer.to.errors.is_empty());
 }
 
 #[test]

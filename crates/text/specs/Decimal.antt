@@ -1,9 +1,8 @@
 -- Numbers in decimal.
 -- Assumes nothing.
-use Rattle.std.specs.Prelude.{◌≡◌, ℕ, ◌+◌, ◌-◌, ◌*◌, ◌^◌, ◌≤◌, ◌<◌, length, get_or}
+use Rattle.std.specs.Prelude.{◌≡◌, ℕ, ◌+◌, ◌-◌, ◌*◌, ◌^◌, ◌≤◌, ◌<◌, length, get_or, None, Some}
 use mathlib.Core.List.{List, foldl}
-use Rattle.text.specs.declared.numeral.Number.{Number}
-use Rattle.text.specs.declared.numeral.Number.TheVariants.{None, Is}
+use Rattle.std.specs.declared.option.Option.{Option}
 
 -- a digit more, by its character
 abbrev pub further : ℕ → ℕ → ℕ
@@ -20,6 +19,6 @@ pub record Decimal (word : List ℕ) (n : ℕ) : Type 0 where
   pub value : decimal_of word ≡ n
 
 -- the contract of `decimal`: the number that the word stands for, or that it stands for none of 64 bits
-abbrev pub Reads : List ℕ → Number → Type 0
-Reads word (Is n) = (n < 2 ^ 64) × Decimal word n
+abbrev pub Reads : List ℕ → Option ℕ → Type 0
+Reads word (Some n) = (n < 2 ^ 64) × Decimal word n
 Reads word None = (n : ℕ) → n < 2 ^ 64 → Decimal word n → ⊥

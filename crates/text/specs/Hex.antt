@@ -1,7 +1,7 @@
 -- Bytes in hex: two digits a byte, the high one first, and `-` for none.
 -- Assumes nothing.
-use Rattle.std.specs.Prelude.{◌≡◌, List, [], ◌∷◌, Bool, true, false, cond, ◌⊎◌, ℕ, ◌+◌, ◌-◌, ◌*◌, ◌≤◌, ◌<◌, leb, ltb, length, take, drop, get_or}
-use Rattle.text.specs.declared.hex.Unhexed.{Unhexed}
+use Rattle.std.specs.Prelude.{◌≡◌, List, [], ◌∷◌, Bool, true, false, cond, ◌⊎◌, ℕ, ◌+◌, ◌-◌, ◌*◌, ◌≤◌, ◌<◌, leb, ltb, length, take, drop, get_or, None, Some}
+use Rattle.std.specs.declared.option.Option.{Option}
 
 -- the ASCII character of a digit below 16: `0` to `9`, then `a` to `f`; `?` for any other number
 abbrev pub glyph_of : ℕ → ℕ
@@ -25,15 +25,18 @@ pub data Spells : List ℕ → List ℕ → Type 0 where
 abbrev pub Hex : List ℕ → List ℕ → Type 0
 Hex word bytes = ((word ≡ 45 ∷ []) × (bytes ≡ [])) ⊎ ((0 < length word) × Spells word bytes)
 
--- the contract of `unhex`: what it says of a word, and what it leaves in the buffer `out`. The bytes that the word spells are at the front,
--- `count` is their number, and every other byte is as it was; so a refusal, whose count is 0, changes nothing. No bytes are missed that fit
--- the buffer
-pub record Unhexes (word out : List ℕ) (r : Unhexed) (after : List ℕ) : Type 0 where
+-- the bytes that a word spells are at the front of the buffer that was `out`, n of them, and every other byte is as it was
+pub record Unhexed (word out : List ℕ) (n : ℕ) (after : List ℕ) : Type 0 where
   pub long : length after ≡ length out
-  pub within : r.count ≤ length after
-  pub rest : drop r.count after ≡ drop r.count out
-  pub yes : r.good ≡ true → Hex word (take r.count after)
-  pub no : r.good ≡ false → (r.count ≡ 0) × ((bytes : List ℕ) → length bytes ≤ length out → Hex word bytes → ⊥)
+  pub within : n ≤ length after
+  pub rest : drop n after ≡ drop n out
+  pub spelled : Hex word (take n after)
+
+-- the contract of `unhex`: what it says of a word, and what it leaves in the buffer `out`. A refusal changes nothing, and no bytes are
+-- missed that fit the buffer
+abbrev pub Unhexes : List ℕ → List ℕ → Option ℕ → List ℕ → Type 0
+Unhexes word out (Some n) after = Unhexed word out n after
+Unhexes word out None after = (after ≡ out) × ((bytes : List ℕ) → length bytes ≤ length out → Hex word bytes → ⊥)
 
 -- what `are_digits` says
 pub record Digits (word : List ℕ) (r : Bool) : Type 0 where

@@ -1,10 +1,11 @@
 -- What follows of `Spells`: how it grows at the end, its lengths, and its digits; and a byte's own two digits spell it.
 -- Assumes nothing.
-use Rattle.std.specs.Prelude.{◌≡◌, refl, List, [], ◌∷◌, ◌++◌, ℕ, zero, suc, ◌+◌, ◌-◌, ◌*◌, ◌%◌, ◌≤◌, ◌<◌, length, take, drop, set, get_or, Bool, true, false}
+use Rattle.std.specs.Prelude.{◌≡◌, refl, List, [], ◌∷◌, ◌++◌, ℕ, zero, suc, ◌+◌, ◌-◌, ◌*◌, ◌%◌, ◌≤◌, ◌<◌, length, take, drop, set, get_or, Bool, true, false, None, Some}
+use Rattle.std.specs.Bool.{MatchBool}
+use Rattle.std.specs.List.{AllWithin, HoldsAt}
 use Rattle.std.proofs.Common.{sym, ap, ◌∙◌, subst, subst₂, append_assoc, inl, inr, le_antisymm, not-suc-le-zero, le_of_suc-le-suc, add-one, arith, take_all, take-suc, take-suc-set}
 use borrow.Author.Tests.{lt-ltb, le-ltb, le-leb, lt-leb}
-use Rattle.text.specs.declared.hex.Unhexed.{Unhexed}
-use Rattle.text.specs.Hex.{digit_of, Spells, none, byte, Hex, Unhexes}
+use Rattle.text.specs.Hex.{digit_of, Spells, none, byte, Hex, Digits, Unhexes}
 
 -- Each case of `digit_of`.
 module _ (c : ℕ) where
@@ -80,11 +81,11 @@ spelled_whole word out i n a b e s =
 pub never : {A : Type 0} → ◌≡◌ {A = Bool} true false → A
 never e = absurd (let z : ◌≡◌ {A = ℕ} 0 1 = cc in omega arith)
 
-pub refuses : {word out : List ℕ} {r : Unhexed} → r.good ≡ false → r.count ≡ 0 → ((bytes : List ℕ) → length bytes ≤ length out → Hex word bytes → ⊥) → Unhexes word out r out
-refuses g z f = record { long = refl; within = omega arith; rest = refl; yes = λ t. absurd (let e : ◌≡◌ {A = ℕ} 0 1 = cc in omega arith); no = λ t. (z, f) }
+pub refuses : {word out : List ℕ} → ((bytes : List ℕ) → length bytes ≤ length out → Hex word bytes → ⊥) → Unhexes word out None out
+refuses f = (refl, f)
 
-pub takes : {word out after : List ℕ} {r : Unhexed} (n : ℕ) → r.good ≡ true → r.count ≡ n → length after ≡ length out → n ≤ length after → drop n after ≡ drop n out → Hex word (take n after) → Unhexes word out r after
-takes n g e l w d h = record { long = l; within = rw e w; rest = rw e d; yes = λ t. rw e h; no = λ f. never (sym g ∙ f) }
+pub takes : {word out after : List ℕ} (n : ℕ) → length after ≡ length out → n ≤ length after → drop n after ≡ drop n out → Hex word (take n after) → Unhexes word out (Some n) after
+takes n l w d h = record { long = l; within = w; rest = d; spelled = h }
 
 -- a word of no character
 pub empty_no : {word bytes : List ℕ} → length word ≡ 0 → Hex word bytes → ⊥
@@ -106,11 +107,27 @@ pub long : {word bytes : List ℕ} → 1 < length word → Hex word bytes → Sp
 long h (inl (e, _)) = absurd (omega (arith, ap length e))
 long h (inr (_, s)) = s
 
+-- a word that is not `-` spells its bytes
+pub spelled : {word bytes : List ℕ} → (word ≡ 45 ∷ [] → ⊥) → Hex word bytes → (0 < length word) × Spells word bytes
+spelled f (inl (e, _)) = absurd (f e)
+spelled f (inr s) = s
+
+pub odd_spells : {word bytes : List ℕ} → length word % 2 ≡ 1 → Spells word bytes → ⊥
+odd_spells e s = omega (arith, spells_length s)
+
+pub room_spells : {word bytes : List ℕ} (n : ℕ) → n * 2 ≤ length word → length bytes < n → Spells word bytes → ⊥
+room_spells n e l s = omega (arith, spells_length s)
+
 pub odd_no : {word bytes : List ℕ} → 1 < length word → length word % 2 ≡ 1 → Hex word bytes → ⊥
-odd_no h e x = omega (arith, spells_length (long h x))
+odd_no h e x = odd_spells e (long h x)
 
 pub room_no : {word bytes : List ℕ} (n : ℕ) → 1 < length word → n * 2 ≤ length word → length bytes < n → Hex word bytes → ⊥
-room_no n h e l x = omega (arith, spells_length (long h x))
+room_no n h e l x = room_spells n e l (long h x)
 
 pub digit_no : {word bytes : List ℕ} (k : ℕ) → k < length word → digit_of (get_or word k 0) ≡ 16 → Spells word bytes → ⊥
 digit_no k l e x = omega (arith, spells_digit x k l)
+
+-- what `are_digits` says, by the answer of a search for a character that is no digit
+pub digits_by : (word : List ℕ) (r : Bool) → MatchBool r (AllWithin (λ c. digit_of c < 16) word 0 (length word)) ((k : ℕ) × (k < length word) × HoldsAt (λ c. digit_of c ≡ 16) word k) → Digits word r
+digits_by word true all = record { all = λ e k l. all k 0 (omega arith) l; not = λ e. absurd (let z : ◌≡◌ {A = ℕ} 0 1 = cc in omega arith) }
+digits_by word false (k, l, e) = record { all = λ e. absurd (let z : ◌≡◌ {A = ℕ} 0 1 = cc in omega arith); not = λ e' bytes s. digit_no k l (e 0) s }

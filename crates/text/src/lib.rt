@@ -5,6 +5,6 @@ pub mod hex;
 pub mod numeral;
 pub mod word;
 
-pub use hex::{Unhexed, are_digits, glyph, unhex};
-pub use numeral::{Number, decimal};
+pub use hex::{are_digits, glyph, unhex};
+pub use numeral::decimal;
 pub use word::word_end;

@@ -1,6 +1,6 @@
 -- What a public writer answers that has no room.
 -- Assumes nothing.
-use Rattle.std.specs.Prelude.{◌≡◌, Bool, true, false, cond, List, [], ℕ, ◌+◌, ◌-◌, ◌≤◌, ◌<◌, leb, length}
+use Rattle.std.specs.Prelude.{◌≡◌, Bool, true, false, cond, List, [], ℕ, ◌+◌, ◌-◌, ◌≤◌, ◌<◌, leb, length, Result, Err}
 use Rattle.std.proofs.Math.Path.{refl}
 use Rattle.std.proofs.Common.{sym, ap, subst, ◌∙◌, arith}
 use borrow.Author.Tests.{leb-true, leb-false}
@@ -15,8 +15,6 @@ use Rattle.xdr.specs.Laws.Padding.{eight-length}
 use Rattle.xdr.specs.Laws.Fixed.{Fixed}
 use Rattle.xdr.specs.Laws.Write.{Ready, no_pieces, writes-past, writes_short}
 use Rattle.xdr.specs.Laws.Lays.{size_is, eight-ready}
-use Rattle.xdr.specs.declared.answer.Wrote.{Wrote}
-use Rattle.xdr.specs.declared.answer.Wrote.TheVariants as wrote
 use Rattle.xdr.specs.declared.refusal.Refusal.{Refusal}
 use Rattle.xdr.specs.declared.refusal.Refusal.TheVariants.{NoRoom, PastEnd}
 
@@ -45,23 +43,23 @@ module _ {M S : Type 0} (F : Format M S) (s : List ℕ) (x : S) {n : ℕ} (l : l
   off_at e = off-by (leb at (length o)) (leb (at + n) (length o)) refl refl e
 
   -- there was no room
-  pub room-off : {w : Wrote} {q : Refusal} → view_wrote w ≡ roomed (length o) at n → w ≡ wrote.Refused q → Writes F s x at o (view_wrote w) o
-  room-off e f = subst (λ w. Writes F s x at o w o) (sym (ap view_wrote f)) (off_at (sym (ap view_wrote f) ∙ e))
+  pub room-off : {w : Result ℕ Refusal} {q : Refusal} → view_wrote w ≡ roomed (length o) at n → w ≡ Err q → Writes F s x at o (unwritten q) o
+  room-off e f = off_at (sym (ap view_wrote f) ∙ e)
 
 -- a writer with no pieces
-module _ {M : Type 0} (C : Codec M) (small : (x : M) → length (C.kind.write x) ≤ most) (x : M) (at : ℕ) (o : List ℕ) (w : Wrote) (n : ℕ) where
-  pub plain-off : (q : Refusal) → n ≡ length (C.kind.write x) → view_wrote w ≡ roomed (length o) at n → w ≡ wrote.Refused q
-      → Writes (exactly C) [] x at o (view_wrote w) o
+module _ {M : Type 0} (C : Codec M) (small : (x : M) → length (C.kind.write x) ≤ most) (x : M) (at : ℕ) (o : List ℕ) (w : Result ℕ Refusal) (n : ℕ) where
+  pub plain-off : (q : Refusal) → n ≡ length (C.kind.write x) → view_wrote w ≡ roomed (length o) at n → w ≡ Err q
+      → Writes (exactly C) [] x at o (unwritten q) o
   plain-off q l e f = room-off (exactly C) [] x (sym l) (no_pieces C x) (omega (arith, small x)) at o e f
 
 -- a kind of a fixed size
 module _ {M : Type 0} {k : ℕ} {C : Codec M} (F : Fixed k C) where
-  module _ (x : M) (at : ℕ) (o : List ℕ) (w : Wrote) where
-    pub fixed_off : (q : Refusal) → view_wrote w ≡ roomed (length o) at k → w ≡ wrote.Refused q → k ≤ most → Writes (exactly C) [] x at o (view_wrote w) o
+  module _ (x : M) (at : ℕ) (o : List ℕ) (w : Result ℕ Refusal) where
+    pub fixed_off : (q : Refusal) → view_wrote w ≡ roomed (length o) at k → w ≡ Err q → k ≤ most → Writes (exactly C) [] x at o (unwritten q) o
     fixed_off q e f s = plain-off C (λ x. omega (arith, F.writes x)) x at o w k q (size_is F x) e f
 
 -- eight bytes, held as the number that they write
-module _ (v at : ℕ) (o : List ℕ) (w : Wrote) where
-  pub eight-off : (q : Refusal) → v < 18446744073709551616 → view_wrote w ≡ roomed (length o) at 8 → w ≡ wrote.Refused q → Writes eight_bytes [] v at o (view_wrote w) o
+module _ (v at : ℕ) (o : List ℕ) (w : Result ℕ Refusal) where
+  pub eight-off : (q : Refusal) → v < 18446744073709551616 → view_wrote w ≡ roomed (length o) at 8 → w ≡ Err q → Writes eight_bytes [] v at o (unwritten q) o
   unfolding eight_held
   eight-off q h e f = room-off eight_bytes [] v (eight-length v h) (eight-ready v at o w) (omega arith) at o e f

@@ -30,7 +30,6 @@ pub mod Ranges
 pub mod Copying
 pub mod Lay
 pub mod LayPieces
-pub mod Signed
 pub mod Answers
 pub mod Closed
 pub mod Fixed

@@ -6,16 +6,14 @@ ghost use Rattle.xdr.specs.Meaning.Items.{word, hyper, word_pair, hyper_pair, fl
 ghost use Rattle.xdr.specs.Meaning.Pieces.{piece_answer, opaque_size, size_up_to, words_up_to};
 ghost use Rattle.xdr.specs.Meaning.Formats.{eight_held, piece_held, words_held, bytes, word_list};
 ghost use Rattle.xdr.specs.Meaning.Public.{laid, laid_of};
-ghost use Rattle.xdr.specs.Meaning.Views.{view_u32, view_u64, view_u32_pair, view_u64_pair, view_i32, view_i64, view_bool, view_piece};
+ghost use Rattle.xdr.specs.Meaning.Views.{view};
 ghost use Rattle.xdr.specs.declared.refusal.Refusal.TheVariants.{Ended};
 ghost use Rattle.xdr.specs.Laws.Answers.{pair_end};
 ghost use Rattle.xdr.specs.Laws.Write.{Put};
 ghost use Rattle.xdr.specs.Laws.Padding.{last_zeros, limit_of};
 
 use crate::MOST;
-use crate::answer::{
-    BoolRead, I32Read, I64Read, PieceRead, U32PairRead, U32Read, U64PairRead, U64Read,
-};
+use crate::answer::Took;
 use crate::copy::copy;
 use crate::number::{
     hyper_here, raw_here, signed32, signed64, swap, swap64, unsigned32, unsigned64, wide64,
@@ -41,34 +39,36 @@ fn cut_short(len: usize, at: usize, size: usize) -> Refusal
     }
 }
 
-pub fn u32_at(src: &[u8], at: usize) -> U32Read
-    ensures { view_u32 result ≡ word.kind.read src.now at }
+pub fn u32_at(src: &[u8], at: usize) -> Result<Took<u32>, Refusal>
+    ensures { view result ≡ word.kind.read src.now at }
 {
     if src.len() < 4 {
-        return U32Read::Refused(cut_short(src.len(), at, 4));
+        return Err(cut_short(src.len(), at, 4));
     }
     if src.len() - 4 < at {
-        return U32Read::Refused(cut_short(src.len(), at, 4));
+        return Err(cut_short(src.len(), at, 4));
     }
-    U32Read::Took {
+    Ok(Took {
         value: word_here(src, at),
         next: at + 4,
-    }
+        plain: true,
+    })
 }
 
-pub fn u64_at(src: &[u8], at: usize) -> U64Read
-    ensures { view_u64 result ≡ hyper.kind.read src.now at }
+pub fn u64_at(src: &[u8], at: usize) -> Result<Took<u64>, Refusal>
+    ensures { view result ≡ hyper.kind.read src.now at }
 {
     if src.len() < 8 {
-        return U64Read::Refused(cut_short(src.len(), at, 8));
+        return Err(cut_short(src.len(), at, 8));
     }
     if src.len() - 8 < at {
-        return U64Read::Refused(cut_short(src.len(), at, 8));
+        return Err(cut_short(src.len(), at, 8));
     }
-    U64Read::Took {
+    Ok(Took {
         value: hyper_here(src, at),
         next: at + 8,
-    }
+        plain: true,
+    })
 }
 
 // The refusal of the first of two numbers that is not whole.
@@ -86,82 +86,75 @@ fn pair_end(src: &[u8], at: usize, width: usize) -> Refusal
 }
 
 // Two words that stand together, with one test of room for both.
-pub fn u32_pair_at(src: &[u8], at: usize) -> U32PairRead
-    ensures { view_u32_pair result ≡ word_pair.kind.read src.now at }
+pub fn u32_pair_at(src: &[u8], at: usize) -> Result<Took<(u32, u32)>, Refusal>
+    ensures { view result ≡ word_pair.kind.read src.now at }
 {
     if src.len() < 8 {
-        return U32PairRead::Refused(pair_end(src, at, 4));
+        return Err(pair_end(src, at, 4));
     }
     if src.len() - 8 < at {
-        return U32PairRead::Refused(pair_end(src, at, 4));
+        return Err(pair_end(src, at, 4));
     }
-    U32PairRead::Took {
-        first: word_here(src, at),
-        second: word_here(src, at + 4),
+    Ok(Took {
+        value: (word_here(src, at), word_here(src, at + 4)),
         next: at + 8,
-    }
+        plain: true,
+    })
 }
 
-pub fn u64_pair_at(src: &[u8], at: usize) -> U64PairRead
-    ensures { view_u64_pair result ≡ hyper_pair.kind.read src.now at }
+pub fn u64_pair_at(src: &[u8], at: usize) -> Result<Took<(u64, u64)>, Refusal>
+    ensures { view result ≡ hyper_pair.kind.read src.now at }
 {
     if src.len() < 16 {
-        return U64PairRead::Refused(pair_end(src, at, 8));
+        return Err(pair_end(src, at, 8));
     }
     if src.len() - 16 < at {
-        return U64PairRead::Refused(pair_end(src, at, 8));
+        return Err(pair_end(src, at, 8));
     }
-    U64PairRead::Took {
-        first: hyper_here(src, at),
-        second: hyper_here(src, at + 8),
+    Ok(Took {
+        value: (hyper_here(src, at), hyper_here(src, at + 8)),
         next: at + 16,
-    }
+        plain: true,
+    })
 }
 
-pub fn i32_at(src: &[u8], at: usize) -> I32Read
-    ensures { view_i32 result ≡ int.kind.read src.now at }
+pub fn i32_at(src: &[u8], at: usize) -> Result<Took<i32>, Refusal>
+    ensures { view result ≡ int.kind.read src.now at }
 {
-    let r = u32_at(src, at);
-    let U32Read::Took { value: v, next: n } = r else {
-        return I32Read::Refused(r.refusal());
-    };
-    I32Read::Took {
-        value: signed32(v),
-        next: n,
-    }
+    let word = u32_at(src, at)?;
+    Ok(Took {
+        value: signed32(word.value),
+        next: word.next,
+        plain: true,
+    })
 }
 
-pub fn i64_at(src: &[u8], at: usize) -> I64Read
-    ensures { view_i64 result ≡ long.kind.read src.now at }
+pub fn i64_at(src: &[u8], at: usize) -> Result<Took<i64>, Refusal>
+    ensures { view result ≡ long.kind.read src.now at }
 {
-    let r = u64_at(src, at);
-    let U64Read::Took { value: v, next: n } = r else {
-        return I64Read::Refused(r.refusal());
-    };
-    I64Read::Took {
-        value: signed64(v),
-        next: n,
-    }
+    let hyper = u64_at(src, at)?;
+    Ok(Took {
+        value: signed64(hyper.value),
+        next: hyper.next,
+        plain: true,
+    })
 }
 
 // Each nonzero flag is true.
-pub fn bool_at(src: &[u8], at: usize) -> BoolRead
-    ensures { view_bool result ≡ flag.kind.read src.now at }
+pub fn bool_at(src: &[u8], at: usize) -> Result<Took<bool>, Refusal>
+    ensures { view result ≡ flag.kind.read src.now at }
 {
-    let r = u32_at(src, at);
-    let U32Read::Took { value: v, next: n } = r else {
-        return BoolRead::Refused(r.refusal());
-    };
-    BoolRead::Took {
-        value: v != 0,
-        next: n,
-        plain: v < 2,
-    }
+    let word = u32_at(src, at)?;
+    Ok(Took {
+        value: word.value != 0,
+        next: word.next,
+        plain: word.value < 2,
+    })
 }
 
 // Eight fixed bytes, as the number that they write.
-pub fn eight_at(src: &[u8], at: usize) -> U64Read
-    ensures { view_u64 result ≡ eight_held.read src.now at }
+pub fn eight_at(src: &[u8], at: usize) -> Result<Took<u64>, Refusal>
+    ensures { view result ≡ eight_held.read src.now at }
 {
     u64_at(src, at)
 }
@@ -195,17 +188,17 @@ fn pad_zeros(src: &[u8], other: usize, at: usize, n: usize) -> bool
 }
 
 // The n bytes of content and their pad, of an opaque that begins at a place that has its length word. The pad is the end of a word.
-fn body_at(src: &[u8], at: usize, n: u32) -> PieceRead
+fn body_at(src: &[u8], at: usize, n: u32) -> Result<Took<Piece>, Refusal>
     requires { at + 4 ≤ length src.now }
-    ensures { view_piece result ≡ piece_answer src.now at n }
+    ensures { view result ≡ piece_answer src.now at n }
 {
     let n = n as usize;
     let m = (n + 3) / 4 * 4;
     if src.len() - at - 4 < m {
-        return PieceRead::Refused(cut_short(src.len(), at, 4 + m));
+        return Err(cut_short(src.len(), at, 4 + m));
     }
     let clean = pad_zeros(src, at, at + m, n);
-    PieceRead::Took {
+    Ok(Took {
         value: Piece {
             at: at + 4,
             count: n,
@@ -213,32 +206,29 @@ fn body_at(src: &[u8], at: usize, n: u32) -> PieceRead
         },
         next: at + 4 + m,
         plain: clean,
-    }
+    })
 }
 
-pub fn opaque_at(src: &[u8], at: usize) -> PieceRead
-    ensures { view_piece result ≡ piece_held.read src.now at }
+pub fn opaque_at(src: &[u8], at: usize) -> Result<Took<Piece>, Refusal>
+    ensures { view result ≡ piece_held.read src.now at }
 {
-    let r = u32_at(src, at);
-    let U32Read::Took { value: n, next: _ } = r else {
-        return PieceRead::Refused(r.refusal());
-    };
-    body_at(src, at, n)
+    let count = u32_at(src, at)?;
+    body_at(src, at, count.value)
 }
 
 // The same of a body that is whole words as a rule, as a credential's is. That is foreseen, and then there is no pad to look at.
-fn whole_body_at(src: &[u8], at: usize, n: u32) -> PieceRead
+fn whole_body_at(src: &[u8], at: usize, n: u32) -> Result<Took<Piece>, Refusal>
     requires { at + 4 ≤ length src.now }
-    ensures { view_piece result ≡ piece_answer src.now at n }
+    ensures { view result ≡ piece_answer src.now at n }
 {
     if n % 4 != 0 {
         return body_at(src, at, n);
     }
     let n = n as usize;
     if src.len() - at - 4 < n {
-        return PieceRead::Refused(cut_short(src.len(), at, 4 + n));
+        return Err(cut_short(src.len(), at, 4 + n));
     }
-    PieceRead::Took {
+    Ok(Took {
         value: Piece {
             at: at + 4,
             count: n,
@@ -246,33 +236,28 @@ fn whole_body_at(src: &[u8], at: usize, n: u32) -> PieceRead
         },
         next: at + 4 + n,
         plain: true,
-    }
+    })
 }
 
-pub fn whole_opaque_at(src: &[u8], at: usize) -> PieceRead
-    ensures { view_piece result ≡ piece_held.read src.now at }
+pub fn whole_opaque_at(src: &[u8], at: usize) -> Result<Took<Piece>, Refusal>
+    ensures { view result ≡ piece_held.read src.now at }
 {
-    let r = u32_at(src, at);
-    let U32Read::Took { value: n, next: _ } = r else {
-        return PieceRead::Refused(r.refusal());
-    };
-    whole_body_at(src, at, n)
+    let count = u32_at(src, at)?;
+    whole_body_at(src, at, count.value)
 }
 
 // A list of words: its count, then as many words.
-pub fn words_at(src: &[u8], at: usize) -> PieceRead
-    ensures { view_piece result ≡ words_held.read src.now at }
+pub fn words_at(src: &[u8], at: usize) -> Result<Took<Piece>, Refusal>
+    ensures { view result ≡ words_held.read src.now at }
 {
-    let r = u32_at(src, at);
-    let U32Read::Took { value: n, next: p } = r else {
-        return PieceRead::Refused(r.refusal());
-    };
-    let n = n as usize;
+    let count = u32_at(src, at)?;
+    let n = count.value as usize;
+    let p = count.next;
     let all = n * 4;
     if src.len() - p < all {
-        return PieceRead::Refused(cut_short(src.len(), at, 4 + all));
+        return Err(cut_short(src.len(), at, 4 + all));
     }
-    PieceRead::Took {
+    Ok(Took {
         value: Piece {
             at: p,
             count: n,
@@ -280,7 +265,7 @@ pub fn words_at(src: &[u8], at: usize) -> PieceRead
         },
         next: p + all,
         plain: true,
-    }
+    })
 }
 
 // A word at the front of a buffer, which is left as it was where it has no four bytes.

@@ -14,10 +14,8 @@ mod read;
 pub mod refusal;
 mod write;
 
-pub use answer::{
-    BoolRead, I32Read, I64Read, PieceRead, U32PairRead, U32Read, U64PairRead, U64Read, Wrote,
-};
-pub use piece::{Marks, Piece, WordFound, inside, part, word_of, words_inside, words_part};
+pub use answer::Took;
+pub use piece::{Marks, Piece, inside, part, word_of, words_inside, words_part};
 pub use read::{
     read_bool, read_eight, read_i32, read_i64, read_opaque, read_u32, read_u64, read_words,
 };

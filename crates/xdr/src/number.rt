@@ -61,44 +61,28 @@ pub(crate) fn hyper_here(src: &[u8], at: usize) -> u64
     wide64(word_here(src, at)) * 4294967296 + wide64(word_here(src, at + 4))
 }
 
-// Two's complement, worked out from the unsigned word.
-pub(crate) fn signed32(v: u32) -> i32
-    ensures { result ≡ signed 2147483648 v }
+// Two's complement.
+pub(crate) fn signed32(word: u32) -> i32
+    ensures { result ≡ signed 2147483648 word }
 {
-    if v < 2147483648 {
-        v as i32
-    } else {
-        -1 - (4294967295 - v) as i32
-    }
+    word.cast_signed()
 }
 
-pub(crate) fn signed64(v: u64) -> i64
-    ensures { result ≡ signed 9223372036854775808 v }
+pub(crate) fn signed64(hyper: u64) -> i64
+    ensures { result ≡ signed 9223372036854775808 hyper }
 {
-    if v < 9223372036854775808 {
-        v as i64
-    } else {
-        -1 - (18446744073709551615 - v) as i64
-    }
+    hyper.cast_signed()
 }
 
 // And back.
-pub(crate) fn unsigned32(v: i32) -> u32
-    ensures { result ≡ unsigned 2147483648 v }
+pub(crate) fn unsigned32(int: i32) -> u32
+    ensures { result ≡ unsigned 2147483648 int }
 {
-    if v < 0 {
-        4294967295 - (-1 - v) as u32
-    } else {
-        v as u32
-    }
+    int.cast_unsigned()
 }
 
-pub(crate) fn unsigned64(v: i64) -> u64
-    ensures { result ≡ unsigned 9223372036854775808 v }
+pub(crate) fn unsigned64(long: i64) -> u64
+    ensures { result ≡ unsigned 9223372036854775808 long }
 {
-    if v < 0 {
-        18446744073709551615 - (-1 - v) as u64
-    } else {
-        v as u64
-    }
+    long.cast_unsigned()
 }

@@ -6,67 +6,65 @@ ghost use Rattle.xdr.specs.Meaning.Order.{roomed, placing};
 ghost use Rattle.xdr.specs.Meaning.Sources.{longer};
 
 use crate::MOST;
-use crate::answer::Wrote;
 use crate::refusal::Refusal;
 
-// Whether a message may be read from a place on.
-#[derive(Clone, Copy)]
-pub enum Opening {
-    Refused(Refusal),
-    Open,
-}
-
 // A reader: 3, then 9.
-pub fn open_at(src: &[u8], at: usize) -> Opening
+pub fn open_at(src: &[u8], at: usize) -> Result<(), Refusal>
     ensures { view_opening at result ≡ opened src.now at (took tt at true) }
 {
     if MOST < src.len() {
-        return Opening::Refused(Refusal::TooLong);
+        return Err(Refusal::TooLong);
     }
     if src.len() < at {
-        return Opening::Refused(Refusal::PastEnd);
+        return Err(Refusal::PastEnd);
     }
-    Opening::Open
+    Ok(())
 }
 
 // A writer of `size` bytes that have no source: 9, then 5.
-pub fn room(len: usize, at: usize, size: usize) -> Wrote
+pub fn room(len: usize, at: usize, size: usize) -> Result<usize, Refusal>
     ensures { view_wrote result ≡ roomed len at size }
 {
     if len < at {
-        return Wrote::Refused(Refusal::PastEnd);
+        return Err(Refusal::PastEnd);
     }
     if len - at < size {
-        return Wrote::Refused(Refusal::NoRoom { needed: size });
+        return Err(Refusal::NoRoom { needed: size });
     }
-    Wrote::Done(at + size)
+    Ok(at + size)
 }
 
 // The longer of two lengths: of the sources of a message whose pieces lie in two.
 pub fn longer(a: usize, b: usize) -> usize
     ensures { result ≡ longer a b }
 {
-    if a <= b { b } else { a }
+    a.max(b)
 }
 
 // Any writer: 9, 3 for the source, 4, 3 for the encoding, 5.
-pub fn place(source: usize, inside: bool, size: usize, room: usize, at: usize) -> Wrote
+pub fn place(
+    source: usize,
+    inside: bool,
+    size: usize,
+    room: usize,
+    at: usize,
+) -> Result<usize, Refusal>
     ensures { view_wrote result ≡ placing source inside size room at }
 {
     if room < at {
-        return Wrote::Refused(Refusal::PastEnd);
+        return Err(Refusal::PastEnd);
     }
     if MOST < source {
-        return Wrote::Refused(Refusal::TooLong);
+        return Err(Refusal::TooLong);
     }
     if !inside {
-        return Wrote::Refused(Refusal::Outside);
+        return Err(Refusal::Outside);
     }
     if MOST < size {
-        return Wrote::Refused(Refusal::TooLong);
+        return Err(Refusal::TooLong);
     }
     if room - at < size {
-        return Wrote::Refused(Refusal::NoRoom { needed: size });
+        return Err(Refusal::NoRoom { needed: size });
     }
-    Wrote::Done(at + size)
+    Ok(at + size)
 }

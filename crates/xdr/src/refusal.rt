@@ -32,14 +32,11 @@ impl Refusal {
         ensures { result ≡ number_of self }
     {
         match self {
-            Refusal::Ended {
-                place: _,
-                wanting: _,
-            } => 1,
+            Refusal::Ended { .. } => 1,
             Refusal::Undeclared(_) => 2,
             Refusal::TooLong => 3,
             Refusal::Outside => 4,
-            Refusal::NoRoom { needed: _ } => 5,
+            Refusal::NoRoom { .. } => 5,
             Refusal::Unfit => 6,
             Refusal::Overrun => 7,
             Refusal::NotCall => 8,
@@ -53,16 +50,10 @@ impl Refusal {
         ensures { result ≡ place_of self }
     {
         match self {
-            Refusal::Ended { place, wanting: _ } => place,
-            Refusal::Undeclared(p) => p,
-            Refusal::TooLong => 0,
-            Refusal::Outside => 0,
-            Refusal::NoRoom { needed: _ } => 0,
-            Refusal::Unfit => 0,
-            Refusal::Overrun => 0,
-            Refusal::NotCall => 0,
-            Refusal::PastEnd => 0,
-            Refusal::LongPath(p) => p,
+            Refusal::Ended { place, .. } => place,
+            Refusal::Undeclared(place) => place,
+            Refusal::LongPath(place) => place,
+            _ => 0,
         }
     }
 
@@ -71,16 +62,8 @@ impl Refusal {
         ensures { result ≡ wanting_of self }
     {
         match self {
-            Refusal::Ended { place: _, wanting } => wanting,
-            Refusal::Undeclared(_) => 0,
-            Refusal::TooLong => 0,
-            Refusal::Outside => 0,
-            Refusal::NoRoom { needed: _ } => 0,
-            Refusal::Unfit => 0,
-            Refusal::Overrun => 0,
-            Refusal::NotCall => 0,
-            Refusal::PastEnd => 0,
-            Refusal::LongPath(_) => 0,
+            Refusal::Ended { wanting, .. } => wanting,
+            _ => 0,
         }
     }
 
@@ -89,19 +72,8 @@ impl Refusal {
         ensures { result ≡ needed_of self }
     {
         match self {
-            Refusal::Ended {
-                place: _,
-                wanting: _,
-            } => 0,
-            Refusal::Undeclared(_) => 0,
-            Refusal::TooLong => 0,
-            Refusal::Outside => 0,
             Refusal::NoRoom { needed } => needed,
-            Refusal::Unfit => 0,
-            Refusal::Overrun => 0,
-            Refusal::NotCall => 0,
-            Refusal::PastEnd => 0,
-            Refusal::LongPath(_) => 0,
+            _ => 0,
         }
     }
 }

@@ -1,6 +1,7 @@
 -- What a copier's proof cites: the reader's answer and the writer's make the copy's.
 -- Assumes nothing.
-use Rattle.std.specs.Prelude.{◌≡◌, refl, Bool, true, false, List, [], ◌∷◌, ◌++◌, ℕ, zero, suc, ◌+◌, ◌-◌, ◌≤◌, ◌<◌, length, take, drop}
+use Rattle.std.specs.Prelude.{◌≡◌, refl, Bool, List, [], ◌∷◌, ◌++◌, ℕ, zero, suc, ◌+◌, ◌-◌, ◌≤◌, ◌<◌, length, take, drop, Result, Ok, Err}
+use Rattle.xdr.specs.declared.answer.Took.{Took}
 use Rattle.std.proofs.Common.{sym, ap, subst, ◌∙◌, arith}
 use Rattle.std.proofs.Math.Option.{Option}
 use borrow.Author.Tests.{le-leb}
@@ -8,47 +9,49 @@ use Rattle.xdr.specs.Meaning.Answer.{Answer, took, refused, opened, most, Writte
 use Rattle.xdr.specs.Meaning.Kind.{Codec}
 use Rattle.xdr.specs.Meaning.Format.{Format, Branch, exactly}
 use Rattle.xdr.specs.Meaning.Order.{placing}
-use Rattle.xdr.specs.Meaning.Views.{view_wrote}
-use Rattle.xdr.specs.declared.answer.Wrote.{Wrote}
+use Rattle.xdr.specs.Meaning.Views.{view, view_wrote}
 use Rattle.xdr.specs.Meaning.Public.{Answers, output, writing, Writes}
 use Rattle.xdr.specs.Meaning.Within.{WritesWithin}
 use Rattle.xdr.specs.Meaning.Marks.{MarksAre}
 use Rattle.xdr.specs.Laws.Public.{kept}
-use Rattle.xdr.specs.Laws.Unpadded.{no-marks}
 use Rattle.xdr.specs.Laws.Within.{Bounded}
 use Rattle.xdr.proofs.Within.{read-writes}
-use Rattle.door.specs.Meaning.Copy.{Is, Copy, unknown, unread, said_of, Copies}
 use Rattle.door.specs.Meaning.Kinds.{CopiesOf, CopiesIn}
+use Rattle.door.specs.Meaning.Copy.{Is, Copy, unknown, unread, said_of, Copies}
 use Rattle.xdr.specs.declared.refusal.Refusal.{Refusal}
 
 -- by the case t that a writer's answer is
-pub said_at : {f : Written → Copy} {w t : Wrote} {y : Copy} → w ≡ t → y ≡ f (view_wrote t) → Is f (view_wrote w) y
+pub said_at : {f : Written → Copy} {w t : Result ℕ Refusal} {y : Copy} → w ≡ t → y ≡ f (view_wrote t) → Is f (view_wrote w) y
 said_at {f} e h = record { is = h ∙ ap (λ z. f (view_wrote z)) (sym e) }
 
-module _ {M S R : Type 0} (F : Format M S) (view : R → Answer S) (s : List ℕ) (at start : ℕ) (o : List ℕ) {r t : R} (c : Answers F s at (view r)) (e : r ≡ t) where
+module _ {M S : Type 0} (F : Format M S) (s : List ℕ) (at start : ℕ) (o : List ℕ) {r : Result (Took S) Refusal} (c : Answers F s at (view r)) where
   -- the reading was refused
-  pub not-read : {q : Refusal} → view t ≡ refused q → Copies F s at start o (unread q) o
-  not-read {q} h =
-      let k : opened s at (F.held.read s at) ≡ refused q = sym c.is ∙ ap view e ∙ h in
+  pub not-read : {q : Refusal} → r ≡ Err q → Copies F s at start o (unread q) o
+  not-read {q} e =
+      let k : opened s at (F.held.read s at) ≡ refused q = sym c.is ∙ ap view e in
       record { says = rw k; leaves = rw k }
 
   -- it was taken: the writer's answer is the copy's
-  pub was_read : {x : S} {n : ℕ} {b : Bool} → view t ≡ took x n b → {o' : List ℕ} {w : Written} → Writes F s x start o w o'
-      → {l : List Bool} → MarksAre F x l → {a : Copy} → a ≡ said_of n b l w → Copies F s at start o a o'
-  was_read {x} {n} {b} v {w = w} d {l} m f =
-      let k : opened s at (F.held.read s at) ≡ took x n b = sym c.is ∙ ap view e ∙ v in
+  pub was_read : {x : Took S} → r ≡ Ok x → {o' : List ℕ} {w : Written} → Writes F s x.value start o w o'
+      → {l : List Bool} → MarksAre F x.value l → {a : Copy} → a ≡ said_of x.next x.plain l w → Copies F s at start o a o'
+  was_read {x} e {w = w} d {l} m f =
+      let k : opened s at (F.held.read s at) ≡ took x.value x.next x.plain = sym c.is ∙ ap view e in
       record {
-        says = rw k (f ∙ ap (λ z. said_of n b z w) (m.are s) ∙ ap (said_of n b (F.held.marks s x)) d.says);
+        says = rw k (f ∙ ap (λ z. said_of x.next x.plain z w) (m.are s) ∙ ap (said_of x.next x.plain (F.held.marks s x.value)) d.says);
         leaves = d.leaves ∙ sym (rw (k, d.says));
       }
 
--- a message under a bound, read and written: what was read keeps to the bound
-module _ {M S R : Type 0} {F : Format M S} {over : M → Option ℕ} {G : Format M S} (B : Bounded F over G) (view : R → Answer S) (s : List ℕ) (at start : ℕ) (o : List ℕ) {r t : R}
-    (c : Answers G s at (view r)) (e : r ≡ t) where
-  pub bounded-read : {x : S} {n : ℕ} {b : Bool} → view t ≡ took x n b → {o' : List ℕ} {w : Written} → WritesWithin F over s x start o w o'
-      → {l : List Bool} → MarksAre G x l → {a : Copy} → a ≡ said_of n b l w → Copies G s at start o a o'
-  bounded-read {x} {n} {b} v d m f =
-      was_read G view s at start o c e v (read-writes B s at (subst (Answers G s at) (ap view e ∙ v) c) d) m f
+-- x was read of s
+pub record Was {M S : Type 0} (F : Format M S) (s : List ℕ) (x : S) : Type 0 where
+  pub place : ℕ
+  pub next : ℕ
+  pub plain : Bool
+  pub answers : Answers F s place (took x next plain)
+
+-- a message under a bound: what was read keeps to it
+pub bounded : {M S : Type 0} {F : Format M S} {over : M → Option ℕ} {G : Format M S} (B : Bounded F over G) (s : List ℕ) (start : ℕ) (o : List ℕ) {x : S}
+    → Was G s x → {o' : List ℕ} {w : Written} → WritesWithin F over s x start o w o' → Writes G s x start o w o'
+bounded B s start o h d = read-writes B s h.place h.answers d
 
 -- a message without pieces is written with no source; with any source that is not too long it is written alike
 abbrev pub Free : {M S : Type 0} → Format M S → S → Type 0
@@ -78,13 +81,15 @@ module _ {M S : Type 0} (F : Format M S) (s : List ℕ) (h : length s ≤ most) 
 pub short : {M S : Type 0} (F : Format M S) (s : List ℕ) (at : ℕ) {a : Answer S} {x : S} {n : ℕ} {b : Bool} → Answers F s at a → a ≡ took x n b → length s ≤ most
 short F s at {x = x} {n = n} {b = b} c e = (((kept F).accepted_iff s at c).0 (x, n, b, e)).0
 
--- a message without pieces, read and written
-module _ {M R : Type 0} (C : Codec M) (view : R → Answer M) (s : List ℕ) (at start : ℕ) (o : List ℕ) {r t : R} where
-  pub plain-read : {x : M} {n : ℕ} {b : Bool} {o' : List ℕ} {w : Written} {a : Copy} → Answers (exactly C) s at (view r) → r ≡ t
-      → Writes (exactly C) [] x start o w o' → a ≡ said_of n b [] w → view t ≡ took x n b → Copies (exactly C) s at start o a o'
-  plain-read {w = w} c e d f v =
-      was_read (exactly C) view s at start o c e v
-      (freed (exactly C) s (short (exactly C) s at c (ap view e ∙ v)) (λ t. (refl, refl)) refl start o w d) (no-marks C _) f
+-- what was read and is written with no source
+pub unsourced-free : {M S : Type 0} (F : Format M S) (s : List ℕ) (start : ℕ) (o : List ℕ) {x x' : S} → Free F x → Was F s x → {o' : List ℕ} {w : Written}
+    → Writes F [] x' start o w o' → x' ≡ x → Writes F s x start o w o'
+unsourced-free F s start o free h {o'} {w} d e = freed F s (short F s h.place h.answers refl) free e start o w d
+
+-- of a codec, whose messages have no pieces
+pub unsourced : {M : Type 0} (C : Codec M) (s : List ℕ) (start : ℕ) (o : List ℕ) {x x' : M} → Was (exactly C) s x → {o' : List ℕ} {w : Written}
+    → Writes (exactly C) [] x' start o w o' → x' ≡ x → Writes (exactly C) s x start o w o'
+unsourced C s start o h d e = unsourced-free (exactly C) s start o (λ t. (refl, refl)) h d e
 
 -- a number that is none of the first is above them
 abbrev NoneOf : ℕ → ℕ → Type 0

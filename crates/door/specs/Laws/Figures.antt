@@ -4,7 +4,6 @@ use Rattle.std.specs.Prelude.{◌≡◌, refl, List, [], ◌∷◌, ◌++◌, �
 use Rattle.std.proofs.Common.{sym, ap, ◌∙◌, append-nil, arith, add-zero, zero-add, add-suc, suc-add, add-one, length-set, length-append, take_all}
 use Rattle.std.proofs.lemmas.List.{length-replicate}
 use Rattle.std.proofs.lemmas.List.Edits.{sets}
-use Rattle.std.proofs.Math.Seq.{length-sets}
 use Rattle.door.specs.Meaning.Figures.{Shown, Padded, Shows, Says}
 
 -- behind a list's end there are zeros

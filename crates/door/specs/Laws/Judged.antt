@@ -1,6 +1,6 @@
 -- `yugerzat_judge` says what `yugerzat_rewrite` says in a buffer that has room for the size that was told.
 -- Assumes nothing.
-use Rattle.std.specs.Prelude.{◌≡◌, true, false, cond, List, [], ◌∷◌, ℕ, zero, suc, ◌+◌, ◌-◌, ◌≤◌, leb, length}
+use Rattle.std.specs.Prelude.{◌≡◌, true, false, cond, List, [], ◌∷◌, ℕ, zero, suc, ◌+◌, ◌≤◌, leb, length}
 use Rattle.std.proofs.Math.Path.{refl}
 use Rattle.std.proofs.Common.{sym, ap, subst, ◌∙◌, zero-add, arith, leb-true, leb-false}
 use Rattle.std.proofs.Math.Bool.{Bool}
@@ -11,7 +11,7 @@ use Rattle.xdr.specs.Meaning.Format.{Format, Branch}
 use Rattle.xdr.specs.Meaning.Public.{output, writing}
 use Rattle.xdr.specs.Laws.Placing.{placing-long, placing-outside, placing-large, placing-short, placing-done}
 use Rattle.xdr.specs.declared.refusal.Refusal.TheVariants.{TooLong, Outside, NoRoom}
-use Rattle.door.specs.Meaning.Copy.{Copy, unknown, unread, unmade, made, said_of, copy_said, Copies}
+use Rattle.door.specs.Meaning.Copy.{Copy, unknown, unread, unmade, made, said_of, copy_said}
 use Rattle.door.specs.Meaning.Kinds.{kinds, CopiesOf}
 use Rattle.door.specs.Meaning.Exports.{code_of, figures, Told, judged_code, judged_figures, JudgeTold}
 

@@ -1,16 +1,14 @@
 -- What the proofs of the functions that lay figures cite.
 -- Assumes nothing.
-use Rattle.std.specs.Prelude.{◌≡◌, Bool, cond, not, ◌&&◌, ◌||◌, ℕ, ◌+◌, ◌-◌, ◌≤◌, ◌<◌, leb, ltb, length, get_or, set}
+use Rattle.std.specs.Prelude.{◌≡◌, Bool, cond, ◌&&◌, ◌||◌, ℕ, ◌+◌, ◌≤◌, ◌<◌, ltb, length, get_or, set}
 use Rattle.std.proofs.Math.Path.{refl, ap}
 use Rattle.std.proofs.Common.{sym, ap₂, subst, ◌∙◌, mod-lt, arith, Fits}
 use Rattle.std.proofs.Math.Bool.{true, false}
-use Rattle.std.proofs.lemmas.Bool.{false≢true}
 use mathlib.Core.List.{List, [], ◌++◌, append-nil}
 use Rattle.std.proofs.Math.Option.{Option, none, some}
 use Rattle.std.proofs.Math.Dec.{eqb}
 use Rattle.std.specs.Int.{w64}
-use borrow.Author.Tests.{leb-true, ltb-true, ltb-false, eqb-true, eqb-false, eq-eqb, ne_eqb}
-use Rattle.xdr.specs.Meaning.Answer.{most}
+use borrow.Author.Tests.{ltb-true, ltb-false, eqb-true, eqb-false, eq-eqb, ne_eqb}
 use Rattle.xdr.specs.Meaning.Kind.{Codec}
 use Rattle.xdr.specs.Meaning.Cases.{Cases}
 use Rattle.xdr.specs.Meaning.Format.{exactly}
@@ -31,7 +29,6 @@ use Rattle.nfs.specs.Meaning.Set.{SetTime, dont_change, server_time, client_time
 use Rattle.nfs.specs.Laws.Bytes.{owner_bytes, change_bytes, sattr-bytes, sattr-small, set-atime-timed, set-mtime-timed}
 use Rattle.nfs.specs.Laws.Change.{set-mode-optional, set-uid-optional, set-gid-optional, set-size-optional}
 use Rattle.nfs.specs.Laws.Write.{Timed}
-use Rattle.nfs.specs.declared.set.sattr3.{sattr3}
 use Rattle.door.specs.Meaning.Copy.{Is}
 use Rattle.door.specs.Meaning.Given.{low, is_word, option_fits, time_fits, sattr3_fits, option_of, time_of, sattr3_by, sattr3_given, WriteSattr3Called}
 use Rattle.door.specs.Laws.Parts.{Laid, sattr3_narrow, Tagged, word_bytes, hyper_bytes, time_bytes, owner_of, change_of, sattr_of, SattrQuick}
@@ -240,15 +237,7 @@ pub sattr-of : (l : List ℕ) → owner_of l ++ change_of l ≡ sattr_of l
 unfolding sattr_of
 sattr-of l = ap₂ (λ x y. x ++ y) (owner-is l) (change-is l) ∙ sattr-bytes (sattr3_by low l)
 
--- by a test of the figures and of the room
-pub quick-no : (l : List ℕ) (len at : ℕ) → SattrQuick l len at false
-quick-no l len at = record { narrow = λ e. absurd (false≢true e); room = λ e. absurd (false≢true e) }
-
-pub quick-by : {l : List ℕ} {len at : ℕ} {b : Bool} → Is sattr3_narrow l b → b ≡ true → at ≤ len → SattrQuick l len at (leb 60 (len - at))
-quick-by {len = len} {at = at} d e h =
-    record { narrow = λ _. yes d.is e; room = λ f. omega (arith, leb-true 60 (len - at) f) }
-
--- where it holds they are laid, and the sattr3 is written
+-- where the figures are narrow and there is room they are laid, and the sattr3 is written
 module _ {l : List ℕ} {len at : ℕ} {b : Bool} (q : SattrQuick l len at b) (e : b ≡ true) where
   longest : at + 60 ≤ len
   longest = q.room (yes refl e)

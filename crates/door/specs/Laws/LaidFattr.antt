@@ -1,15 +1,16 @@
 -- What the proofs of the functions that lay the figures of a fattr3 cite.
 -- Assumes nothing.
-use Rattle.std.specs.Prelude.{◌≡◌, refl, Bool, true, false, not, ℕ, ◌+◌, ◌-◌, ◌≤◌, ◌<◌, leb, length, get_or, set}
+use Rattle.std.specs.Prelude.{◌≡◌, refl, Bool, true, false, not, ℕ, ◌+◌, ◌-◌, ◌≤◌, ◌<◌, leb, length, get_or, set, Some}
+use Rattle.std.specs.Prelude as std
 use Rattle.std.proofs.Common.{sym, ◌∙◌, mod-lt, arith, length-append, Fits, leb-true}
 use Rattle.std.proofs.Math.Path.{ap, ap₂, subst}
-use Rattle.std.proofs.lemmas.Bool.{false≢true}
 use mathlib.Core.List.{List, [], ◌++◌, append_assoc}
 use Rattle.std.specs.Int.{w64}
 use Rattle.xdr.specs.Meaning.Combinators.{means, Exact, among}
 use Rattle.xdr.specs.Meaning.Format.{exactly}
 use Rattle.xdr.specs.Meaning.Items.{word, word_pair, hyper_pair}
 use Rattle.xdr.specs.Meaning.Public.{Writes, laid}
+use Rattle.xdr.specs.Meaning.Views.{view_found}
 use Rattle.xdr.specs.Laws.Exact.{among-exact}
 use Rattle.xdr.specs.Laws.Fixed.{word-fixed, word-pair-fixed, hyper-pair-fixed, pair-fixed}
 use Rattle.xdr.specs.Laws.LayPieces.{yes}
@@ -17,14 +18,11 @@ use Rattle.xdr.specs.Laws.Lays.{after, tail_of}
 use Rattle.xdr.specs.Laws.Ranges.{word_good, hyper-good}
 use Rattle.xdr.specs.Laws.Write.{room_at, sized-done, no_pieces}
 use Rattle.nfsattr.specs.Meaning.Attr.{ftype_number, ftypes, ftype, specdata, nfstime, fattr}
-use Rattle.nfsattr.specs.Meaning.Views.{found_ftype}
 use Rattle.nfsattr.specs.Laws.Bytes.{ftype-bytes, specdata-bytes, nfstime-bytes, ids-bytes, sizes-bytes, times-bytes, fattr-bytes}
 use Rattle.nfsattr.specs.Laws.Groups.{ids, sizes, times}
 use Rattle.nfsattr.specs.Laws.Sizes.{fattr-fixed}
 use Rattle.nfsattr.specs.declared.attr.ftype3.{ftype3}
 use Rattle.nfsattr.specs.declared.attr.fattr3.{fattr3}
-use Rattle.nfsattr.specs.declared.attr.FtypeFound.{FtypeFound}
-use Rattle.nfsattr.specs.declared.attr.FtypeFound.TheVariants as found
 use Rattle.door.specs.Meaning.Copy.{Is}
 use Rattle.door.specs.Meaning.Given.{low, are_words, fattr3_words, fattr3_by, fattr3_given, WriteFattr3Called}
 use Rattle.door.specs.Laws.Parts.{ids_of, sizes_of, times_of, fattr_of, FattrQuick}
@@ -133,14 +131,11 @@ number_of {n} {a} e =
     sym h
 
 -- by a test of the figures and of the room
-pub quick-no : (l : List ℕ) (len at : ℕ) → FattrQuick l len at false
-quick-no l len at = record { figures = λ e. absurd (false≢true e); room = λ e. absurd (false≢true e) }
-
-pub quick-by : {l : List ℕ} {len at : ℕ} {b : Bool} {r : FtypeFound} {a : ftype3} → Is (are_words fattr3_words) l b → b ≡ true
-    → found_ftype r ≡ among ftype_number ftypes (low (get_or l 0 0)) → r ≡ found.Is a → at ≤ len → FattrQuick l len at (leb 84 (len - at))
+pub quick-by : {l : List ℕ} {len at : ℕ} {b : Bool} {r : std.Option ftype3} {a : ftype3} → Is (are_words fattr3_words) l b → b ≡ true
+    → view_found r ≡ among ftype_number ftypes (low (get_or l 0 0)) → r ≡ Some a → at ≤ len → FattrQuick l len at (leb 84 (len - at))
 quick-by {len = len} {at = at} {a = a} d e f g h =
     record {
-      figures = λ _. record { kind = a; number = number_of (sym f ∙ ap found_ftype g); given = fattr3-some d e f g refl refl };
+      figures = λ _. record { kind = a; number = number_of (sym f ∙ ap view_found g); given = fattr3-some d e (sym (ap view_found g) ∙ f) refl };
       room = λ k. omega (arith, leb-true 84 (len - at) k);
     }
 

@@ -1,6 +1,6 @@
 -- What the proofs of the exported functions about mounts and ports cite.
 -- Assumes nothing.
-use Rattle.std.specs.Prelude.{◌≡◌, refl, not, List, ◌∷◌, ℕ, ◌≤◌, ◌<◌, eqb, length}
+use Rattle.std.specs.Prelude.{◌≡◌, refl, not, List, ◌∷◌, ℕ, ◌≤◌, ◌<◌, eqb, length, Bool, Result}
 use Rattle.std.proofs.Math.Option.{Option}
 use Rattle.std.proofs.Common.{arith}
 use Rattle.xdr.specs.Meaning.Answer.{Written}
@@ -11,7 +11,7 @@ use Rattle.xdr.specs.declared.piece.Piece.{Piece}
 use Rattle.door.specs.Meaning.Figures.{Shown, Says}
 use Rattle.door.specs.Laws.Figures.{at-case, shown_case}
 use Rattle.mount.specs.Meaning.Same.{Compares}
-use Rattle.mount.specs.declared.same.Compared.{Compared}
+use Rattle.xdr.specs.declared.refusal.Refusal.{Refusal}
 use Rattle.door.specs.Meaning.Exports.{wrote_code, wrote_figures}
 use Rattle.door.specs.Meaning.Mounting.{asked_code, asked_figures, AskCalled, WithinCalled, compared_code, compared_figures, SameCalled}
 
@@ -47,7 +47,7 @@ module _ (s : List ℕ) (x : Piece) (t : List ℕ) (y : Piece) (i : List ℕ) wh
   pub same-short : length i < 1 → SameCalled s x t y i 254 i
   same-short h = record { room = λ g. absurd (omega arith); short = λ g. (refl, refl) }
 
-  pub same-told : (c : Compared) (r : ℕ) (i' : List ℕ) → 1 ≤ length i → Says compared_code compared_figures c i r i' → Compares s x t y c → SameCalled s x t y i r i'
+  pub same-told : (c : Result Bool Refusal) (r : ℕ) (i' : List ℕ) → 1 ≤ length i → Says compared_code compared_figures c i r i' → Compares s x t y c → SameCalled s x t y i r i'
   same-told c r i' h u d =
       record {
         room = λ g. record { answer = c; compares = d; number = u.number; list = u.shown.list };
@@ -55,5 +55,5 @@ module _ (s : List ℕ) (x : Piece) (t : List ℕ) (y : Piece) (i : List ℕ) wh
       }
 
 -- a comparison's answer, by its case
-pub says-compared : {x t : Compared} {f i i' : List ℕ} {r : ℕ} → x ≡ t → Shown f i i' → f ≡ compared_figures t → r ≡ compared_code t → Says compared_code compared_figures x i r i'
+pub says-compared : {x t : Result Bool Refusal} {f i i' : List ℕ} {r : ℕ} → x ≡ t → Shown f i i' → f ≡ compared_figures t → r ≡ compared_code t → Says compared_code compared_figures x i r i'
 says-compared e s h n = record { number = at-case compared_code e n; shown = shown_case compared_figures e s h }

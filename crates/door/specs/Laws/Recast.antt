@@ -1,6 +1,6 @@
 -- A sattr3 rewritten by its bytes: copied as they stand, and if it is loose its flags then written anew.
 -- Assumes nothing.
-use Rattle.std.specs.Prelude.{◌≡◌, refl, Bool, true, cond, List, [], ◌∷◌, ◌++◌, ℕ, ◌+◌, ◌-◌, ◌≤◌, length, get_or, take, drop}
+use Rattle.std.specs.Prelude.{◌≡◌, refl, Bool, true, cond, List, [], ◌∷◌, ◌++◌, ℕ, ◌-◌, ◌≤◌, length, get_or, take, drop, Ok}
 use Rattle.std.proofs.Common.{sym, ap, ap₂, subst, ◌∙◌, append-nil, arith, zero-add, length-append, length-drop, take_at, drop_at, length-take-le, Fits}
 use Rattle.std.proofs.lemmas.List.Edits.{sets}
 use Rattle.std.specs.Int.{w8}
@@ -18,14 +18,12 @@ use Rattle.xdr.specs.Laws.Write.{Put, put-laid, put_same, writes-done}
 use Rattle.xdr.specs.Laws.Lays.{after, tail_of}
 use Rattle.nfs.specs.Meaning.Set.{sattr}
 use Rattle.nfs.specs.Laws.Bytes.{sattr-small}
-use Rattle.door.specs.declared.sattr3.Step.{Step}
-use Rattle.door.specs.declared.sattr3.Step.TheVariants as step
 use Rattle.door.specs.Meaning.Copy.{Span, made, Copies}
 use Rattle.door.specs.Meaning.Exports.{RewriteCalled}
 use Rattle.door.specs.Laws.Copy.{was_read, short}
 use Rattle.door.specs.Laws.Exports.{rewrite-told}
 use Rattle.door.specs.Laws.Given.{whole, whole_back}
-use Rattle.door.specs.Laws.Walked.{Six, six_fields, of_six, six-named, SixWalked, SixWalksBy, SixWalks}
+use Rattle.door.specs.Laws.Walked.{Six, six_fields, of_six, six-named, SixWalked}
 use Rattle.door.specs.Laws.Settled.{Settled}
 
 -- whatever six fields were read from p up to n, they are written at the front of o
@@ -103,9 +101,6 @@ pub recast-long : {s : List ℕ} {p n : ℕ} {b : Bool} {o o' : List ℕ} → Re
 recast-long c = c.same
 
 -- what the walk tells its callers
-pub was-walked : {s : List ℕ} {p n : ℕ} {b : Bool} {r : Step} → SixWalks s p r → r ≡ step.Took n b → SixWalked s p n b
-was-walked {s} {p} w e = subst (SixWalksBy s p) e w.by
-
 module _ {s : List ℕ} {p n : ℕ} {b : Bool} (walked : SixWalked s p n b) where
   abbrev reading : Took (exactly sattr)
   reading = record { source = s; place = p; value = of_six walked.value; next = n; plain = b; answers = walked.answers }
@@ -131,7 +126,7 @@ module _ {s : List ℕ} {p n : ℕ} {b : Bool} (walked : SixWalked s p n b) wher
         (subst (λ m. Writes (exactly sattr) s (of_six y) 0 o (done m) (after 0 o o')) (zero-add (n - p)) d)
 
     copies : Copies (exactly sattr) s p 0 o (made n b [] (n - p)) o'
-    copies = was_read (exactly sattr) (λ a. a) s p 0 o walked.answers refl refl writes (no-marks sattr (of_six walked.value)) refl
+    copies = was_read (exactly sattr) s p 0 o {r = Ok (record { value = of_six walked.value; next = n; plain = b })} walked.answers refl writes (no-marks sattr (of_six walked.value)) refl
 
     pub recast-told : {i i' : List ℕ} {d : ℕ} → 3 ≤ length i → d ≡ cond b 1 0 → i' ≡ sets i 0 (n ∷ d ∷ (n - p) ∷ []) → RewriteCalled 44 s p o i 0 o' i'
     recast-told {i} {i'} {d} h g f =

@@ -1,24 +1,24 @@
 -- The flags of a message written anew where it stands: what the private functions of a sattr3's rewriting promise, and what their proofs cite.
 -- Assumes nothing.
-use Rattle.std.specs.Prelude.{◌≡◌, refl, Bool, true, false, cond, List, [], ◌++◌, ℕ, zero, suc, ◌+◌, ◌≤◌, length, take, drop}
+use Rattle.std.specs.Prelude.{◌≡◌, refl, Bool, true, false, cond, List, [], ◌++◌, ℕ, zero, suc, ◌+◌, ◌≤◌, length, take, drop, Result, Ok, Err}
 use Rattle.std.proofs.Common.{sym, ap, ap₂, subst, ◌∙◌, append_assoc, arith, length-append, length-drop, take_at, drop_at, length-take-le, Fits}
 use Rattle.std.proofs.Math.Option.{Option, none, some}
 use Rattle.std.specs.Int.{w64}
 use Rattle.xdr.specs.Meaning.Answer.{took, Way, Loose, here, shifted, clean}
 use Rattle.xdr.specs.Meaning.Kind.{Codec}
-use Rattle.xdr.specs.Meaning.Codecs.{◌⨾◌, void, chain, view}
+use Rattle.xdr.specs.Meaning.Codecs.{◌⨾◌, void, chain}
+use Rattle.xdr.specs.Meaning.Codecs as codecs
 use Rattle.xdr.specs.Meaning.Combinators.{View, means}
 use Rattle.xdr.specs.Meaning.Items.{flag, number, word, hyper, if, option}
 use Rattle.xdr.specs.Meaning.Shapes.{If, to_option}
 use Rattle.xdr.specs.Meaning.Public.{laid}
-use Rattle.xdr.specs.Meaning.Views.{view_bool}
-use Rattle.xdr.specs.Laws.Answers.{on}
+use Rattle.xdr.specs.Meaning.Views.{view}
+use Rattle.xdr.specs.Laws.Answers.{on, off}
 use Rattle.xdr.specs.Laws.Fixed.{Fixed, flag-fixed, hyper-fixed}
 use Rattle.xdr.specs.Laws.Lays.{after, tail_of}
 use Rattle.xdr.specs.Laws.Padding.{flag-length}
 use Rattle.xdr.specs.Laws.Write.{laid-at}
-use Rattle.xdr.specs.declared.answer.BoolRead.{BoolRead}
-use Rattle.xdr.specs.declared.answer.BoolRead.TheVariants as Bool·
+use Rattle.xdr.specs.declared.answer.Took.{Took}
 use Rattle.xdr.specs.declared.refusal.Refusal.{Refusal}
 use Rattle.nfsattr.specs.Meaning.Attr.{nfstime}
 use Rattle.nfs.specs.Meaning.Set.{SetTime, time_arms, see_time, set_time}
@@ -57,12 +57,12 @@ module _ (p : ℕ) (o : List ℕ) (v : Bool) (w : List Loose) (a e t : List ℕ)
       laid-at o (flag.kind.write v) p (omega arith) f
       ∙ ap₂ (λ x y. x ++ (flag.kind.write v ++ y)) (ap (take p) d ∙ take_at a (e ++ t) p l) (ap (λ i. drop (p + i) o) m ∙ rest)
 
-module _ (k p : ℕ) (o : List ℕ) (r : BoolRead) (e : view_bool r ≡ flag.kind.read o p) where
+module _ (k p : ℕ) (o : List ℕ) (r : Result (Took Bool) Refusal) (e : view r ≡ flag.kind.read o p) where
   -- no flag stands there
-  pub not-settled : {q : Refusal} → r ≡ Bool·.Refused q → FlagSettled k p o p o
+  pub not-settled : {q : Refusal} → r ≡ Err q → FlagSettled k p o p o
   not-settled f =
       let no : (v : Bool) (n : ℕ) (b : Bool) → flag.kind.read o p ≡ took v n b → ⊥ =
-      λ v n b g. let z : ◌≡◌ {A = ℕ} 0 1 = cc (on view_bool e f, g) in omega arith in
+      λ v n b g. let z : ◌≡◌ {A = ℕ} 0 1 = cc (off e f, g) in omega arith in
       record {
         same = refl;
         anew = λ v w a e t form l d. absurd (no v (p + length e) (clean w) (found p o v w a e t form l d));
@@ -70,51 +70,51 @@ module _ (k p : ℕ) (o : List ℕ) (r : BoolRead) (e : view_bool r ≡ flag.kin
       }
 
   -- one does, and there is room for it
-  flag-room : {v : Bool} {n : ℕ} {b : Bool} → r ≡ Bool·.Took v n b → (p + 4 ≤ length o) × (n ≡ p + 4)
-  flag-room f = let s = flag-fixed.reads o p (on view_bool e f) in (omega (arith, s.room), s.next)
+  flag-room : {x : Took Bool} → r ≡ Ok x → (p + 4 ≤ length o) × (x.next ≡ p + 4)
+  flag-room f = let s = flag-fixed.reads o p (on e f) in (omega (arith, s.room), s.next)
 
-  pub flag-place : {v : Bool} {n : ℕ} {b : Bool} → r ≡ Bool·.Took v n b → p ≤ length o
+  pub flag-place : {x : Took Bool} → r ≡ Ok x → p ≤ length o
   flag-place f = omega (arith, (flag-room f).0)
 
-  pub next_fits : {v : Bool} {n : ℕ} {b : Bool} → r ≡ Bool·.Took v n b → length o ≤ 1048576 → k ≤ 8 → Fits w64 (n + k)
+  pub next_fits : {x : Took Bool} → r ≡ Ok x → length o ≤ 1048576 → k ≤ 8 → Fits w64 (x.next + k)
   next_fits f g h = omega (arith, (flag-room f).0, (flag-room f).1)
 
   -- the flag that was read is laid
-  pub laid-same-long : {v : Bool} {n : ℕ} {b : Bool} → r ≡ Bool·.Took v n b → {z : List ℕ} → z ≡ laid (flag.kind.write v) (tail_of p o) → length (after p o z) ≡ length o
-  laid-same-long {v} f g =
-      let m = flag-length v in
+  pub laid-same-long : {x : Took Bool} → r ≡ Ok x → {z : List ℕ} → z ≡ laid (flag.kind.write x.value) (tail_of p o) → length (after p o z) ≡ length o
+  laid-same-long {x} f g =
+      let m = flag-length x.value in
       let h = (flag-room f).0 in
-      let i : p + length (flag.kind.write v) ≤ length o = omega arith in
-      ap length (laid-at o (flag.kind.write v) p i g) ∙ length-append (take p o) (flag.kind.write v ++ drop (p + length (flag.kind.write v)) o)
-      ∙ omega (arith, length-append (flag.kind.write v) (drop (p + length (flag.kind.write v)) o), length-take-le p o (omega arith), length-drop (p + length (flag.kind.write v)) o)
+      let i : p + length (flag.kind.write x.value) ≤ length o = omega arith in
+      ap length (laid-at o (flag.kind.write x.value) p i g) ∙ length-append (take p o) (flag.kind.write x.value ++ drop (p + length (flag.kind.write x.value)) o)
+      ∙ omega (arith, length-append (flag.kind.write x.value) (drop (p + length (flag.kind.write x.value)) o), length-take-le p o (omega arith), length-drop (p + length (flag.kind.write x.value)) o)
 
-  flag-settled : {v : Bool} {n : ℕ} {b : Bool} → r ≡ Bool·.Took v n b → {z : List ℕ} → z ≡ laid (flag.kind.write v) (tail_of p o) → {m : ℕ}
-      → m ≡ cond v (n + k) n → FlagSettled k p o m (after p o z)
-  flag-settled {v} {n} {b} f {z} g {m} h =
+  flag-settled : {x : Took Bool} → r ≡ Ok x → {z : List ℕ} → z ≡ laid (flag.kind.write x.value) (tail_of p o) → {m : ℕ}
+      → m ≡ cond x.value (x.next + k) x.next → FlagSettled k p o m (after p o z)
+  flag-settled {x} f {z} g {m} h =
       record {
         same = laid-same-long f g;
         anew = λ v' w a e' t form l d.
-            let i : v ≡ v' = cc (on view_bool e f, found p o v' w a e' t form l d) in
-            laid-anew p o v' w a e' t form l d (g ∙ ap (λ x. laid (flag.kind.write x) (tail_of p o)) i);
+            let i : x.value ≡ v' = cc (on e f, found p o v' w a e' t form l d) in
+            laid-anew p o v' w a e' t form l d (g ∙ ap (λ u. laid (flag.kind.write u) (tail_of p o)) i);
         next = λ v' w a e' t form l d.
-            let i : v ≡ v' = cc (on view_bool e f, found p o v' w a e' t form l d) in
-            let j : n ≡ p + length e' = cc (on view_bool e f, found p o v' w a e' t form l d) in
+            let i : x.value ≡ v' = cc (on e f, found p o v' w a e' t form l d) in
+            let j : x.next ≡ p + length e' = cc (on e f, found p o v' w a e' t form l d) in
             let q = four p o v' w a e' t form l d in
-            h ∙ ap (λ x. cond x (n + k) n) i ∙ by v' (omega arith);
+            h ∙ ap (λ u. cond u (x.next + k) x.next) i ∙ by v' (omega arith);
       }
     where
-      by : (v : Bool) → n ≡ p + 4 → cond v (n + k) n ≡ p + (4 + cond v k 0)
+      by : (v : Bool) → x.next ≡ p + 4 → cond v (x.next + k) x.next ≡ p + (4 + cond v k 0)
       by true e = omega arith
       by false e = omega arith
 
   -- by whether it is set
-  pub settled-set : {v : Bool} {n : ℕ} {b : Bool} → r ≡ Bool·.Took v n b → {z : List ℕ} → z ≡ laid (flag.kind.write v) (tail_of p o) → v ≡ true
-      → FlagSettled k p o (n + k) (after p o z)
-  settled-set {n = n} f g h = flag-settled f g (ap (λ x. cond x (n + k) n) (sym h))
+  pub settled-set : {x : Took Bool} → r ≡ Ok x → {z : List ℕ} → z ≡ laid (flag.kind.write x.value) (tail_of p o) → x.value ≡ true
+      → FlagSettled k p o (x.next + k) (after p o z)
+  settled-set {x} f g h = flag-settled f g (ap (λ u. cond u (x.next + k) x.next) (sym h))
 
-  pub settled-unset : {v : Bool} {n : ℕ} {b : Bool} → r ≡ Bool·.Took v n b → {z : List ℕ} → z ≡ laid (flag.kind.write v) (tail_of p o) → v ≡ false
-      → FlagSettled k p o n (after p o z)
-  settled-unset {n = n} f g h = flag-settled f g (ap (λ x. cond x (n + k) n) (sym h))
+  pub settled-unset : {x : Took Bool} → r ≡ Ok x → {z : List ℕ} → z ≡ laid (flag.kind.write x.value) (tail_of p o) → x.value ≡ false
+      → FlagSettled k p o x.next (after p o z)
+  settled-unset {x} f g h = flag-settled f g (ap (λ u. cond u (x.next + k) x.next) (sym h))
 
 -- kinds in which nothing is ever loose
 pub record Still {X : Type 0} (C : Codec X) : Type 0 where
@@ -136,7 +136,7 @@ still-two A B S T =
     }
 
 module _ {M N : Type 0} (C : Codec M) (W : View M C.kind.Good N) where
-  still-view : Still C → ((x : M) (m : N) (l : List Way) → W.see x ≡ means m l → l ≡ []) → Still (view C W)
+  still-view : Still C → ((x : M) (m : N) (l : List Way) → W.see x ≡ means m l → l ≡ []) → Still (codecs.view C W)
   still-view S T =
       record {
         none = λ m w e f.

@@ -1,8 +1,7 @@
 -- What the proofs of the exported readers of values cite.
 -- Assumes nothing.
 use Rattle.std.specs.Prelude.{◌≡◌, refl, Bool, cond, List, [], ◌∷◌, ℕ, ◌+◌, ◌≤◌, ◌<◌, length}
-use Rattle.std.proofs.Common.{sym, ap, ◌∙◌, arith}
-use Rattle.std.proofs.lemmas.List.Edits.{sets}
+use Rattle.std.proofs.Common.{sym, ◌∙◌, arith}
 use Rattle.xdr.specs.Meaning.Answer.{Answer}
 use Rattle.xdr.specs.Meaning.Pieces.{is_inside}
 use Rattle.xdr.specs.declared.piece.Piece.{Piece}

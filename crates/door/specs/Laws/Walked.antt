@@ -1,8 +1,9 @@
 -- A sattr3 walked over without keeping its values: what the private functions of its rewriting promise, and what their proofs cite.
 -- Assumes nothing.
-use Rattle.std.specs.Prelude.{◌≡◌, refl, Bool, false, not, ◌&&◌, List, ◌++◌, get_or}
+use Rattle.std.specs.Prelude.{◌≡◌, refl, Bool, false, not, ◌&&◌, List, ◌++◌, get_or, Result, Ok, Some, None}
+use Rattle.std.specs.Prelude as std
 use Rattle.std.proofs.Math.Path.{sym}
-use Rattle.std.proofs.Common.{ap, ap₂, subst, ◌∙◌, arith, Fits}
+use Rattle.std.proofs.Common.{ap, ap₂, ◌∙◌, arith, Fits}
 use Rattle.std.proofs.Math.Bool.{true, and-true, and_assoc}
 use Rattle.std.proofs.Math.Option.{Option, none, some}
 use Prim.Native.Nat.{ℕ, zero, suc, ◌<◌}
@@ -15,26 +16,17 @@ use Rattle.xdr.specs.Meaning.Cases.{Cases, maybe}
 use Rattle.xdr.specs.Meaning.Format.{exactly}
 use Rattle.xdr.specs.Meaning.Items.{flag, word, hyper, option}
 use Rattle.xdr.specs.Meaning.Public.{Answers}
-use Rattle.xdr.specs.Meaning.Views.{view_bool, view_u32, view_opening}
-use Rattle.xdr.specs.Laws.Answers.{on}
+use Rattle.xdr.specs.Meaning.Views.{view, view_opening}
+use Rattle.xdr.specs.Laws.Answers.{on, word-on}
 use Rattle.xdr.specs.Laws.Public.{answers-on}
-use Rattle.xdr.specs.declared.order.Opening.{Opening}
-use Rattle.xdr.specs.declared.order.Opening.TheVariants as opening
-use Rattle.xdr.specs.declared.answer.BoolRead.{BoolRead}
-use Rattle.xdr.specs.declared.answer.BoolRead.TheVariants as Bool·
-use Rattle.xdr.specs.declared.answer.U32Read.{U32Read}
-use Rattle.xdr.specs.declared.answer.U32Read.TheVariants as U32
+use Rattle.xdr.specs.declared.answer.Took.{Took}
+use Rattle.xdr.specs.declared.refusal.Refusal.{Refusal}
 use Rattle.nfsattr.specs.Meaning.Attr.{nfstime}
-use Rattle.nfsattr.specs.Meaning.Views.{view_nfstime3}
 use Rattle.nfsattr.specs.declared.attr.nfstime3.{nfstime3}
-use Rattle.nfsattr.specs.declared.answer.Nfstime3Read.{Nfstime3Read}
-use Rattle.nfsattr.specs.declared.answer.Nfstime3Read.TheVariants as N
 use Rattle.nfs.specs.Meaning.Change.{set_mode_cases, set_uid_cases, set_gid_cases, set_size_cases, set_mode, set_uid, set_gid, set_size}
 use Rattle.nfs.specs.Meaning.Set.{SetTime, dont_change, server_time, client_time, set_time, Times, timed, atime_cases, mtime_cases, set-atime, set-mtime, sattr}
 use Rattle.nfs.specs.declared.set.sattr3.{sattr3}
-use Rattle.door.specs.Laws.Span.{end_of, plain_of}
 use Rattle.door.specs.declared.sattr3.Step.{Step}
-use Rattle.door.specs.declared.sattr3.Step.TheVariants as step
 
 -- a value of C was read at p of s, up to n. b: it is in published form, and so, by q, is what was walked over before
 module _ {X : Type 0} (C : Codec X) (s : List ℕ) (p : ℕ) (q : Bool) where
@@ -44,62 +36,59 @@ module _ {X : Type 0} (C : Codec X) (s : List ℕ) (p : ℕ) (q : Bool) where
     pub reads : C.kind.read s p ≡ took value n plain
     pub mark : b ≡ (q && plain)
 
-  abbrev pub WalksBy : Step → Type 0
-  WalksBy step.Lost = Unit {0}
-  WalksBy (step.Took n b) = Walked n b
+  abbrev pub WalksBy : std.Option Step → Type 0
+  WalksBy None = Unit {0}
+  WalksBy (Some t) = Walked t.next t.plain
 
   -- or nothing is said
-  pub record Walks (r : Step) : Type 0 where
+  pub record Walks (r : std.Option Step) : Type 0 where
     pub by : WalksBy r
 
-  pub walk-lost : Walks step.Lost
-  walk-lost = record { by = tt }
+-- a flag that the code tests by `!`
+pub unset : (v : Bool) → not v ≡ true → v ≡ false
+unset false e = refl
+unset true e = let y : ◌≡◌ {A = ℕ} 0 1 = cc in absurd (omega arith)
+
+pub is-set : (v : Bool) → not v ≡ false → v ≡ true
+is-set true e = refl
+is-set false e = let y : ◌≡◌ {A = ℕ} 0 1 = cc in absurd (omega arith)
 
 -- a flag, and what it sets
-module _ {R : Type 0} (view : R → Answer ℕ) (C : Codec ℕ) (s : List ℕ) (p : ℕ) (q : Bool) (r : BoolRead) (v : Bool) (n : ℕ) (b : Bool) (e : view_bool r ≡ flag.kind.read s p)
-    (f : r ≡ Bool·.Took v n b) where
-  pub walk_none : v ≡ false → Walks (option C) s p q (step.Took n (q && b))
-  walk_none g = by v (on view_bool e f) g
-    where
-      by : (v : Bool) → flag.kind.read s p ≡ took v n b → v ≡ false → Walks (option C) s p q (step.Took n (q && b))
-      by false e g = record { by = record { value = none; plain = b; reads = rw (e, and-true); mark = refl } }
-      by true e g = let y : ◌≡◌ {A = ℕ} 0 1 = cc in absurd (omega arith)
+module _ (C : Codec ℕ) (s : List ℕ) (p : ℕ) (q : Bool) (r : Result (Took Bool) Refusal) (t : Took Bool) (e : view r ≡ flag.kind.read s p) (f : r ≡ Ok t) where
+  pub walk_none : not t.value ≡ true → Walks (option C) s p q (Some (record { next = t.next; plain = q && t.plain }))
+  walk_none g =
+      let h : flag.kind.read s p ≡ took false t.next t.plain = rw (unset t.value g) at (on e f) in
+      record { by = record { value = none; plain = t.plain; reads = rw (h, and-true); mark = refl } }
 
-  pub walk-some : v ≡ true → (r' t : R) (m : ℕ) → view r' ≡ C.kind.read s n → r' ≡ t → end_of (view t) ≡ some m → plain_of (view t) ≡ true
-      → Walks (option C) s p q (step.Took m (q && b))
-  walk-some g r' t m e' f' u w = by v (view t) (on view_bool e f) (on view e' f') g u w
-    where
-      by : (v : Bool) (y : Answer ℕ) → flag.kind.read s p ≡ took v n b → C.kind.read s n ≡ y → v ≡ true → end_of y ≡ some m → plain_of y ≡ true
-          → Walks (option C) s p q (step.Took m (q && b))
-      by true (took x k d) e h g u w =
-          let i : C.kind.read s n ≡ took x m true = h ∙ cc (u, w) in
-          record { by = record { value = some x; plain = b; reads = rw (e, i, and-true); mark = refl } }
-      by true (refused r) e h g u w = let y : ◌≡◌ {A = ℕ} 0 1 = cc in absurd (omega arith)
-      by false y e h g u w = let y : ◌≡◌ {A = ℕ} 0 1 = cc in absurd (omega arith)
+  pub walk-some : not t.value ≡ false → (r' : Result (Took ℕ) Refusal) (x : Took ℕ) → view r' ≡ C.kind.read s t.next → r' ≡ Ok x
+      → Walks (option C) s p q (Some (record { next = x.next; plain = q && (t.plain && x.plain) }))
+  walk-some g r' x e' f' =
+      let h : flag.kind.read s p ≡ took true t.next t.plain = rw (is-set t.value g) at (on e f) in
+      record { by = record { value = some x.value; plain = t.plain && x.plain; reads = rw (h, on e' f'); mark = refl } }
 
 -- a tag, and the time that it sets
-module _ (s : List ℕ) (p : ℕ) (q : Bool) (r : U32Read) (v n : ℕ) (e : view_u32 r ≡ word.kind.read s p) (f : r ≡ U32.Took v n) where
-  pub walk-untimed : v < 2 → Walks set_time s p q (step.Took n q)
+module _ (s : List ℕ) (p : ℕ) (q : Bool) (r : Result (Took ℕ) Refusal) (t : Took ℕ) (e : view r ≡ word.kind.read s p) (f : r ≡ Ok t) where
+  pub walk-untimed : t.value < 2 → Walks set_time s p q (Some (record { next = t.next; plain = q }))
   unfolding set_time
-  walk-untimed h = by v (on view_u32 e f) h
+  walk-untimed h = by t.value (word-on s p e f) h
     where
-      by : (v : ℕ) → word.kind.read s p ≡ took v n true → v < 2 → Walks set_time s p q (step.Took n q)
+      by : (v : ℕ) → word.kind.read s p ≡ took v t.next true → v < 2 → Walks set_time s p q (Some (record { next = t.next; plain = q }))
       by zero e h = record { by = record { value = dont_change; plain = true; reads = rw e; mark = sym (and-true q) } }
       by (suc zero) e h = record { by = record { value = server_time; plain = true; reads = rw e; mark = sym (and-true q) } }
       by (suc (suc v)) e h = absurd (omega arith)
 
-  pub walk-timed : v ≡ 2 → (r' : Nfstime3Read) (x : nfstime3) (m : ℕ) → view_nfstime3 r' ≡ nfstime.kind.read s n → r' ≡ N.Took x m
-      → Walks set_time s p q (step.Took m q)
+  pub walk-timed : t.value ≡ 2 → (r' : Result (Took nfstime3) Refusal) (x : Took nfstime3) → view r' ≡ nfstime.kind.read s t.next → r' ≡ Ok x
+      → Walks set_time s p q (Some (record { next = x.next; plain = q && x.plain }))
   unfolding set_time
-  walk-timed g r' x m e' f' =
-      record { by = record { value = client_time x; plain = true; reads = rw (on view_u32 e f, g, on view_nfstime3 e' f'); mark = sym (and-true q) } }
+  walk-timed g r' x e' f' =
+      record { by = record { value = client_time x.value; plain = x.plain; reads = rw (word-on s p e f, g, on e' f'); mark = refl } }
 
 -- one after another
-pub walk-two : {X Y : Type 0} (A : Codec X) (B : Codec Y) (s : List ℕ) (p : ℕ) (q : Bool) {r₁ : Step} {n : ℕ} {b : Bool} (r : Step) → Walks A s p q r₁
-    → r₁ ≡ step.Took n b → Walks B s n b r → Walks (A ⨾ B) s p q r
-walk-two A B s p q step.Lost d e f = record { by = tt }
-walk-two A B s p q {n = n} {b} (step.Took m c) d e f =
-    let x : Walked A s p q n b = subst (WalksBy A s p q) e d.by in
+pub walk-two : {X Y : Type 0} (A : Codec X) (B : Codec Y) (s : List ℕ) (p : ℕ) (q : Bool) {t : Step} (r : std.Option Step) → Walks A s p q (Some t)
+    → Walks B s t.next t.plain r → Walks (A ⨾ B) s p q r
+walk-two A B s p q None d f = record { by = tt }
+walk-two A B s p q (Some u) d f =
+    let x = d.by in
     let y = f.by in
     record {
       by = record {
@@ -202,23 +191,20 @@ module _ (s : List ℕ) (p : ℕ) where
     pub reads : six_fields.kind.read s p ≡ took value n b
     pub answers : Answers (exactly sattr) s p (took (of_six value) n b)
 
-  abbrev pub SixWalksBy : Step → Type 0
-  SixWalksBy step.Lost = Unit {0}
-  SixWalksBy (step.Took n b) = SixWalked n b
+  abbrev pub SixWalksBy : std.Option Step → Type 0
+  SixWalksBy None = Unit {0}
+  SixWalksBy (Some t) = SixWalked t.next t.plain
 
-  pub record SixWalks (r : Step) : Type 0 where
+  pub record SixWalks (r : std.Option Step) : Type 0 where
     pub by : SixWalksBy r
 
-  pub six-lost : SixWalks step.Lost
-  six-lost = record { by = tt }
-
   -- `given` is what a slice's rule gives
-  pub six-walked : (given : (j : ℕ) → Fits w8 (get_or s j 0)) {o : Opening} → view_opening p o ≡ opened s p (took tt p true) → o ≡ opening.Open → (r : Step)
-      → Walks six_fields s p true r → SixWalks r
-  six-walked given e g step.Lost d = six-lost
-  six-walked given e g (step.Took n b) d =
+  pub six-walked : (given : (j : ℕ) → Fits w8 (get_or s j 0)) {o : Result (Unit {0}) Refusal} → view_opening p o ≡ opened s p (took tt p true)
+      → {u : Unit {0}} → o ≡ Ok u → (r : std.Option Step) → Walks six_fields s p true r → SixWalks r
+  six-walked given e g None d = record { by = tt }
+  six-walked given e g (Some t) d =
       let x = d.by in
-      let k : six_fields.kind.read s p ≡ took x.value n b = x.reads ∙ ap (took x.value n) (sym x.mark) in
+      let k : six_fields.kind.read s p ≡ took x.value t.next t.plain = x.reads ∙ ap (took x.value t.next) (sym x.mark) in
       record {
         by = record {
           value = x.value;

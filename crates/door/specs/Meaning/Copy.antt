@@ -11,6 +11,14 @@ use Rattle.door.specs.declared.copy.Marking.TheVariants as marking
 use Rattle.door.specs.declared.copy.Copied.{Copied}
 use Rattle.door.specs.declared.copy.Copied.TheVariants.{Unknown, Unread, Unwritten, Done}
 
+-- a format of what the code holds in S
+pub record Holding (S : Type 0) : Type 1 where
+  pub Message : Type 0
+  pub format : Format Message S
+
+abbrev pub held_as : {M S : Type 0} → Format M S → Holding S
+held_as {M} F = record { Message = M; format = F }
+
 -- y is what f makes of x
 pub record Is {A B : Type 0} (f : A → B) (x : A) (y : B) : Type 0 where
   pub is : y ≡ f x

@@ -23,14 +23,6 @@ use Rattle.rpc.specs.declared.auth.auth_flavor.{auth_flavor}
 use Rattle.rpc.specs.declared.auth.auth_unix.{auth_unix}
 use Rattle.rpc.specs.declared.message.call_body.{call_body}
 use Rattle.door.specs.Meaning.Exports.{wrote_code, wrote_figure}
-use Rattle.door.specs.declared.values_write.GivenFattr3.{GivenFattr3}
-use Rattle.door.specs.declared.values_write.GivenFattr3.TheVariants as fattr3·
-use Rattle.door.specs.declared.values_write.GivenCall.{GivenCall}
-use Rattle.door.specs.declared.values_write.GivenCall.TheVariants as call·
-use Rattle.door.specs.declared.values_write.GivenUnix.{GivenUnix}
-use Rattle.door.specs.declared.values_write.GivenUnix.TheVariants as unix·
-use Rattle.door.specs.declared.values_write.FlavorFound.{FlavorFound}
-use Rattle.door.specs.declared.values_write.FlavorFound.TheVariants as flavor·
 
 -- a value's writing told, where `Wrote x w o'` is that writing x answers w and leaves o': as a fragment's is
 module _ {S : Type 0} (Wrote : S → Written → List ℕ → Type 0) where
@@ -97,10 +89,6 @@ abbrev pub fattr3_given : List ℕ → Option fattr3
 fattr3_given l =
     cond (are_words fattr3_words l) (seen_or (λ t. some (fattr3_of l t)) (among ftype_number ftypes (get_or l 0 0))) none
 
-abbrev pub view_given_fattr3 : GivenFattr3 → Option fattr3
-view_given_fattr3 fattr3·.Wide = none
-view_given_fattr3 (fattr3·.Is v) = some v
-
 abbrev pub WriteFattr3Called : (l o : List ℕ) (start : ℕ) (i : List ℕ) (r : ℕ) (o' i' : List ℕ) → Type 0
 WriteFattr3Called l o start i r o' i' =
     WriteCalled (λ x w o'. Writes (exactly fattr) [] x start o w o') 17 fattr3_given l o i r o' i'
@@ -157,10 +145,6 @@ WriteSattr3Called l o start i r o' i' =
     WriteCalled (λ x w o'. Writes (exactly sattr) [] x start o w o') 14 sattr3_given l o i r o' i'
 
 -- `yugerzat_write_call`
-abbrev pub found_flavor : FlavorFound → Seen auth_flavor
-found_flavor flavor·.None = undeclared
-found_flavor (flavor·.Is a) = means a []
-
 abbrev pub call_words : List ℕ
 call_words = 0 ∷ 1 ∷ 2 ∷ 3 ∷ 4 ∷ []
 
@@ -185,10 +169,6 @@ call_given l =
     (seen_or (λ a. seen_or (λ b. some (get_or l 0 0, call_of l a b)) (among flavor_number flavors (get_or l 8 0))) (among flavor_number flavors (get_or l 5 0)))
     none
 
-abbrev pub view_given_call : GivenCall → Option (ℕ × call_body)
-view_given_call call·.Wide = none
-view_given_call (call·.Is x c) = some (x, c)
-
 abbrev pub WriteCallCalled : (creds verfs l o : List ℕ) (start : ℕ) (i : List ℕ) (r : ℕ) (o' i' : List ℕ) → Type 0
 WriteCallCalled s t l o start i r o' i' =
     WriteCalled (λ x w o'. WritesCallFrom s t x.0 x.1 start o w o') 11 call_given l o i r o' i'
@@ -206,10 +186,6 @@ unix_of = unix_by (λ n. n)
 
 abbrev pub unix_given : List ℕ → Option auth_unix
 unix_given l = cond (are_words unix_words l) (some (unix_of l)) none
-
-abbrev pub view_given_unix : GivenUnix → Option auth_unix
-view_given_unix unix·.Wide = none
-view_given_unix (unix·.Is v) = some v
 
 abbrev pub WriteUnixCalled : (names groups l o : List ℕ) (start : ℕ) (i : List ℕ) (r : ℕ) (o' i' : List ℕ) → Type 0
 WriteUnixCalled s t l o start i r o' i' =

@@ -1,6 +1,7 @@
 -- What the exported functions about mounts and ports answer: a number, and figures in a lent list.
 -- Assumes nothing.
-use Rattle.std.specs.Prelude.{◌≡◌, not, List, [], ◌∷◌, ◌++◌, ℕ, ◌≤◌, ◌<◌, eqb, length, replicate}
+use Rattle.std.specs.Prelude.{◌≡◌, Bool, cond, not, List, [], ◌∷◌, ◌++◌, ℕ, ◌≤◌, ◌<◌, eqb, length, replicate, Result, Ok, Err, Some, None}
+use Rattle.std.specs.Prelude as std
 use Rattle.std.proofs.Math.Option.{Option, none, some}
 use Rattle.std.proofs.lemmas.List.Edits.{sets}
 use Rattle.xdr.specs.Meaning.Refusal.{number_of, place_of, wanting_of}
@@ -12,13 +13,9 @@ use Rattle.mount.specs.Meaning.Group.{next-group}
 use Rattle.mount.specs.Meaning.Export.{exports, next-export}
 use Rattle.mount.specs.Meaning.Ask.{Said, refuse, reply, silence, hand_over, mnt, umnt, export, getport, Asks}
 use Rattle.mount.specs.Meaning.Same.{Compares}
-use Rattle.mount.specs.declared.same.Compared.{Compared}
-use Rattle.mount.specs.declared.same.Compared.TheVariants as compared
-use Rattle.mount.specs.declared.export.NextExport.{NextExport}
-use Rattle.mount.specs.declared.export.NextExport.TheVariants as nextExportIs
-use Rattle.mount.specs.declared.group.NextGroup.{NextGroup}
-use Rattle.mount.specs.declared.group.NextGroup.TheVariants as nextGroupIs
 use Rattle.xdr.specs.declared.piece.Piece.{Piece}
+use Rattle.xdr.specs.declared.refusal.Refusal.{Refusal}
+use Rattle.mount.specs.declared.export.exportnode.{exportnode}
 use Rattle.door.specs.Meaning.Values.{piece_figures, unix_figures, ValueCalled}
 use Rattle.door.specs.Meaning.Given.{WrittenTold}
 
@@ -65,17 +62,17 @@ abbrev pub ExportsCalled : (s : List ℕ) (at : ℕ) (i : List ℕ) (r : ℕ) (i
 ExportsCalled s at = ValueCalled (Answers exports s at) piece_figures 2
 
 -- `yugerzat_next_export`: 1 with the path's piece and the groups, or zeros at the end
-abbrev pub next_export_figures : NextExport → List ℕ
-next_export_figures nextExportIs.End = replicate 5 0
-next_export_figures (nextExportIs.Export e) = 1 ∷ (piece_figures e.ex_dir ++ piece_figures e.ex_groups)
+abbrev pub next_export_figures : std.Option exportnode → List ℕ
+next_export_figures None = replicate 5 0
+next_export_figures (Some e) = 1 ∷ (piece_figures e.ex_dir ++ piece_figures e.ex_groups)
 
 abbrev pub NextExportCalled : (s : List ℕ) (at : ℕ) (i : List ℕ) (r : ℕ) (i' : List ℕ) → Type 0
 NextExportCalled s at = ValueCalled (Answers next-export s at) next_export_figures 5
 
 -- `yugerzat_next_group`: 1 with the name's piece, or zeros at the end
-abbrev pub next_group_figures : NextGroup → List ℕ
-next_group_figures nextGroupIs.End = replicate 3 0
-next_group_figures (nextGroupIs.Name x) = 1 ∷ piece_figures x
+abbrev pub next_group_figures : std.Option Piece → List ℕ
+next_group_figures None = replicate 3 0
+next_group_figures (Some x) = 1 ∷ piece_figures x
 
 abbrev pub NextGroupCalled : (s : List ℕ) (at : ℕ) (i : List ℕ) (r : ℕ) (i' : List ℕ) → Type 0
 NextGroupCalled s at = ValueCalled (Answers next-group s at) next_group_figures 3
@@ -86,18 +83,16 @@ pub record WithinCalled {M : Type 0} (F : Format M Piece) (over : M → Option �
   pub short : length i < 1 → (r ≡ 254) × (o' ≡ o) × (i' ≡ i)
 
 -- `yugerzat_same_exports`: 1 for the same list, 0 for another
-abbrev pub compared_code : Compared → ℕ
-compared_code (compared.Refused r) = number_of r
-compared_code compared.Same = 0
-compared_code compared.Different = 0
+abbrev pub compared_code : Result Bool Refusal → ℕ
+compared_code (Err r) = number_of r
+compared_code (Ok b) = 0
 
-abbrev pub compared_figures : Compared → List ℕ
-compared_figures (compared.Refused r) = 0 ∷ []
-compared_figures compared.Same = 1 ∷ []
-compared_figures compared.Different = 0 ∷ []
+abbrev pub compared_figures : Result Bool Refusal → List ℕ
+compared_figures (Err r) = 0 ∷ []
+compared_figures (Ok b) = cond b 1 0 ∷ []
 
 pub record SameTold (s : List ℕ) (x : Piece) (t : List ℕ) (y : Piece) (i : List ℕ) (r : ℕ) (i' : List ℕ) : Type 0 where
-  pub answer : Compared
+  pub answer : Result Bool Refusal
   pub compares : Compares s x t y answer
   pub number : r ≡ compared_code answer
   pub list : i' ≡ sets i 0 (compared_figures answer)

@@ -2,7 +2,8 @@
 -- Assumes nothing.
 use Rattle.std.proofs.Math.Path.{◌≡◌, refl, sym, ap, subst}
 use Rattle.std.proofs.Common.{◌∙◌, inl, inr, length-append, length-drop, drop_at}
-use Rattle.std.specs.Prelude.{Bool, cond, ◌&&◌, ◌⊎◌, ℕ, ◌+◌, ◌≤◌, ◌<◌, eqb, leb}
+use Rattle.std.specs.Prelude.{Bool, cond, ◌&&◌, ◌⊎◌, ℕ, ◌+◌, ◌≤◌, ◌<◌, eqb, leb, Result, Ok, Err}
+use Rattle.std.specs.Prelude as std
 use Rattle.std.proofs.Math.Bool.{true, false}
 use Rattle.std.proofs.Math.Option.{Option, none, some}
 use mathlib.Core.List.{List, [], ◌++◌}
@@ -13,20 +14,15 @@ use borrow.Author.Tests.{ne_eqb, eq-eqb, le-leb, lt-leb, leb-true, leb-false}
 use Rattle.xdr.specs.Meaning.Bytes.{Bytes}
 use Rattle.xdr.specs.Meaning.Answer.{Answer, took, refused, most, opened, Written, done, unwritten}
 use Rattle.xdr.specs.Meaning.Items.{number, word, opaque}
-use Rattle.xdr.specs.Meaning.Format.{exactly}
+use Rattle.xdr.specs.Meaning.Format.{Format, exactly}
 use Rattle.xdr.specs.Meaning.Formats.{piece_held}
 use Rattle.xdr.specs.Meaning.Order.{placing}
 use Rattle.xdr.specs.Meaning.Public.{Answers, output, writing, leaving, Writes, Back}
 use Rattle.xdr.specs.Meaning.Refusal.{OfReading}
-use Rattle.xdr.specs.Meaning.Views.{view_u32, view_piece, view_wrote}
+use Rattle.xdr.specs.Meaning.Views.{view, view_option, view_wrote}
 use Rattle.xdr.specs.Laws.Public.{kept, opened_in, opened-took}
 use Rattle.xdr.specs.Laws.Write.{wrote-back}
-use Rattle.xdr.specs.declared.answer.PieceRead.{PieceRead}
-use Rattle.xdr.specs.declared.answer.PieceRead.TheVariants as Piece
-use Rattle.xdr.specs.declared.answer.U32Read.{U32Read}
-use Rattle.xdr.specs.declared.answer.U32Read.TheVariants as U32
-use Rattle.xdr.specs.declared.answer.Wrote.{Wrote}
-use Rattle.xdr.specs.declared.answer.Wrote.TheVariants as wrote
+use Rattle.xdr.specs.declared.answer.Took.{Took}
 use Rattle.xdr.specs.declared.piece.Piece.{Piece}
 use Rattle.xdr.specs.declared.refusal.Refusal.{Refusal}
 use Rattle.xdr.specs.declared.refusal.Refusal.TheVariants.{NoRoom, TooLong, PastEnd, NotCall}
@@ -52,16 +48,12 @@ use Rattle.rpc.specs.declared.message.rpc_msg.{rpc_msg}
 use Rattle.rpcwire.specs.Meaning.Choice as choice
 use Rattle.rpcwire.specs.Meaning.Choice.{Decision, served, by_program, by_version, by_unix, by_flavor, by_body, by_message, decided, Chooses}
 use Rattle.rpcwire.specs.Laws.Choice as chosen
-use Rattle.rpcwire.specs.Meaning.Views.{view_caller, view_choice}
-use Rattle.rpcwire.specs.declared.choice.Caller.{Caller}
+use Rattle.rpcwire.specs.Meaning.Views.{view_choice}
 use Rattle.rpcwire.specs.declared.choice.Choice.{Choice}
-use Rattle.rpcwire.specs.declared.choice.Choice.TheVariants as Choice
 use Rattle.mount.specs.Meaning.Path.{dirpath}
-use Rattle.mount.specs.Meaning.Portmap.{port_mapping, view_mapping}
+use Rattle.mount.specs.Meaning.Portmap.{port_mapping}
 use Rattle.mount.specs.Meaning.Ask.{refuse, reply, silence, hand_over, mnt, umnt, export, getport, Due, Said, mount_serves, portmap_serves, path_at, mapping_at, taking, in_version, mount_procedure, portmap_procedure, handed_on, value_of, xid_of, after, due, HandedOver, Outcome, outcome, size, replying, carried_out, Asks, Leaves, TurnPromised}
 use Rattle.mount.specs.declared.portmap.mapping.{mapping}
-use Rattle.mount.specs.declared.portmap.MappingRead.{MappingRead}
-use Rattle.mount.specs.declared.portmap.MappingRead.TheVariants as Mapping
 
 -- ---- replies
 
@@ -112,47 +104,45 @@ module _ (m : rpc_msg) (h : Sendable m) (o : List ℕ) where
   written : {w : Written} {o' : List ℕ} → Writes rpc-msg [] m 0 o w o' → outcome (said_of w) o' ≡ replying m o
   written c = written-by (leb (size m) (length o)) refl (c.says ∙ says) c.leaves
 
-  module _ (w : Wrote) (o' : List ℕ) (c : Writes rpc-msg [] m 0 o (view_wrote w) o') where
-    pub reply-done : (n : ℕ) → w ≡ wrote.Done n → outcome (reply n) o' ≡ replying m o
+  module _ (w : Result ℕ Refusal) (o' : List ℕ) (c : Writes rpc-msg [] m 0 o (view_wrote w) o') where
+    pub reply-done : (n : ℕ) → w ≡ Ok n → outcome (reply n) o' ≡ replying m o
     reply-done n e = ap (λ v. outcome (said_of (view_wrote v)) o') (sym e) ∙ written c
 
-    pub reply-none : (r : Refusal) → w ≡ wrote.Refused r → outcome (refuse r) o' ≡ replying m o
+    pub reply-none : (r : Refusal) → w ≡ Err r → outcome (refuse r) o' ≡ replying m o
     reply-none r e = ap (λ v. outcome (said_of (view_wrote v)) o') (sym e) ∙ written c
 
 -- ---- arguments, by the answer of their reader
-module _ (s : List ℕ) (p : ℕ) (r : PieceRead) (h : Answers dirpath s p (view_piece r)) where
-  path-by : {t : PieceRead} (to : Piece → ℕ → Said) → r ≡ t → taking to (view_piece t) ≡ taking to (path_at s p)
-  path-by to e = ap (λ v. taking to (view_piece v)) (sym e) ∙ ap (taking to) h.is
+module _ {M A : Type 0} (F : Format M A) (s : List ℕ) (p : ℕ) (r : Result (Took A) Refusal) (h : Answers F s p (view r)) where
+  taken-by : {t : Result (Took A) Refusal} (to : A → ℕ → Said) → r ≡ t → taking to (view t) ≡ taking to (opened s p (F.held.read s p))
+  taken-by to e = ap (λ v. taking to (view v)) (sym e) ∙ ap (taking to) h.is
 
-  pub path-lost : (q : Refusal) (to : Piece → ℕ → Said) → r ≡ Piece.Refused q → refuse q ≡ taking to (path_at s p)
-  path-lost q to e = path-by to e
+module _ (s : List ℕ) (p : ℕ) (r : Result (Took Piece) Refusal) (h : Answers dirpath s p (view r)) where
+  pub path-lost : (q : Refusal) (to : Piece → ℕ → Said) → r ≡ Err q → refuse q ≡ taking to (path_at s p)
+  path-lost q to e = taken-by dirpath s p r h to e
 
-  module _ (x : Piece) (n : ℕ) (b : Bool) (a : Option auth_unix) (e : r ≡ Piece.Took x n b) where
-    pub mnt-given : mnt a x n ≡ taking {R = ℕ} (mnt a) (path_at s p)
-    mnt-given = path-by (mnt a) e
+  module _ (x : Took Piece) (a : Option auth_unix) (e : r ≡ Ok x) where
+    pub mnt-given : mnt a x.value x.next ≡ taking {R = ℕ} (mnt a) (path_at s p)
+    mnt-given = taken-by dirpath s p r h (mnt a) e
 
-    pub umnt-given : umnt a x n ≡ taking {R = ℕ} (umnt a) (path_at s p)
-    umnt-given = path-by (umnt a) e
+    pub umnt-given : umnt a x.value x.next ≡ taking {R = ℕ} (umnt a) (path_at s p)
+    umnt-given = taken-by dirpath s p r h (umnt a) e
 
-module _ (s : List ℕ) (p : ℕ) (r : MappingRead) (h : Answers (exactly port_mapping) s p (view_mapping r)) where
-  mapping-by : {t : MappingRead} (to : mapping → ℕ → Said) → r ≡ t → taking to (view_mapping t) ≡ taking to (mapping_at s p)
-  mapping-by to e = ap (λ v. taking to (view_mapping v)) (sym e) ∙ ap (taking to) h.is
+module _ (s : List ℕ) (p : ℕ) (r : Result (Took mapping) Refusal) (h : Answers (exactly port_mapping) s p (view r)) where
+  pub mapping-lost : (q : Refusal) (to : mapping → ℕ → Said) → r ≡ Err q → refuse q ≡ taking to (mapping_at s p)
+  mapping-lost q to e = taken-by (exactly port_mapping) s p r h to e
 
-  pub mapping-lost : (q : Refusal) (to : mapping → ℕ → Said) → r ≡ Mapping.Refused q → refuse q ≡ taking to (mapping_at s p)
-  mapping-lost q to e = mapping-by to e
-
-  pub getport-given : (x : mapping) (n : ℕ) (a : Option auth_unix) → r ≡ Mapping.Took x n → getport a x n ≡ taking {R = ℕ} (getport a) (mapping_at s p)
-  getport-given x n a e = mapping-by (getport a) e
+  pub getport-given : (x : Took mapping) (a : Option auth_unix) → r ≡ Ok x → getport a x.value x.next ≡ taking {R = ℕ} (getport a) (mapping_at s p)
+  getport-given x a e = taken-by (exactly port_mapping) s p r h (getport a) e
 
 -- the xid
-module _ (s : List ℕ) (r : U32Read) (h : Answers (exactly word) s 0 (view_u32 r)) where
-  pub xid-none : (q : Refusal) → r ≡ U32.Refused q → 0 ≡ xid_of s
+module _ (s : List ℕ) (r : Result (Took ℕ) Refusal) (h : Answers (exactly word) s 0 (view r)) where
+  pub xid-none : (q : Refusal) → r ≡ Err q → 0 ≡ xid_of s
   unfolding xid_of
-  xid-none q e = ap (λ v. value_of (view_u32 v)) (sym e) ∙ ap value_of h.is
+  xid-none q e = ap (λ v. value_of (view v)) (sym e) ∙ ap value_of h.is
 
-  pub xid-given : (x n : ℕ) → r ≡ U32.Took x n → x ≡ xid_of s
+  pub xid-given : (x : Took ℕ) → r ≡ Ok x → x.value ≡ xid_of s
   unfolding xid_of
-  xid-given x n e = ap (λ v. value_of (view_u32 v)) (sym e) ∙ ap value_of h.is
+  xid-given x e = ap (λ v. value_of (view v)) (sym e) ∙ ap value_of h.is
 
 -- ---- a call, by its procedure, its version and its program
 -- no output is written where arguments are read
@@ -452,14 +442,14 @@ module _ (s : List ℕ) (seen : Bool) (o o' : List ℕ) (w : Choice) (h : Choose
   pub ask-silent : w ≡ Choice.Silent → Asks s seen o silence o'
   ask-silent e = ask-by e tt
 
-  pub ask-handed : (p v f : ℕ) (a : Caller) (n x : ℕ) (c : Said) (q : List ℕ) → w ≡ Choice.HandOver p v f a n → x ≡ xid_of s
-      → outcome c q ≡ carried_out (handed_on s x (view_caller a) n p v f) o' → Asks s seen o c q
+  pub ask-handed : (p v f : ℕ) (a : std.Option auth_unix) (n x : ℕ) (c : Said) (q : List ℕ) → w ≡ Choice.HandOver p v f a n → x ≡ xid_of s
+      → outcome c q ≡ carried_out (handed_on s x (view_option a) n p v f) o' → Asks s seen o c q
   unfolding due
   ask-handed p v f a n x c q e i g =
-      let d = handed-as s o o' p v f (view_caller a) n (decided crate s seen) (ap (λ v. choice.outcome (view_choice v) o') (sym e) ∙ h.is) in
+      let d = handed-as s o o' p v f (view_option a) n (decided crate s seen) (ap (λ v. choice.outcome (view_choice v) o') (sym e) ∙ h.is) in
       record {
         is =
-            g ∙ ap (λ y. carried_out (handed_on s y (view_caller a) n p v f) o') i ∙ ap (carried_out (handed_on s (xid_of s) (view_caller a) n p v f)) d.1
+            g ∙ ap (λ y. carried_out (handed_on s y (view_option a) n p v f) o') i ∙ ap (carried_out (handed_on s (xid_of s) (view_option a) n p v f)) d.1
             ∙ sym (ap (λ y. carried_out (after s y) o) d.0);
         bytes = h.bytes;
       }

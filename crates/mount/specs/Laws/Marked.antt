@@ -1,6 +1,6 @@
 -- What the marks of paths and lists tell.
 -- Assumes nothing.
-use Rattle.std.specs.Prelude.{◌≡◌, refl, Bool, List, [], ◌∷◌}
+use Rattle.std.specs.Prelude.{◌≡◌, Bool, List, [], ◌∷◌}
 use Rattle.xdr.specs.Meaning.Format.{◌⨟◌}
 use Rattle.xdr.specs.Meaning.Formats.{bytes, piece_held}
 use Rattle.xdr.specs.Meaning.Marks.{Marked, MarksAre}
@@ -8,8 +8,9 @@ use Rattle.xdr.specs.Laws.Marked.{bytes-marked, pair-marked, named-marked, bound
 use Rattle.xdr.proofs.Flagged.{maybe-marked, list-marked}
 use Rattle.xdr.specs.declared.piece.Piece.{Piece}
 use Rattle.mount.specs.Meaning.Path.{long_path, dirpath}
-use Rattle.mount.specs.Meaning.Group.{groups, next_group_cases, next-group}
-use Rattle.mount.specs.Meaning.Export.{node_names, node, nodes, long_entry, long_list, exports, next_export_cases, next_node, next-export}
+use Rattle.mount.specs.Meaning.Options.{option_cases}
+use Rattle.mount.specs.Meaning.Group.{groups, next-group}
+use Rattle.mount.specs.Meaning.Export.{node_names, node, nodes, long_entry, long_list, exports, next_node, next-export}
 
 pub dirpath-marked : Marked dirpath.held
 unfolding dirpath
@@ -21,7 +22,7 @@ groups-marked = list-marked bytes bytes-marked
 
 pub next-group-marked : Marked next-group.held
 unfolding next-group
-next-group-marked = maybe-marked bytes bytes-marked next_group_cases
+next-group-marked = maybe-marked bytes bytes-marked option_cases
 
 pub node-marked : Marked node.held
 unfolding node
@@ -38,7 +39,7 @@ exports-marked = bounded-marked nodes long_list nodes-marked
 
 pub next-node-marked : Marked next_node.held
 unfolding next_node
-next-node-marked = maybe-marked node node-marked next_export_cases
+next-node-marked = maybe-marked node node-marked option_cases
 
 pub next-export-marked : Marked next-export.held
 unfolding next-export

@@ -1,54 +1,34 @@
 -- made by tools/generate from crates/mount/rfc/mnt.x
 -- What follows for the kinds of mnt: how they are read, how many bytes they have, and what is laid of them.
 -- Assumes nothing.
-use Rattle.std.specs.Prelude.{◌≡◌, refl, true, Bool, ◌&&◌, List, [], ◌∷◌, ℕ, ◌≤◌, length}
+use Rattle.std.specs.Prelude.{◌≡◌, refl, Bool, ◌&&◌, List, [], ◌∷◌, ℕ, ◌≤◌, length}
 use Rattle.std.proofs.Common.{ap, ap₂, arith}
-use Rattle.xdr.specs.Meaning.Answer.{Written, refused, Answer}
+use Rattle.xdr.specs.Meaning.Answer.{Written}
 use Rattle.xdr.specs.Meaning.Codecs.{void}
 use Rattle.xdr.specs.Meaning.Items.{word}
-use Rattle.xdr.specs.Meaning.Format.{exactly, Format, ◌⨟◌}
+use Rattle.xdr.specs.Meaning.Format.{exactly, ◌⨟◌}
 use Rattle.xdr.specs.Meaning.Formats.{bytes, word_list, piece_held, words_held}
-use Rattle.xdr.specs.Meaning.Status.{Arms, Result}
 use Rattle.xdr.specs.Meaning.Pieces.{is_inside, are_inside}
 use Rattle.xdr.specs.Meaning.Public.{Writes, output}
 use Rattle.xdr.specs.Meaning.Marks.{Marked, MarksAre}
 use Rattle.xdr.specs.Laws.Padding.{size_small, words_small}
 use Rattle.xdr.specs.Laws.Closed.{by_number}
 use Rattle.xdr.specs.Laws.Fixed.{Fixed, seen-fixed, word-fixed}
-use Rattle.xdr.specs.Laws.One.{Told}
-use Rattle.xdr.specs.Laws.Plans.{Step, step, Loses, lost-at, at, run, Planned, plan, ◌then◌}
+use Rattle.xdr.specs.Laws.Plans.{at, Planned, plan, ◌then◌}
 use Rattle.xdr.specs.Laws.Lengths.{Within, closed-within, view-within, pair-within, opaque-within, words-within, no_default, void-within}
 use Rattle.xdr.specs.Laws.Write.{Ready}
 use Rattle.xdr.specs.Laws.Writers.{Writer, bytes-writer, words-writer}
 use Rattle.xdr.specs.Laws.Fields.{pair-writer, named-sized, Lays, lays-named, codec-writer}
-use Rattle.xdr.specs.Laws.Status.{OnStatus, status-lost, arm_by, status-took, status-within, result_size, status-sized}
+use Rattle.xdr.specs.Laws.Status.{OnStatus, status-within, result_size, status-sized}
 use Rattle.xdr.specs.Laws.Unpadded.{Unpadded, closed-unpadded, void-unpadded}
 use Rattle.xdr.specs.Laws.Marked.{named-marked, pair-marked, bytes-marked, words-marked, status-marked, plain-marked}
-use Rattle.xdr.specs.declared.refusal.Refusal.{Refusal}
-use Rattle.mount.specs.Meaning.Mnt.{view_mountstat3, lost_mountstat3, mountstat, mountstat_number, mountstat_all, each_mountstat, mountstat_or, mountres_ok, view_mountres3_ok, lost_mountres3_ok, mountres_ok_names, mountres_arms, mountres, view_mountres3, lost_mountres3, mountres_from}
-use Rattle.mount.specs.declared.mnt.Mountstat3Read.{Mountstat3Read}
-use Rattle.mount.specs.declared.mnt.mountfail3.{mountfail3}
+use Rattle.mount.specs.Meaning.Mnt.{mountstat, mountstat_number, mountstat_all, each_mountstat, mountres_ok, mountres_ok_names, mountstat_or, mountres_arms, mountres, mountres_from}
 use Rattle.mount.specs.declared.mnt.mountres3.{mountres3}
 use Rattle.mount.specs.declared.mnt.mountres3_ok.{mountres3_ok}
 use Rattle.mount.specs.declared.mnt.mountstat3.{mountstat3}
-use Rattle.mount.specs.declared.mnt.Mountstat3Read.TheVariants as Mountstat3
-use Rattle.mount.specs.declared.mnt.Mountres3OkRead.TheVariants as Mountres3Ok
-use Rattle.mount.specs.declared.mnt.Mountres3Read.TheVariants as Mountres3
 use Rattle.mount.specs.declared.mnt.mountres3.TheVariants as mountresIs
 
 -- mountstat3
-pub step-mountstat : Step view_mountstat3
-step-mountstat U = step view_mountstat3
-
-pub lost-mountstat : Loses lost_mountstat3
-lost-mountstat A = lost-at lost_mountstat3
-
-pub mountstat3-told : Told view_mountstat3
-mountstat3-told (Mountstat3.Took v n) (Mountstat3.Took v' n') e = cc
-mountstat3-told (Mountstat3.Took v n) (Mountstat3.Refused r) e = cc
-mountstat3-told (Mountstat3.Refused r) (Mountstat3.Took v n) e = cc
-mountstat3-told (Mountstat3.Refused r) (Mountstat3.Refused r') e = cc
-
 pub mountstat-within : Within 0 mountstat.kind
 unfolding mountstat
 mountstat-within = closed-within mountstat_number mountstat_all each_mountstat
@@ -70,30 +50,10 @@ pub mountstat-bytes : (n : ℕ) (a : mountstat3) → n ≡ mountstat_number a �
 unfolding mountstat
 mountstat-bytes n a e = ap word.kind.write e
 
-pub mountstat-lost : {M N S T R : Type 0} {F : Format M S} {G : Format N T} {W : Arms mountfail3 S T R} {D : Format (Result mountfail3 M N) R} (X : OnStatus mountstat mountstat_or F G W D) (s : List ℕ) (p : ℕ) (r : Mountstat3Read) (u q : Refusal) → q ≡ lost_mountstat3 r → view_mountstat3 r ≡ mountstat.kind.read s p → r ≡ Mountstat3.Refused u
-    → refused q ≡ D.held.read s p
-mountstat-lost X s p r u q g e f = status-lost view_mountstat3 X s p r lost_mountstat3 (Mountstat3.Refused u) q g e f refl
-
-pub mountstat-took : {M N S T R : Type 0} {F : Format M S} {G : Format N T} {W : Arms mountfail3 S T R} {D : Format (Result mountfail3 M N) R} (X : OnStatus mountstat mountstat_or F G W D) (s : List ℕ) (p : ℕ) (r : Mountstat3Read) (a c : mountstat3) (n : ℕ) (z : Answer R) → view_mountstat3 r ≡ mountstat.kind.read s p → r ≡ Mountstat3.Took a n → a ≡ c
-    → z ≡ run (arm_by mountstat mountstat_or F G W (mountstat_or.of c)) s n true → z ≡ D.held.read s p
-mountstat-took X s p r a c n z e f h k = status-took view_mountstat3 X s p r (Mountstat3.Took a n) a c n z refl e f h k
-
 -- mountres3_ok
 abbrev pub mountres-ok-plan : Planned mountres_ok.held.read
 unfolding mountres_ok
 mountres-ok-plan = plan (at bytes then at word_list) _
-
-pub step-mountres-ok : Step view_mountres3_ok
-step-mountres-ok U = step view_mountres3_ok
-
-pub lost-mountres-ok : Loses lost_mountres3_ok
-lost-mountres-ok A = lost-at lost_mountres3_ok
-
-pub mountres3-ok-told : Told view_mountres3_ok
-mountres3-ok-told (Mountres3Ok.Took v n p) (Mountres3Ok.Took v' n' p') e = cc
-mountres3-ok-told (Mountres3Ok.Took v n p) (Mountres3Ok.Refused r) e = cc
-mountres3-ok-told (Mountres3Ok.Refused r) (Mountres3Ok.Took v n p) e = cc
-mountres3-ok-told (Mountres3Ok.Refused r) (Mountres3Ok.Refused r') e = cc
 
 pub mountres-ok-within : Within 0 mountres_ok.codec.kind
 unfolding mountres_ok
@@ -138,18 +98,6 @@ mountres-ok-lays s x o z a = lays-named _ mountres_ok_names s x o z a
 pub mountres-status : OnStatus mountstat mountstat_or mountres_ok (exactly void) mountres_arms mountres
 unfolding mountres
 mountres-status = record { is = refl }
-
-pub step-mountres : Step view_mountres3
-step-mountres U = step view_mountres3
-
-pub lost-mountres : Loses lost_mountres3
-lost-mountres A = lost-at lost_mountres3
-
-pub mountres3-told : Told view_mountres3
-mountres3-told (Mountres3.Took v n p) (Mountres3.Took v' n' p') e = cc
-mountres3-told (Mountres3.Took v n p) (Mountres3.Refused r) e = cc
-mountres3-told (Mountres3.Refused r) (Mountres3.Took v n p) e = cc
-mountres3-told (Mountres3.Refused r) (Mountres3.Refused r') e = cc
 
 pub mountres-marked : Marked mountres.held
 unfolding mountres

@@ -1,23 +1,25 @@
 -- Two linked lists of one format's messages, walked side by side: what a loop that compares them keeps.
 -- Assumes nothing.
-use Rattle.std.specs.Prelude.{◌≡◌, refl, Bool, true, false, not, List, [], ◌∷◌, ℕ, ◌-◌, ◌<◌, length, get_or}
+use Rattle.std.specs.Prelude.{◌≡◌, refl, Bool, true, false, not, List, [], ◌∷◌, ℕ, ◌-◌, ◌<◌, length, get_or, Result, Ok, Err, Some, None}
+use Rattle.std.specs.Prelude as std
 use Rattle.std.proofs.Common.{sym, ap, ap₂, subst, ◌∙◌, arith, Fits}
 use Rattle.std.proofs.Math.Option.{Option, none, some}
-use Rattle.std.proofs.lemmas.Bool.{not-true, not-false}
 use Rattle.std.specs.Int.{w8}
 use Rattle.xdr.specs.Meaning.Answer.{Answer, took, refused}
 use Rattle.xdr.specs.Meaning.Bytes.{Bytes}
-use Rattle.xdr.specs.Meaning.Cases.{Cases, maybe_held}
 use Rattle.xdr.specs.Meaning.Format.{Format, optional}
 use Rattle.xdr.specs.Meaning.Linked.{elements_of, has_count}
 use Rattle.xdr.specs.Meaning.Lists.{linked, list_of}
-use Rattle.xdr.specs.Laws.Held.{taken-inside}
+use Rattle.xdr.specs.Meaning.Views.{view, view_option}
 use Rattle.xdr.specs.Laws.Linked.{put, optional-some}
 use Rattle.xdr.specs.Laws.Lists.{known_bytes}
-use Rattle.xdr.specs.Laws.Walks.{by_names, by-names-refused, list-ends, list-goes, list-refused, step-inside}
+use Rattle.xdr.specs.Laws.Walks.{list-ends, list-goes, list-refused}
+use Rattle.xdr.specs.declared.answer.Took.{Took}
 use Rattle.xdr.specs.declared.piece.Piece.{Piece}
 use Rattle.xdr.specs.declared.refusal.Refusal.{Refusal}
+use Rattle.mount.specs.Meaning.Options.{option_to_from, option_cases}
 use Rattle.mount.specs.Meaning.Same.{Alike}
+use Rattle.mount.specs.Laws.Next.{Steps, step-off, step-on, step-at}
 
 abbrev pub is_took : {A : Type 0} → Answer A → Bool
 is_took (took a n b) = true
@@ -114,30 +116,17 @@ module _ {M S : Type 0} (F : Format M S) where
             back = λ k. let z = sym (one_left s h i a.left e) ∙ a.back k ∙ one_left t g j a.right f in cc z;
           }
 
--- how the code walks a list: its types of what stands at a place, and of the answer
-pub record Steps {M S : Type 0} (F : Format M S) (T R : Type 0) : Type 1 where
-  pub list : Format (List M) Piece
-  pub list-is : list ≡ list_of F
-  pub names : Cases S T
-  pub next : Format (Option M) T
-  pub next-is : next ≡ maybe_held F names
-  pub view : R → Answer T
-  pub takes : T → ℕ → Bool → R
-  pub takes-is : (v : T) (n : ℕ) (b : Bool) → view (takes v n b) ≡ took v n b
-  pub refuses : Refusal → R
-  pub refuses-is : (r : Refusal) → view (refuses r) ≡ refused r
-
 -- in the shape of the goals of either loop
-module _ {M S T R : Type 0} {F : Format M S} (W : Steps F T R) where
+module _ {M S : Type 0} {F : Format M S} (W : Steps F) where
   pub walk-starts : (s : List ℕ) (x : Piece) (t : List ℕ) (y : Piece) → W.list.held.inside s x ≡ true → W.list.held.inside t y ≡ true
       → Along F s x.at t y.at x.at y.at
   walk-starts s x t y h g =
       along-starts F s x t y (subst (λ L. L.held.inside s x ≡ true) W.list-is h) (subst (λ L. L.held.inside t y ≡ true) W.list-is g)
 
   -- what was found, as an option
-  module _ (s : List ℕ) (u : T) (o : Option S) (e : u ≡ W.names.to o) where
-    from_is : W.names.from u ≡ o
-    from_is = ap W.names.from e ∙ W.names.from_to o
+  module _ (s : List ℕ) (u : std.Option S) (o : Option S) (e : u ≡ option_cases.to o) where
+    from_is : view_option u ≡ o
+    from_is = ap view_option e ∙ option_cases.from_to o
 
     mean-is : W.next.held.mean s u ≡ (optional F).held.mean s o
     mean-is = ap (λ N. N.held.mean s u) W.next-is ∙ ap ((optional F).held.mean s) from_is
@@ -146,20 +135,20 @@ module _ {M S T R : Type 0} {F : Format M S} (W : Steps F T R) where
     inside_is = ap (λ N. N.held.inside s u) W.next-is ∙ ap ((optional F).held.inside s) from_is
 
   -- two of them are compared by their cases
-  pub found_inside : (s : List ℕ) (u : T) (z : S) → W.next.held.inside s u ≡ true → u ≡ W.names.to (some z) → F.held.inside s z ≡ true
+  pub found_inside : (s : List ℕ) (u : std.Option S) (z : S) → W.next.held.inside s u ≡ true → u ≡ Some z → F.held.inside s z ≡ true
   found_inside s u z h e = sym (inside_is s u (some z) e) ∙ h
 
-  module _ (s : List ℕ) (u : T) (t : List ℕ) (v : T) where
-    pub found-ends : u ≡ W.names.to none → v ≡ W.names.to none → Alike W.next s u t v true
+  module _ (s : List ℕ) (u : std.Option S) (t : List ℕ) (v : std.Option S) where
+    pub found-ends : u ≡ None → v ≡ None → Alike W.next s u t v true
     found-ends e f = record { tells = mean-is s u none e ∙ sym (mean-is t v none f) }
 
-    pub found-end : (z : S) → u ≡ W.names.to none → v ≡ W.names.to (some z) → Alike W.next s u t v false
+    pub found-end : (z : S) → u ≡ None → v ≡ Some z → Alike W.next s u t v false
     found-end z e f = record { tells = λ k. missing F (sym (mean-is s u none e) ∙ k ∙ mean-is t v (some z) f) }
 
-    pub found-more : (z : S) → u ≡ W.names.to (some z) → v ≡ W.names.to none → Alike W.next s u t v false
+    pub found-more : (z : S) → u ≡ Some z → v ≡ None → Alike W.next s u t v false
     found-more z e f = record { tells = λ k. missing F (sym (mean-is t v none f) ∙ sym k ∙ mean-is s u (some z) e) }
 
-    pub found-both : (x y : S) (r : Bool) → u ≡ W.names.to (some x) → v ≡ W.names.to (some y) → Alike F s x t y r → Alike W.next s u t v r
+    pub found-both : (x y : S) (r : Bool) → u ≡ Some x → v ≡ Some y → Alike F s x t y r → Alike W.next s u t v r
     found-both x y true e f a = record { tells = mean-is s u (some x) e ∙ ap some a.tells ∙ sym (mean-is t v (some y) f) }
     found-both x y false e f a =
         record {
@@ -168,66 +157,47 @@ module _ {M S T R : Type 0} {F : Format M S} (W : Steps F T R) where
               a.tells (cc z);
         }
 
-  -- a step on one side
-  module _ (s : List ℕ) (i : ℕ) (a : R) (e : W.view a ≡ W.next.held.read s i) where
-    off : (r : Refusal) → a ≡ W.refuses r → (optional F).held.read s i ≡ refused r
-    off r f =
-        let k : W.next.held.read s i ≡ refused r = sym e ∙ ap W.view f ∙ W.refuses-is r in
-        by-names-refused F W.names s i (subst (λ N. N.held.read s i ≡ refused r) W.next-is k)
-
-    module _ (u : T) (n : ℕ) (b : Bool) (f : a ≡ W.takes u n b) where
-      took_it : W.next.held.read s i ≡ took u n b
-      took_it = sym e ∙ ap W.view f ∙ W.takes-is u n b
-
-      on : (optional F).held.read s i ≡ took (W.names.from u) n b
-      on = by_names F W.names s i (subst (λ N. N.held.read s i ≡ took u n b) W.next-is took_it)
-
-      pub step-within : W.next.held.inside s u ≡ true
-      step-within = taken-inside W.next.held s i took_it
-
-      pub step_less : ((k : ℕ) → Fits w8 (get_or s k 0)) → length s - n < length s - i
-      step_less h = omega (arith, step-inside F s (known_bytes s h) i on)
-
   -- no step is refused
-  module _ (s : List ℕ) (x : Piece) (t : List ℕ) (y : Piece) (i j : ℕ) (w : Along F s x.at t y.at i j) (a : R) (r : Refusal) (f : a ≡ W.refuses r) where
-    pub step_left : ((k : ℕ) → Fits w8 (get_or s k 0)) → W.view a ≡ W.next.held.read s i → Alike W.list s x t y false
-    step_left h e = absurd (reads_on F s (known_bytes s h) i w.left (off s i a e r f))
+  module _ (s : List ℕ) (x : Piece) (t : List ℕ) (y : Piece) (i j : ℕ) (w : Along F s x.at t y.at i j) (a : Result (Took (std.Option S)) Refusal) (r : Refusal) (f : a ≡ Err r) where
+    pub step_left : ((k : ℕ) → Fits w8 (get_or s k 0)) → view a ≡ W.next.held.read s i → Alike W.list s x t y false
+    step_left h e = absurd (reads_on F s (known_bytes s h) i w.left (step-off W s i a e r f))
 
-    pub step_right : ((k : ℕ) → Fits w8 (get_or t k 0)) → W.view a ≡ W.next.held.read t j → Alike W.list s x t y false
-    step_right h e = absurd (reads_on F t (known_bytes t h) j w.right (off t j a e r f))
+    pub step_right : ((k : ℕ) → Fits w8 (get_or t k 0)) → view a ≡ W.next.held.read t j → Alike W.list s x t y false
+    step_right h e = absurd (reads_on F t (known_bytes t h) j w.right (step-off W t j a e r f))
 
   -- a step on either side
   module _ (s : List ℕ) (x : Piece) (t : List ℕ) (y : Piece) (i j : ℕ) (w : Along F s x.at t y.at i j) (h : (k : ℕ) → Fits w8 (get_or s k 0))
-      (g : (k : ℕ) → Fits w8 (get_or t k 0)) (a b : R) (e : W.view a ≡ W.next.held.read s i) (f : W.view b ≡ W.next.held.read t j) (u v : T)
-      (m n : ℕ) (c d : Bool) (k : a ≡ W.takes u m c) (l : b ≡ W.takes v n d) (r : Bool) (q : Alike W.next s u t v r) where
-    left-on : (o : Option S) → u ≡ W.names.to o → (optional F).held.read s i ≡ took o m c
-    left-on o p = on s i a e u m c k ∙ ap (λ z. took z m c) (from_is s u o p)
+      (g : (k : ℕ) → Fits w8 (get_or t k 0)) (a b : Result (Took (std.Option S)) Refusal) (e : view a ≡ W.next.held.read s i) (f : view b ≡ W.next.held.read t j)
+      (u v : Took (std.Option S)) (k : a ≡ Ok u) (l : b ≡ Ok v) (r : Bool) (q : Alike W.next s u.value t v.value r) where
+    left-on : (o : Option S) → u.value ≡ option_cases.to o → (optional F).held.read s i ≡ took o u.next u.plain
+    left-on o p = step-at W s i a e u k o p
 
-    right-on : (optional F).held.read t j ≡ took (W.names.from v) n d
-    right-on = on t j b f v n d l
+    right-on : (optional F).held.read t j ≡ took (view_option v.value) v.next v.plain
+    right-on = step-on W t j b f v l
 
-    right-mean : W.next.held.mean t v ≡ (optional F).held.mean t (W.names.from v)
-    right-mean = mean-is t v (W.names.from v) (sym (W.names.to_from v))
+    right-mean : W.next.held.mean t v.value ≡ (optional F).held.mean t (view_option v.value)
+    right-mean = mean-is t v.value (view_option v.value) (sym (option_to_from v.value))
 
-    same-mean : (o : Option S) → u ≡ W.names.to o → r ≡ true → (optional F).held.mean s o ≡ (optional F).held.mean t (W.names.from v)
-    same-mean o p z = sym (mean-is s u o p) ∙ (subst (Alike W.next s u t v) (z) q).tells ∙ right-mean
+    same-mean : (o : Option S) → u.value ≡ option_cases.to o → r ≡ true → (optional F).held.mean s o ≡ (optional F).held.mean t (view_option v.value)
+    same-mean o p z = sym (mean-is s u.value o p) ∙ (subst (Alike W.next s u.value t v.value) z q).tells ∙ right-mean
 
     pub walk-differs : r ≡ false → Alike W.list s x t y false
     walk-differs z =
-        let p : u ≡ W.names.to (W.names.from u) = sym (W.names.to_from u) in
+        let p : u.value ≡ option_cases.to (view_option u.value) = sym (option_to_from u.value) in
         let no =
         steps-differ
-        F w (known_bytes s h) (known_bytes t g) (W.names.from u) (W.names.from v) (left-on (W.names.from u) p) right-on
-        (λ z'. (subst (Alike W.next s u t v) z q).tells (mean-is s u (W.names.from u) p ∙ z' ∙ sym right-mean)) in
+        F w (known_bytes s h) (known_bytes t g) (view_option u.value) (view_option v.value) (left-on (view_option u.value) p) right-on
+        (λ z'. (subst (Alike W.next s u.value t v.value) z q).tells (mean-is s u.value (view_option u.value) p ∙ z' ∙ sym right-mean)) in
         record { tells = λ z'. no (subst (λ L. L.held.mean s x ≡ L.held.mean t y) W.list-is z') }
 
-    pub walk_ends : r ≡ true → u ≡ W.names.to none → Alike W.list s x t y true
+    pub walk_ends : r ≡ true → u.value ≡ None → Alike W.list s x t y true
     walk_ends z p =
         record {
           tells =
               subst (λ L. L.held.mean s x ≡ L.held.mean t y) (sym W.list-is)
-              (steps-end F w (known_bytes s h) (known_bytes t g) (W.names.from v) (left-on none p) right-on (same-mean none p z));
+              (steps-end F w (known_bytes s h) (known_bytes t g) (view_option v.value) (left-on none p) right-on (same-mean none p z));
         }
 
-    pub walk-on : r ≡ true → (z : S) → u ≡ W.names.to (some z) → Along F s x.at t y.at m n
-    walk-on z o p = steps-go F w (known_bytes s h) (known_bytes t g) o (W.names.from v) (left-on (some o) p) right-on (same-mean (some o) p z)
+    pub walk-on : r ≡ true → (z : S) → u.value ≡ Some z → Along F s x.at t y.at u.next v.next
+    walk-on z o p =
+        steps-go F w (known_bytes s h) (known_bytes t g) o (view_option v.value) (left-on (some o) p) right-on (same-mean (some o) p z)

@@ -6,33 +6,19 @@ use Rattle.xdr.specs.Meaning.Codecs.{◌⨾◌}
 use Rattle.xdr.specs.Meaning.Items.{word}
 use Rattle.xdr.specs.Meaning.Format.{exactly, ◌⨟◌}
 use Rattle.xdr.specs.Laws.Fixed.{Fixed, seen-fixed, pair-fixed, word-fixed}
-use Rattle.xdr.specs.Laws.One.{Told}
-use Rattle.xdr.specs.Laws.Plans.{◌next◌, Step, step, Loses, lost-at}
+use Rattle.xdr.specs.Laws.Plans.{◌next◌}
 use Rattle.xdr.specs.Laws.Records.{ByPlan, fields, one}
 use Rattle.xdr.specs.Laws.Lengths.{Within, mapped-within, pair-within, word-within}
 use Rattle.xdr.specs.Laws.Writers.{Writer}
 use Rattle.xdr.specs.Laws.Fields.{pair-writer, fixed-writer, Lays}
 use Rattle.xdr.specs.Laws.Unpadded.{Unpadded, view-unpadded, pair-unpadded, word-unpadded}
-use Rattle.mount.specs.Meaning.Portmap.{port_mapping, view_mapping, lost_mapping}
+use Rattle.mount.specs.Meaning.Portmap.{port_mapping}
 use Rattle.mount.specs.declared.portmap.mapping.{mapping}
-use Rattle.mount.specs.declared.portmap.MappingRead.TheVariants as Mapping
 
 -- mapping
 abbrev pub port-mapping-plan : ByPlan port_mapping
 unfolding port_mapping
 port-mapping-plan = fields (one word next one word next one word next one word) _ _ _ _
-
-pub step-port-mapping : Step view_mapping
-step-port-mapping U = step view_mapping
-
-pub lost-port-mapping : Loses lost_mapping
-lost-port-mapping A = lost-at lost_mapping
-
-pub mapping-told : Told view_mapping
-mapping-told (Mapping.Took v n) (Mapping.Took v' n') e = cc
-mapping-told (Mapping.Took v n) (Mapping.Refused r) e = cc
-mapping-told (Mapping.Refused r) (Mapping.Took v n) e = cc
-mapping-told (Mapping.Refused r) (Mapping.Refused r') e = cc
 
 pub port-mapping-within : Within 0 port_mapping.kind
 unfolding port_mapping

@@ -1,6 +1,6 @@
 -- Walking along a held list finds its elements in order: a list of c + 1 elements has one at its place, and behind it a list of c.
 -- Assumes nothing.
-use Rattle.std.specs.Prelude.{◌≡◌, refl, Bool, false, ◌&&◌, List, [], ◌∷◌, ℕ, suc, eqb, length}
+use Rattle.std.specs.Prelude.{◌≡◌, refl, Bool, false, List, [], ◌∷◌, ℕ, suc, length, Some, None}
 use Rattle.std.proofs.Common.{sym, subst, ◌∙◌, arith, eq-eqb, eqb-true}
 use Rattle.std.proofs.Math.Path.{ap}
 use Rattle.std.proofs.Math.Bool.{true}
@@ -14,12 +14,10 @@ use Rattle.xdr.specs.Meaning.Lists.{linked, list_of}
 use Rattle.xdr.specs.Laws.Linked.{put, optional-some}
 use Rattle.xdr.specs.Laws.Walks.{list-ends, list-goes, list-refused}
 use Rattle.xdr.specs.declared.piece.Piece.{Piece}
-use Rattle.mount.specs.Meaning.Path.{long_path}
-use Rattle.mount.specs.Meaning.Group.{groups, next_group_cases, next-group}
-use Rattle.mount.specs.Meaning.Export.{Exportnode, node, nodes, farther, long_entry, first_long, long_list, exports, next_export_cases, next_node, next-export}
+use Rattle.mount.specs.Meaning.Options.{option_cases}
+use Rattle.mount.specs.Meaning.Group.{groups, next-group}
+use Rattle.mount.specs.Meaning.Export.{node, nodes, farther, long_entry, first_long, long_list, exports, next_node, next-export}
 use Rattle.mount.specs.declared.export.exportnode.{exportnode}
-use Rattle.mount.specs.declared.export.NextExport.TheVariants as nextExportIs
-use Rattle.mount.specs.declared.group.NextGroup.TheVariants as nextGroupIs
 
 never : {P : Type 0} → false ≡ true → P
 never e = let z : ◌≡◌ {A = ℕ} 0 1 = cc e in absurd (omega arith)
@@ -91,18 +89,18 @@ module _ (s : List ℕ) (h : Bytes s) (x : Piece) (i : groups.held.inside s x �
     pub name : Piece
     pub next : ℕ
     pub plain : Bool
-    pub reads : next-group.held.read s x.at ≡ took (nextGroupIs.Name name) next plain
+    pub reads : next-group.held.read s x.at ≡ took (Some name) next plain
     pub inside : groups.held.inside s (record { at = next; count = c; clean = true }) ≡ true
 
   pub walk-name : (c : ℕ) → x.count ≡ suc c → Name c
   unfolding groups next-group
   walk-name c e =
       let d = step _ s h x c e i in
-      record { name = d.element; next = d.next; plain = d.plain; reads = named_step _ next_group_cases s x.at d.reads; inside = d.inside }
+      record { name = d.element; next = d.next; plain = d.plain; reads = named_step _ option_cases s x.at d.reads; inside = d.inside }
 
-  pub walk-names-end : x.count ≡ 0 → (n : ℕ) × (b : Bool) × (next-group.held.read s x.at ≡ took nextGroupIs.End n b)
+  pub walk-names-end : x.count ≡ 0 → (n : ℕ) × (b : Bool) × (next-group.held.read s x.at ≡ took None n b)
   unfolding groups next-group
-  walk-names-end e = let d = end _ s h x e i in (d.next, d.plain, named_step _ next_group_cases s x.at d.reads)
+  walk-names-end e = let d = end _ s h x e i in (d.next, d.plain, named_step _ option_cases s x.at d.reads)
 
 -- entries of an export list, by what `next_export` reads
 module _ (s : List ℕ) (h : Bytes s) (x : Piece) (i : exports.held.inside s x ≡ true) (w : long_list (exports.held.mean s x) ≡ none) where
@@ -123,7 +121,7 @@ module _ (s : List ℕ) (h : Bytes s) (x : Piece) (i : exports.held.inside s x �
     pub entry : exportnode
     pub next : ℕ
     pub plain : Bool
-    pub reads : next-export.held.read s x.at ≡ took (nextExportIs.Export entry) next plain
+    pub reads : next-export.held.read s x.at ≡ took (Some entry) next plain
     pub inside : exports.held.inside s (record { at = next; count = c; clean = true }) ≡ true
     pub within : long_list (exports.held.mean s (record { at = next; count = c; clean = true })) ≡ none
     pub mean : exports.held.mean s x ≡ node.held.mean s entry ∷ exports.held.mean s (record { at = next; count = c; clean = true })
@@ -140,14 +138,14 @@ module _ (s : List ℕ) (h : Bytes s) (x : Piece) (i : exports.held.inside s x �
         entry = d.element;
         next = d.next;
         plain = d.plain;
-        reads = rw (named_step node next_export_cases s x.at d.reads, a);
+        reads = rw (named_step node option_cases s x.at d.reads, a);
         inside = d.inside;
         within = nearer _ (long_list l) (rest-kept (long_entry (some m)) _ k);
         mean = d.mean;
       }
 
-  pub walk-entries-end : x.count ≡ 0 → (n : ℕ) × (b : Bool) × (next-export.held.read s x.at ≡ took nextExportIs.End n b)
+  pub walk-entries-end : x.count ≡ 0 → (n : ℕ) × (b : Bool) × (next-export.held.read s x.at ≡ took None n b)
   unfolding exports nodes next_node next-export
   walk-entries-end e =
       let d = end node s h x e i in
-      (d.next, d.plain, rw (named_step node next_export_cases s x.at d.reads))
+      (d.next, d.plain, rw (named_step node option_cases s x.at d.reads))

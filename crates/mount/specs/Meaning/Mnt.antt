@@ -1,33 +1,22 @@
 -- made by tools/generate from crates/mount/rfc/mnt.x
 -- MNT: the handle of a directory that is to be mounted (RFC 1813, sections 5.1.5 and 5.2.1, in appendix I).
 -- Assumes nothing.
-use Rattle.std.specs.Prelude.{◌≡◌, refl, true, List, ◌∷◌, [], ℕ}
+use Rattle.std.specs.Prelude.{◌≡◌, refl, List, ◌∷◌, [], ℕ}
 use Rattle.std.proofs.Math.Option.{Option, none, some}
-use Rattle.xdr.specs.Meaning.Answer.{Answer, refused, took}
 use Rattle.xdr.specs.Meaning.Kind.{Codec}
-use Rattle.xdr.specs.Meaning.Combinators.{among, means, Seen, undeclared}
+use Rattle.xdr.specs.Meaning.Combinators.{among, means}
 use Rattle.xdr.specs.Meaning.Codecs.{void}
 use Rattle.xdr.specs.Meaning.Items.{closed}
 use Rattle.xdr.specs.Meaning.Format.{Renaming, Format, named, ◌⨟◌, exactly}
 use Rattle.xdr.specs.Meaning.Formats.{bytes, word_list}
 use Rattle.xdr.specs.Meaning.Status.{Status, Result, ok, failed, Arms, on_status}
 use Rattle.xdr.specs.declared.piece.Piece.{Piece}
-use Rattle.xdr.specs.declared.refusal.Refusal.{Refusal}
-use Rattle.xdr.specs.declared.refusal.Refusal.TheVariants.{PastEnd}
-use Rattle.mount.specs.declared.mnt.Mountres3OkRead.{Mountres3OkRead}
-use Rattle.mount.specs.declared.mnt.Mountres3Read.{Mountres3Read}
-use Rattle.mount.specs.declared.mnt.Mountstat3Found.{Mountstat3Found}
-use Rattle.mount.specs.declared.mnt.Mountstat3Read.{Mountstat3Read}
 use Rattle.mount.specs.declared.mnt.mountfail3.{mountfail3}
 use Rattle.mount.specs.declared.mnt.mountres3.{mountres3}
 use Rattle.mount.specs.declared.mnt.mountres3_ok.{mountres3_ok}
 use Rattle.mount.specs.declared.mnt.mountstat3.{mountstat3}
-use Rattle.mount.specs.declared.mnt.Mountstat3Read.TheVariants as Mountstat3
 use Rattle.mount.specs.declared.mnt.mountstat3.TheVariants as mountstatIs
-use Rattle.mount.specs.declared.mnt.Mountstat3Found.TheVariants as mountstatFound
 use Rattle.mount.specs.declared.mnt.mountfail3.TheVariants as mountfailIs
-use Rattle.mount.specs.declared.mnt.Mountres3OkRead.TheVariants as Mountres3Ok
-use Rattle.mount.specs.declared.mnt.Mountres3Read.TheVariants as Mountres3
 use Rattle.mount.specs.declared.mnt.mountres3.TheVariants as mountresIs
 
 -- mountstat3
@@ -60,18 +49,6 @@ each_mountstat (mountstatIs.Failed mountfailIs.MNT3ERR_SERVERFAULT) = refl
 
 unfoldable pub mountstat : Codec mountstat3
 mountstat = closed mountstat_number mountstat_all each_mountstat
-
-abbrev pub found_mountstat3 : Mountstat3Found → Seen mountstat3
-found_mountstat3 mountstatFound.None = undeclared
-found_mountstat3 (mountstatFound.Is a) = means a []
-
-abbrev pub view_mountstat3 : Mountstat3Read → Answer mountstat3
-view_mountstat3 (Mountstat3.Refused r) = refused r
-view_mountstat3 (Mountstat3.Took v n) = took v n true
-
-abbrev pub lost_mountstat3 : Mountstat3Read → Refusal
-lost_mountstat3 (Mountstat3.Refused r) = r
-lost_mountstat3 (Mountstat3.Took v n) = PastEnd
 
 abbrev pub mountfail_number : mountfail3 → ℕ
 mountfail_number f = mountstat_number (mountstatIs.Failed f)
@@ -116,14 +93,6 @@ mountres_ok_names =
 unfoldable pub mountres_ok : Format MountresOk mountres3_ok
 mountres_ok = named (bytes ⨟ word_list) mountres_ok_names
 
-abbrev pub view_mountres3_ok : Mountres3OkRead → Answer mountres3_ok
-view_mountres3_ok (Mountres3Ok.Refused r) = refused r
-view_mountres3_ok (Mountres3Ok.Took v n p) = took v n p
-
-abbrev pub lost_mountres3_ok : Mountres3OkRead → Refusal
-lost_mountres3_ok (Mountres3Ok.Refused r) = r
-lost_mountres3_ok (Mountres3Ok.Took v n p) = PastEnd
-
 -- mountres3
 abbrev pub mountres_to : Result mountfail3 mountres3_ok (Unit {0}) → mountres3
 mountres_to (ok f) = mountresIs.MNT3_OK f
@@ -146,11 +115,3 @@ mountres_arms = record { to = mountres_to; from = mountres_from; from_to = mount
 
 unfoldable pub mountres : Format (Result mountfail3 MountresOk (Unit {0})) mountres3
 mountres = on_status mountstat mountstat_or mountres_ok (exactly void) mountres_arms
-
-abbrev pub view_mountres3 : Mountres3Read → Answer mountres3
-view_mountres3 (Mountres3.Refused r) = refused r
-view_mountres3 (Mountres3.Took v n p) = took v n p
-
-abbrev pub lost_mountres3 : Mountres3Read → Refusal
-lost_mountres3 (Mountres3.Refused r) = r
-lost_mountres3 (Mountres3.Took v n p) = PastEnd

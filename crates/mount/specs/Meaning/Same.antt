@@ -1,6 +1,6 @@
 -- Comparing two export lists, each held in its own source: as messages, whatever bytes they are read from.
 -- Assumes nothing.
-use Rattle.std.specs.Prelude.{◌≡◌, Bool, true, false, cond, ◌&&◌, List, ℕ, leb, eqb, length}
+use Rattle.std.specs.Prelude.{◌≡◌, Bool, true, false, cond, ◌&&◌, List, ℕ, leb, eqb, length, Result, Ok, Err}
 use Rattle.std.proofs.Math.Option.{Option, none, some}
 use Rattle.xdr.specs.Meaning.Answer.{most}
 use Rattle.xdr.specs.Meaning.Bytes.{Bytes}
@@ -10,8 +10,6 @@ use Rattle.xdr.specs.declared.piece.Piece.{Piece}
 use Rattle.xdr.specs.declared.refusal.Refusal.{Refusal}
 use Rattle.xdr.specs.declared.refusal.Refusal.TheVariants.{TooLong, Outside, LongPath}
 use Rattle.mount.specs.Meaning.Export.{nodes, long_list}
-use Rattle.mount.specs.declared.same.Compared.{Compared}
-use Rattle.mount.specs.declared.same.Compared.TheVariants as compared
 use Rattle.mount.specs.declared.same.Standing.{Standing}
 use Rattle.mount.specs.declared.same.Standing.TheVariants as standing
 
@@ -35,13 +33,13 @@ module _ (s : List ℕ) (x : Piece) (t : List ℕ) (y : Piece) where
   abbrev pub Equal : Type 0
   Equal = nodes.held.mean s x ≡ nodes.held.mean t y
 
-  abbrev pub Says : Compared → Type 0
-  Says (compared.Refused r) = objection ≡ some r
-  Says compared.Same = (objection ≡ none) × Equal
-  Says compared.Different = (objection ≡ none) × ¬ Equal
+  abbrev pub Says : Result Bool Refusal → Type 0
+  Says (Err r) = objection ≡ some r
+  Says (Ok true) = (objection ≡ none) × Equal
+  Says (Ok false) = (objection ≡ none) × ¬ Equal
 
   -- the answer of a comparison; and the sources are bytes
-  pub record Compares (r : Compared) : Type 0 where
+  pub record Compares (r : Result Bool Refusal) : Type 0 where
     pub says : Says r
     pub left : Bytes s
     pub right : Bytes t

@@ -5,11 +5,9 @@ use Rattle.std.proofs.Math.Path.{refl}
 use Rattle.std.proofs.Common.{sym, ap, ◌∙◌, append_assoc, arith}
 use Rattle.std.proofs.Math.ListN.{length-append}
 use Rattle.xdr.specs.Meaning.Answer.{most}
-use Rattle.xdr.specs.Meaning.Items.{word, hyper}
 use Rattle.nfs.specs.Meaning.Change.{set_mode, set_uid, set_gid, set_size}
 use Rattle.nfs.specs.Meaning.Set.{set-atime, atime_cases, set-mtime, mtime_cases, sattr}
-use Rattle.xdr.specs.Laws.Fixed.{word-fixed, hyper-fixed}
-use Rattle.xdr.specs.Laws.Optional.{Between, Optional, maybe-between}
+use Rattle.xdr.specs.Laws.Optional.{Between}
 use Rattle.nfs.specs.Laws.Change.{set-mode-between, set-uid-between, set-gid-between, set-size-between}
 use Rattle.nfs.specs.Laws.Write.{Timed, time-between}
 use Rattle.nfs.specs.declared.set.sattr3.{sattr3}

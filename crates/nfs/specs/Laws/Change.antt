@@ -6,39 +6,21 @@ use Rattle.std.proofs.Common.{arith}
 use Rattle.xdr.specs.Meaning.Answer.{most}
 use Rattle.xdr.specs.Meaning.Items.{word, hyper}
 use Rattle.xdr.specs.Laws.Fixed.{word-fixed, hyper-fixed}
-use Rattle.xdr.specs.Laws.One.{Told}
-use Rattle.xdr.specs.Laws.Plans.{Step, step, Loses, lost-at}
 use Rattle.xdr.specs.Laws.Records.{ByPlan}
 use Rattle.xdr.specs.Laws.Lengths.{Within, word-within, hyper-within}
 use Rattle.xdr.specs.Laws.Optional.{maybe-plan, maybe-within, Optional, Between, maybe-between}
 use Rattle.xdr.specs.Laws.Unpadded.{Unpadded, view-unpadded, word-unpadded, hyper-unpadded}
 use Rattle.xdr.proofs.Flagged.{option-unpadded}
-use Rattle.nfs.specs.Meaning.Change.{set_mode, set_mode_cases, view_set_mode3, lost_set_mode3, set_uid, set_uid_cases, view_set_uid3, lost_set_uid3, set_gid, set_gid_cases, view_set_gid3, lost_set_gid3, set_size, set_size_cases, view_set_size3, lost_set_size3}
+use Rattle.nfs.specs.Meaning.Change.{set_mode, set_mode_cases, set_uid, set_uid_cases, set_gid, set_gid_cases, set_size, set_size_cases}
 use Rattle.nfs.specs.declared.change.set_gid3.{set_gid3}
 use Rattle.nfs.specs.declared.change.set_mode3.{set_mode3}
 use Rattle.nfs.specs.declared.change.set_size3.{set_size3}
 use Rattle.nfs.specs.declared.change.set_uid3.{set_uid3}
-use Rattle.nfs.specs.declared.change.SetMode3Read.TheVariants as SetMode3
-use Rattle.nfs.specs.declared.change.SetUid3Read.TheVariants as SetUid3
-use Rattle.nfs.specs.declared.change.SetGid3Read.TheVariants as SetGid3
-use Rattle.nfs.specs.declared.change.SetSize3Read.TheVariants as SetSize3
 
 -- set_mode3
 abbrev pub set-mode-plan : ByPlan set_mode
 unfolding set_mode
 set-mode-plan = maybe-plan word set_mode_cases
-
-pub step-set-mode : Step view_set_mode3
-step-set-mode U = step view_set_mode3
-
-pub lost-set-mode : Loses lost_set_mode3
-lost-set-mode A = lost-at lost_set_mode3
-
-pub set-mode3-told : Told view_set_mode3
-set-mode3-told (SetMode3.Took v n p) (SetMode3.Took v' n' p') e = cc
-set-mode3-told (SetMode3.Took v n p) (SetMode3.Refused r) e = cc
-set-mode3-told (SetMode3.Refused r) (SetMode3.Took v n p) e = cc
-set-mode3-told (SetMode3.Refused r) (SetMode3.Refused r') e = cc
 
 pub set-mode-within : Within 0 set_mode.kind
 unfolding set_mode
@@ -64,18 +46,6 @@ abbrev pub set-uid-plan : ByPlan set_uid
 unfolding set_uid
 set-uid-plan = maybe-plan word set_uid_cases
 
-pub step-set-uid : Step view_set_uid3
-step-set-uid U = step view_set_uid3
-
-pub lost-set-uid : Loses lost_set_uid3
-lost-set-uid A = lost-at lost_set_uid3
-
-pub set-uid3-told : Told view_set_uid3
-set-uid3-told (SetUid3.Took v n p) (SetUid3.Took v' n' p') e = cc
-set-uid3-told (SetUid3.Took v n p) (SetUid3.Refused r) e = cc
-set-uid3-told (SetUid3.Refused r) (SetUid3.Took v n p) e = cc
-set-uid3-told (SetUid3.Refused r) (SetUid3.Refused r') e = cc
-
 pub set-uid-within : Within 0 set_uid.kind
 unfolding set_uid
 set-uid-within = maybe-within word set_uid_cases word-within
@@ -100,18 +70,6 @@ abbrev pub set-gid-plan : ByPlan set_gid
 unfolding set_gid
 set-gid-plan = maybe-plan word set_gid_cases
 
-pub step-set-gid : Step view_set_gid3
-step-set-gid U = step view_set_gid3
-
-pub lost-set-gid : Loses lost_set_gid3
-lost-set-gid A = lost-at lost_set_gid3
-
-pub set-gid3-told : Told view_set_gid3
-set-gid3-told (SetGid3.Took v n p) (SetGid3.Took v' n' p') e = cc
-set-gid3-told (SetGid3.Took v n p) (SetGid3.Refused r) e = cc
-set-gid3-told (SetGid3.Refused r) (SetGid3.Took v n p) e = cc
-set-gid3-told (SetGid3.Refused r) (SetGid3.Refused r') e = cc
-
 pub set-gid-within : Within 0 set_gid.kind
 unfolding set_gid
 set-gid-within = maybe-within word set_gid_cases word-within
@@ -135,18 +93,6 @@ set-gid-unpadded = view-unpadded (λ x. refl) (option-unpadded word word-unpadde
 abbrev pub set-size-plan : ByPlan set_size
 unfolding set_size
 set-size-plan = maybe-plan hyper set_size_cases
-
-pub step-set-size : Step view_set_size3
-step-set-size U = step view_set_size3
-
-pub lost-set-size : Loses lost_set_size3
-lost-set-size A = lost-at lost_set_size3
-
-pub set-size3-told : Told view_set_size3
-set-size3-told (SetSize3.Took v n p) (SetSize3.Took v' n' p') e = cc
-set-size3-told (SetSize3.Took v n p) (SetSize3.Refused r) e = cc
-set-size3-told (SetSize3.Refused r) (SetSize3.Took v n p) e = cc
-set-size3-told (SetSize3.Refused r) (SetSize3.Refused r') e = cc
 
 pub set-size-within : Within 0 set_size.kind
 unfolding set_size

@@ -9,8 +9,7 @@ use Rattle.xdr.specs.Meaning.Pieces.{is_inside}
 use Rattle.xdr.specs.Meaning.Public.{output, laid_of}
 use Rattle.xdr.specs.Meaning.Marks.{Marked, MarksAre}
 use Rattle.xdr.specs.Laws.Padding.{size_small}
-use Rattle.xdr.specs.Laws.One.{Told}
-use Rattle.xdr.specs.Laws.Plans.{Planned, plan, at, Step, step, Loses, lost-at, optionally, ◌then◌}
+use Rattle.xdr.specs.Laws.Plans.{Planned, plan, at, optionally, ◌then◌}
 use Rattle.xdr.specs.Laws.Lengths.{Within, view-within, opaque-within, no_default, pair-within}
 use Rattle.xdr.specs.Laws.Write.{Ready}
 use Rattle.xdr.specs.Laws.Writers.{bytes-writer, Writer}
@@ -21,34 +20,18 @@ use Rattle.xdr.proofs.Flagged.{maybe-marked}
 use Rattle.nfs.specs.Laws.Bytes.{sattr-between}
 use Rattle.nfs.specs.Laws.Lengths.{sattr-within}
 use Rattle.nfs.specs.Laws.Unpadded.{sattr-unpadded}
-use Rattle.nfs.specs.Meaning.Dir.{nfs_fh, view_nfs_fh3, lost_nfs_fh3, nfs_fh_names, post_op_fh, view_post_op_fh3, lost_post_op_fh3, post_op_fh_cases, post_op_fh_from, diropargs, view_diropargs3, lost_diropargs3, diropargs_names, symlinkdata, view_symlinkdata3, lost_symlinkdata3, symlinkdata_names}
+use Rattle.nfs.specs.Meaning.Dir.{nfs_fh, nfs_fh_names, post_op_fh, post_op_fh_cases, post_op_fh_from, diropargs, diropargs_names, symlinkdata, symlinkdata_names}
 use Rattle.nfs.specs.Meaning.Set.{sattr}
 use Rattle.nfs.specs.declared.dir.diropargs3.{diropargs3}
 use Rattle.nfs.specs.declared.dir.nfs_fh3.{nfs_fh3}
 use Rattle.nfs.specs.declared.dir.post_op_fh3.{post_op_fh3}
 use Rattle.nfs.specs.declared.dir.symlinkdata3.{symlinkdata3}
-use Rattle.nfs.specs.declared.dir.NfsFh3Read.TheVariants as NfsFh3
-use Rattle.nfs.specs.declared.dir.PostOpFh3Read.TheVariants as PostOpFh3
 use Rattle.nfs.specs.declared.dir.post_op_fh3.TheVariants as postOpFhIs
-use Rattle.nfs.specs.declared.dir.Diropargs3Read.TheVariants as Diropargs3
-use Rattle.nfs.specs.declared.dir.Symlinkdata3Read.TheVariants as Symlinkdata3
 
 -- nfs_fh3
 abbrev pub nfs-fh-plan : Planned nfs_fh.held.read
 unfolding nfs_fh
 nfs-fh-plan = plan (at bytes) _
-
-pub step-nfs-fh : Step view_nfs_fh3
-step-nfs-fh U = step view_nfs_fh3
-
-pub lost-nfs-fh : Loses lost_nfs_fh3
-lost-nfs-fh A = lost-at lost_nfs_fh3
-
-pub nfs-fh3-told : Told view_nfs_fh3
-nfs-fh3-told (NfsFh3.Took v n p) (NfsFh3.Took v' n' p') e = cc
-nfs-fh3-told (NfsFh3.Took v n p) (NfsFh3.Refused r) e = cc
-nfs-fh3-told (NfsFh3.Refused r) (NfsFh3.Took v n p) e = cc
-nfs-fh3-told (NfsFh3.Refused r) (NfsFh3.Refused r') e = cc
 
 pub nfs-fh-within : Within 0 nfs_fh.codec.kind
 unfolding nfs_fh
@@ -91,18 +74,6 @@ abbrev pub post-op-fh-plan : Planned post_op_fh.held.read
 unfolding post_op_fh
 post-op-fh-plan = plan (optionally (at nfs_fh)) _
 
-pub step-post-op-fh : Step view_post_op_fh3
-step-post-op-fh U = step view_post_op_fh3
-
-pub lost-post-op-fh : Loses lost_post_op_fh3
-lost-post-op-fh A = lost-at lost_post_op_fh3
-
-pub post-op-fh3-told : Told view_post_op_fh3
-post-op-fh3-told (PostOpFh3.Took v n p) (PostOpFh3.Took v' n' p') e = cc
-post-op-fh3-told (PostOpFh3.Took v n p) (PostOpFh3.Refused r) e = cc
-post-op-fh3-told (PostOpFh3.Refused r) (PostOpFh3.Took v n p) e = cc
-post-op-fh3-told (PostOpFh3.Refused r) (PostOpFh3.Refused r') e = cc
-
 pub post-op-fh-within : Within 0 post_op_fh.codec.kind
 unfolding post_op_fh
 post-op-fh-within = held-within nfs_fh post_op_fh_cases nfs-fh-within
@@ -132,18 +103,6 @@ post-op-fh-marked = maybe-marked nfs_fh nfs-fh-marked post_op_fh_cases
 abbrev pub diropargs-plan : Planned diropargs.held.read
 unfolding diropargs
 diropargs-plan = plan (at nfs_fh then at bytes) _
-
-pub step-diropargs : Step view_diropargs3
-step-diropargs U = step view_diropargs3
-
-pub lost-diropargs : Loses lost_diropargs3
-lost-diropargs A = lost-at lost_diropargs3
-
-pub diropargs3-told : Told view_diropargs3
-diropargs3-told (Diropargs3.Took v n p) (Diropargs3.Took v' n' p') e = cc
-diropargs3-told (Diropargs3.Took v n p) (Diropargs3.Refused r) e = cc
-diropargs3-told (Diropargs3.Refused r) (Diropargs3.Took v n p) e = cc
-diropargs3-told (Diropargs3.Refused r) (Diropargs3.Refused r') e = cc
 
 pub diropargs-within : Within 0 diropargs.codec.kind
 unfolding diropargs
@@ -188,18 +147,6 @@ diropargs-lays s x o z a = lays-named _ diropargs_names s x o z a
 abbrev pub symlinkdata-plan : Planned symlinkdata.held.read
 unfolding symlinkdata
 symlinkdata-plan = plan (at (exactly sattr) then at bytes) _
-
-pub step-symlinkdata : Step view_symlinkdata3
-step-symlinkdata U = step view_symlinkdata3
-
-pub lost-symlinkdata : Loses lost_symlinkdata3
-lost-symlinkdata A = lost-at lost_symlinkdata3
-
-pub symlinkdata3-told : Told view_symlinkdata3
-symlinkdata3-told (Symlinkdata3.Took v n p) (Symlinkdata3.Took v' n' p') e = cc
-symlinkdata3-told (Symlinkdata3.Took v n p) (Symlinkdata3.Refused r) e = cc
-symlinkdata3-told (Symlinkdata3.Refused r) (Symlinkdata3.Took v n p) e = cc
-symlinkdata3-told (Symlinkdata3.Refused r) (Symlinkdata3.Refused r') e = cc
 
 pub symlinkdata-within : Within 0 symlinkdata.codec.kind
 unfolding symlinkdata

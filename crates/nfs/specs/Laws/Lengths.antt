@@ -5,10 +5,9 @@ use Rattle.std.proofs.Common.{arith}
 use Rattle.xdr.specs.Meaning.Answer.{Way}
 use Rattle.xdr.specs.Meaning.Combinators.{means}
 use Rattle.xdr.specs.Meaning.Codecs.{◌⨾◌}
-use Rattle.xdr.specs.Meaning.Items.{word, hyper, option}
+use Rattle.xdr.specs.Meaning.Items.{word, hyper}
 use Rattle.xdr.specs.Meaning.Format.{tagged}
-use Rattle.xdr.specs.Laws.Lengths.{Lengths, Within, void-lengths, void-within, chain-lengths, chain-within, pair-within, pair-lengths, view-within, view-lengths, no_default, word-lengths, word-within, hyper-lengths, hyper-within, closed-within, option-lengths, option-within}
-use Rattle.nfsattr.specs.Meaning.Attr.{nfstime}
+use Rattle.xdr.specs.Laws.Lengths.{Lengths, Within, void-lengths, void-within, chain-lengths, chain-within, pair-within, pair-lengths, view-within, view-lengths, no_default, word-lengths, word-within, hyper-lengths, closed-within, option-lengths}
 use Rattle.nfsattr.specs.Laws.Lengths.{nfstime-lengths, nfstime-within}
 use Rattle.nfs.specs.Meaning.Change.{set_mode, set_uid, set_gid, set_size}
 use Rattle.nfs.specs.Laws.Change.{set-mode-within, set-uid-within, set-gid-within, set-size-within}

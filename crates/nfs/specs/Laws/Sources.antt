@@ -1,11 +1,11 @@
 -- A diropargs3 from two sources: how it is laid, how long it is, and what its writer leaves.
 -- Assumes nothing.
-use Rattle.std.specs.Prelude.{◌≡◌, refl, Bool, true, false, not, ◌&&◌, List, ◌++◌, ℕ, ◌+◌, ◌-◌, ◌≤◌, leb, length, drop, get_or}
+use Rattle.std.specs.Prelude.{◌≡◌, refl, Bool, true, false, ◌&&◌, List, ◌++◌, ℕ, ◌+◌, ◌-◌, ◌≤◌, leb, length, drop, get_or, Result, Ok, Err, Some, None}
 use Rattle.std.proofs.Common.{sym, ap, subst, ◌∙◌, arith, length-append, Fits}
 use Rattle.std.specs.Int.{w8}
 use borrow.Rule.Slice.PartMut.{mid_of, put_mid}
 use Rattle.xdr.specs.Meaning.Bytes.{Bytes}
-use Rattle.xdr.specs.Meaning.Answer.{most, done}
+use Rattle.xdr.specs.Meaning.Answer.{most, done, unwritten}
 use Rattle.xdr.specs.Meaning.Formats.{bytes, piece_held}
 use Rattle.xdr.specs.Meaning.Pieces.{is_inside, size_up_to}
 use Rattle.xdr.specs.Meaning.Order.{placing}
@@ -24,9 +24,6 @@ use Rattle.nfs.specs.Meaning.Dir.{nfs_fh, diropargs}
 use Rattle.nfs.specs.Meaning.Sources.{diropargs_from, WritesDiropargsFrom, FitsDiropargsFrom}
 use Rattle.nfs.specs.Laws.Dir.{nfs_fh_size, nfs-fh-sized, diropargs_size}
 use Rattle.nfs.specs.declared.dir.diropargs3.{diropargs3}
-use Rattle.nfs.specs.declared.sources.Fitted.TheVariants as fitted
-use Rattle.xdr.specs.declared.answer.Wrote.{Wrote}
-use Rattle.xdr.specs.declared.answer.Wrote.TheVariants as W
 use Rattle.xdr.specs.declared.refusal.Refusal.{Refusal}
 
 -- each source is not too long, and its piece lies inside it
@@ -66,7 +63,7 @@ dir-from-put xs ys zs s t n x r h e a b =
     record { is = g.is ∙ ap (λ k. diropargs.codec.kind.write (diropargs_from s t x) ++ drop k xs) q; long = g.long ∙ q }
 
 -- what the writer leaves, by what the code found
-module _ (s t : List ℕ) (at : ℕ) (o : List ℕ) (w : Wrote) (lng k : ℕ) (i j h : Bool) (x : diropargs3) (e : view_wrote w ≡ placing lng i k (length o) at)
+module _ (s t : List ℕ) (at : ℕ) (o : List ℕ) (w : Result ℕ Refusal) (lng k : ℕ) (i j h : Bool) (x : diropargs3) (e : view_wrote w ≡ placing lng i k (length o) at)
     (f : lng ≡ longer (length s) (length t)) (g : i ≡ (j && h)) (u : j ≡ nfs_fh.held.inside s x.dir) (v : h ≡ is_inside t x.name)
     (l : k ≡ diropargs_size x) where
   said : view_wrote w ≡ placing (longer (length s) (length t)) (nfs_fh.held.inside s x.dir && is_inside t x.name) (diropargs_size x) (length o) at
@@ -77,26 +74,26 @@ module _ (s t : List ℕ) (at : ℕ) (o : List ℕ) (w : Wrote) (lng k : ℕ) (i
       → length (diropargs.codec.kind.write (diropargs_from s t x)) ≡ diropargs_size x
   sized a b = dir-long s t x (dir-ready s t a x b)
 
-  pub dir-from-off : (q : Refusal) → w ≡ W.Refused q → WritesDiropargsFrom s t x at o (view_wrote w) o
+  pub dir-from-off : (q : Refusal) → w ≡ Err q → WritesDiropargsFrom s t x at o (unwritten q) o
   dir-from-off q r =
       from-off (diropargs_from s t x) (longer (length s) (length t)) (nfs_fh.held.inside s x.dir && is_inside t x.name) (diropargs_size x) at o w said sized q r
 
-  pub dir-from-ready : (n : ℕ) → w ≡ W.Done n → DirReady s t x
+  pub dir-from-ready : (n : ℕ) → w ≡ Ok n → DirReady s t x
   dir-from-ready n r =
       let d = placed (longer (length s) (length t)) (nfs_fh.held.inside s x.dir && is_inside t x.name) (diropargs_size x) (length o) at w n said r in
       dir-ready s t d.short x d.inside
 
-  pub dir-from-on : (n : ℕ) (zs : List ℕ) → w ≡ W.Done n
+  pub dir-from-on : (n : ℕ) (zs : List ℕ) → w ≡ Ok n
       → Put (mid_of at (length o - at) o) zs (diropargs_size x) (diropargs.codec.kind.write (diropargs_from s t x))
       → ((n : ℕ) → Fits w8 (get_or s n 0)) → ((n : ℕ) → Fits w8 (get_or t n 0))
       → (Bytes s → Bytes t → DirReady s t x → diropargs.codec.kind.Good (diropargs_from s t x))
-      → WritesDiropargsFrom s t x at o (view_wrote w) (put_mid at (length o - at) o zs)
+      → WritesDiropargsFrom s t x at o (done n) (put_mid at (length o - at) o zs)
   dir-from-on n zs r p known given good =
       from_on (diropargs_from s t x) (longer (length s) (length t)) (nfs_fh.held.inside s x.dir && is_inside t x.name) (diropargs_size x) at o w said sized n zs r p
       (good (known_bytes s known) (known_bytes t given) (dir-from-ready n r))
 
 -- by tests one after another: no test that fails touches the output
-pub dir-fit-off : (s t : List ℕ) (x : diropargs3) (at : ℕ) (o : List ℕ) → FitsDiropargsFrom s t x at o fitted.No o
+pub dir-fit-off : (s t : List ℕ) (x : diropargs3) (at : ℕ) (o : List ℕ) → FitsDiropargsFrom s t x at o None o
 dir-fit-off s t x at o = record { off = λ _. refl; on = λ n e. let z : ◌≡◌ {A = ℕ} 0 1 = cc in absurd (omega arith) }
 
 -- and where all of them hold it is what the writer above leaves
@@ -125,8 +122,8 @@ module _ (s t : List ℕ) (x : diropargs3) (j h : Bool) (a : length s ≤ most) 
       → Put (mid_of at (length o - at) o) zs (diropargs_size x) (diropargs.codec.kind.write (diropargs_from s t x))
       → ((n : ℕ) → Fits w8 (get_or s n 0)) → ((n : ℕ) → Fits w8 (get_or t n 0))
       → (Bytes s → Bytes t → DirReady s t x → diropargs.codec.kind.Good (diropargs_from s t x))
-      → FitsDiropargsFrom s t x at o (fitted.To (at + k)) (put_mid at (length o - at) o zs)
+      → FitsDiropargsFrom s t x at o (Some (at + k)) (put_mid at (length o - at) o zs)
   dir-fit-on at o k zs l m c r put known given good =
       let e = placing-done (longer (length s) (length t)) _ k (length o) at c fit-short fit-inside m r in
-      let d = dir-from-on s t at o (W.Done (at + k)) _ k _ _ _ x e refl refl refl refl l (at + k) zs refl put known given good in
+      let d = dir-from-on s t at o (Ok (at + k)) _ k _ _ _ x e refl refl refl refl l (at + k) zs refl put known given good in
       record { off = λ e. cc; on = λ n e. subst (λ z. WritesDiropargsFrom s t x at o (done z) (put_mid at (length o - at) o zs)) (cc e) d }

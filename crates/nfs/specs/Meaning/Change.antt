@@ -3,27 +3,16 @@
 -- Assumes nothing.
 use Rattle.std.specs.Prelude.{◌≡◌, refl, ℕ}
 use Rattle.std.proofs.Math.Option.{Option, none, some}
-use Rattle.xdr.specs.Meaning.Answer.{Answer, refused, took}
 use Rattle.xdr.specs.Meaning.Kind.{Codec}
 use Rattle.xdr.specs.Meaning.Items.{word, hyper}
 use Rattle.xdr.specs.Meaning.Cases.{Cases, maybe}
-use Rattle.xdr.specs.declared.refusal.Refusal.{Refusal}
-use Rattle.xdr.specs.declared.refusal.Refusal.TheVariants.{PastEnd}
-use Rattle.nfs.specs.declared.change.SetGid3Read.{SetGid3Read}
-use Rattle.nfs.specs.declared.change.SetMode3Read.{SetMode3Read}
-use Rattle.nfs.specs.declared.change.SetSize3Read.{SetSize3Read}
-use Rattle.nfs.specs.declared.change.SetUid3Read.{SetUid3Read}
 use Rattle.nfs.specs.declared.change.set_gid3.{set_gid3}
 use Rattle.nfs.specs.declared.change.set_mode3.{set_mode3}
 use Rattle.nfs.specs.declared.change.set_size3.{set_size3}
 use Rattle.nfs.specs.declared.change.set_uid3.{set_uid3}
-use Rattle.nfs.specs.declared.change.SetMode3Read.TheVariants as SetMode3
 use Rattle.nfs.specs.declared.change.set_mode3.TheVariants as setModeIs
-use Rattle.nfs.specs.declared.change.SetUid3Read.TheVariants as SetUid3
 use Rattle.nfs.specs.declared.change.set_uid3.TheVariants as setUidIs
-use Rattle.nfs.specs.declared.change.SetGid3Read.TheVariants as SetGid3
 use Rattle.nfs.specs.declared.change.set_gid3.TheVariants as setGidIs
-use Rattle.nfs.specs.declared.change.SetSize3Read.TheVariants as SetSize3
 use Rattle.nfs.specs.declared.change.set_size3.TheVariants as setSizeIs
 
 -- set_mode3
@@ -49,14 +38,6 @@ set_mode_cases = record { to = set_mode_to; from = set_mode_from; from_to = set_
 unfoldable pub set_mode : Codec set_mode3
 set_mode = maybe word set_mode_cases
 
-abbrev pub view_set_mode3 : SetMode3Read → Answer set_mode3
-view_set_mode3 (SetMode3.Refused r) = refused r
-view_set_mode3 (SetMode3.Took v n p) = took v n p
-
-abbrev pub lost_set_mode3 : SetMode3Read → Refusal
-lost_set_mode3 (SetMode3.Refused r) = r
-lost_set_mode3 (SetMode3.Took v n p) = PastEnd
-
 -- set_uid3
 abbrev pub set_uid_to : Option ℕ → set_uid3
 set_uid_to none = setUidIs.Void
@@ -79,14 +60,6 @@ set_uid_cases = record { to = set_uid_to; from = set_uid_from; from_to = set_uid
 
 unfoldable pub set_uid : Codec set_uid3
 set_uid = maybe word set_uid_cases
-
-abbrev pub view_set_uid3 : SetUid3Read → Answer set_uid3
-view_set_uid3 (SetUid3.Refused r) = refused r
-view_set_uid3 (SetUid3.Took v n p) = took v n p
-
-abbrev pub lost_set_uid3 : SetUid3Read → Refusal
-lost_set_uid3 (SetUid3.Refused r) = r
-lost_set_uid3 (SetUid3.Took v n p) = PastEnd
 
 -- set_gid3
 abbrev pub set_gid_to : Option ℕ → set_gid3
@@ -111,14 +84,6 @@ set_gid_cases = record { to = set_gid_to; from = set_gid_from; from_to = set_gid
 unfoldable pub set_gid : Codec set_gid3
 set_gid = maybe word set_gid_cases
 
-abbrev pub view_set_gid3 : SetGid3Read → Answer set_gid3
-view_set_gid3 (SetGid3.Refused r) = refused r
-view_set_gid3 (SetGid3.Took v n p) = took v n p
-
-abbrev pub lost_set_gid3 : SetGid3Read → Refusal
-lost_set_gid3 (SetGid3.Refused r) = r
-lost_set_gid3 (SetGid3.Took v n p) = PastEnd
-
 -- set_size3
 abbrev pub set_size_to : Option ℕ → set_size3
 set_size_to none = setSizeIs.Void
@@ -141,11 +106,3 @@ set_size_cases = record { to = set_size_to; from = set_size_from; from_to = set_
 
 unfoldable pub set_size : Codec set_size3
 set_size = maybe hyper set_size_cases
-
-abbrev pub view_set_size3 : SetSize3Read → Answer set_size3
-view_set_size3 (SetSize3.Refused r) = refused r
-view_set_size3 (SetSize3.Took v n p) = took v n p
-
-abbrev pub lost_set_size3 : SetSize3Read → Refusal
-lost_set_size3 (SetSize3.Refused r) = r
-lost_set_size3 (SetSize3.Took v n p) = PastEnd

@@ -3,28 +3,17 @@
 -- Assumes nothing.
 use Rattle.std.specs.Prelude.{refl, ◌≡◌, List, ℕ}
 use Rattle.std.proofs.Math.Option.{Option, none, some}
-use Rattle.xdr.specs.Meaning.Answer.{Answer, refused, took}
 use Rattle.xdr.specs.Meaning.Format.{Renaming, Format, named, ◌⨟◌, exactly}
 use Rattle.xdr.specs.Meaning.Formats.{bytes}
 use Rattle.xdr.specs.Meaning.Cases.{Cases, maybe_held}
 use Rattle.xdr.specs.declared.piece.Piece.{Piece}
-use Rattle.xdr.specs.declared.refusal.Refusal.{Refusal}
-use Rattle.xdr.specs.declared.refusal.Refusal.TheVariants.{PastEnd}
 use Rattle.nfs.specs.Meaning.Set.{sattr}
-use Rattle.nfs.specs.declared.dir.Diropargs3Read.{Diropargs3Read}
-use Rattle.nfs.specs.declared.dir.NfsFh3Read.{NfsFh3Read}
-use Rattle.nfs.specs.declared.dir.PostOpFh3Read.{PostOpFh3Read}
-use Rattle.nfs.specs.declared.dir.Symlinkdata3Read.{Symlinkdata3Read}
 use Rattle.nfs.specs.declared.dir.diropargs3.{diropargs3}
 use Rattle.nfs.specs.declared.dir.nfs_fh3.{nfs_fh3}
 use Rattle.nfs.specs.declared.dir.post_op_fh3.{post_op_fh3}
 use Rattle.nfs.specs.declared.dir.symlinkdata3.{symlinkdata3}
 use Rattle.nfs.specs.declared.set.sattr3.{sattr3}
-use Rattle.nfs.specs.declared.dir.NfsFh3Read.TheVariants as NfsFh3
-use Rattle.nfs.specs.declared.dir.PostOpFh3Read.TheVariants as PostOpFh3
 use Rattle.nfs.specs.declared.dir.post_op_fh3.TheVariants as postOpFhIs
-use Rattle.nfs.specs.declared.dir.Diropargs3Read.TheVariants as Diropargs3
-use Rattle.nfs.specs.declared.dir.Symlinkdata3Read.TheVariants as Symlinkdata3
 
 -- nfs_fh3
 pub record NfsFh : Type 0 where
@@ -44,14 +33,6 @@ nfs_fh_names =
 
 unfoldable pub nfs_fh : Format NfsFh nfs_fh3
 nfs_fh = named bytes nfs_fh_names
-
-abbrev pub view_nfs_fh3 : NfsFh3Read → Answer nfs_fh3
-view_nfs_fh3 (NfsFh3.Refused r) = refused r
-view_nfs_fh3 (NfsFh3.Took v n p) = took v n p
-
-abbrev pub lost_nfs_fh3 : NfsFh3Read → Refusal
-lost_nfs_fh3 (NfsFh3.Refused r) = r
-lost_nfs_fh3 (NfsFh3.Took v n p) = PastEnd
 
 -- post_op_fh3
 abbrev pub post_op_fh_to : Option nfs_fh3 → post_op_fh3
@@ -76,14 +57,6 @@ post_op_fh_cases = record { to = post_op_fh_to; from = post_op_fh_from; from_to 
 unfoldable pub post_op_fh : Format (Option NfsFh) post_op_fh3
 post_op_fh = maybe_held nfs_fh post_op_fh_cases
 
-abbrev pub view_post_op_fh3 : PostOpFh3Read → Answer post_op_fh3
-view_post_op_fh3 (PostOpFh3.Refused r) = refused r
-view_post_op_fh3 (PostOpFh3.Took v n p) = took v n p
-
-abbrev pub lost_post_op_fh3 : PostOpFh3Read → Refusal
-lost_post_op_fh3 (PostOpFh3.Refused r) = r
-lost_post_op_fh3 (PostOpFh3.Took v n p) = PastEnd
-
 -- diropargs3
 pub record Diropargs : Type 0 where
   pub dir : NfsFh
@@ -104,14 +77,6 @@ diropargs_names =
 unfoldable pub diropargs : Format Diropargs diropargs3
 diropargs = named (nfs_fh ⨟ bytes) diropargs_names
 
-abbrev pub view_diropargs3 : Diropargs3Read → Answer diropargs3
-view_diropargs3 (Diropargs3.Refused r) = refused r
-view_diropargs3 (Diropargs3.Took v n p) = took v n p
-
-abbrev pub lost_diropargs3 : Diropargs3Read → Refusal
-lost_diropargs3 (Diropargs3.Refused r) = r
-lost_diropargs3 (Diropargs3.Took v n p) = PastEnd
-
 -- symlinkdata3
 pub record Symlinkdata : Type 0 where
   pub symlink_attributes : sattr3
@@ -131,11 +96,3 @@ symlinkdata_names =
 
 unfoldable pub symlinkdata : Format Symlinkdata symlinkdata3
 symlinkdata = named (exactly sattr ⨟ bytes) symlinkdata_names
-
-abbrev pub view_symlinkdata3 : Symlinkdata3Read → Answer symlinkdata3
-view_symlinkdata3 (Symlinkdata3.Refused r) = refused r
-view_symlinkdata3 (Symlinkdata3.Took v n p) = took v n p
-
-abbrev pub lost_symlinkdata3 : Symlinkdata3Read → Refusal
-lost_symlinkdata3 (Symlinkdata3.Refused r) = r
-lost_symlinkdata3 (Symlinkdata3.Took v n p) = PastEnd

@@ -1,11 +1,10 @@
 -- What may be set (RFC 1813, section 2.6).
 -- Assumes nothing.
 use Rattle.std.specs.Prelude.{◌≡◌, refl, List, [], ◌∷◌, ℕ, zero, suc}
-use Rattle.std.proofs.Math.Option.{Option, none, some}
 use Rattle.xdr.specs.Meaning.Kind.{Codec}
 use Rattle.xdr.specs.Meaning.Combinators.{Seen, means, undeclared}
 use Rattle.xdr.specs.Meaning.Codecs.{void, ◌⨾◌, mapped}
-use Rattle.xdr.specs.Meaning.Items.{word, hyper, closed}
+use Rattle.xdr.specs.Meaning.Items.{word, closed}
 use Rattle.xdr.specs.Meaning.Combinators.{among}
 use Rattle.xdr.specs.Meaning.Format.{exactly, Branch, branch, Kept, Back, union}
 use Rattle.nfsattr.specs.Meaning.Attr.{nfstime}

@@ -1,166 +1,101 @@
 // What may be set.
 ghost use Rattle.std.specs.Prelude.{◌≡◌};
 ghost use Rattle.nfs.specs.Meaning.Set.{time_how, set-atime, set-mtime, sattr};
-ghost use Rattle.nfs.specs.Meaning.Views.{view_time_how, view_set_atime, view_set_mtime, view_sattr3};
+ghost use Rattle.xdr.specs.Meaning.Views.{view};
 
-use crate::answer::{Sattr3Read, SetAtimeRead, SetMtimeRead, TimeHowRead};
-use crate::change::{
-    SetGid3Read, SetMode3Read, SetSize3Read, SetUid3Read, set_gid3_at, set_mode3_at, set_size3_at,
-    set_uid3_at,
-};
-use crate::set::{_time_how, HowFound, sattr3, set_atime, set_mtime};
-use nfsattr::answer::Nfstime3Read;
+use crate::change::{set_gid3_at, set_mode3_at, set_size3_at, set_uid3_at};
+use crate::set::{_time_how, sattr3, set_atime, set_mtime};
 use nfsattr::inner::attr::nfstime3_at;
-use xdr::inner::{bool_at, u32_at, u64_at};
-use xdr::{BoolRead, Refusal, U32Read, U64Read};
+use xdr::inner::u32_at;
+use xdr::{Refusal, Took};
 
-pub fn time_how_at(src: &[u8], at: usize) -> TimeHowRead
-    ensures { view_time_how result ≡ time_how.kind.read src.now at }
+pub fn time_how_at(src: &[u8], at: usize) -> Result<Took<_time_how>, Refusal>
+    ensures { view result ≡ time_how.kind.read src.now at }
 {
-    let r1 = u32_at(src, at);
-    let U32Read::Took { value: v, next: n } = r1 else {
-        return TimeHowRead::Refused(r1.refusal());
+    let v = u32_at(src, at)?;
+    let Some(x) = _time_how::of(v.value) else {
+        return Err(Refusal::Undeclared(at));
     };
-    let f = _time_how::of(v);
-    let HowFound::Is(x) = f else {
-        return TimeHowRead::Refused(Refusal::Undeclared(at));
-    };
-    TimeHowRead::Took { value: x, next: n }
+    Ok(Took {
+        value: x,
+        next: v.next,
+        plain: true,
+    })
 }
 
-pub fn set_atime_at(src: &[u8], at: usize) -> SetAtimeRead
-    ensures { view_set_atime result ≡ set-atime.kind.read src.now at }
+pub fn set_atime_at(src: &[u8], at: usize) -> Result<Took<set_atime>, Refusal>
+    ensures { view result ≡ set-atime.kind.read src.now at }
 {
-    let r1 = u32_at(src, at);
-    let U32Read::Took {
-        value: tag,
-        next: n1,
-    } = r1
-    else {
-        return SetAtimeRead::Refused(r1.refusal());
-    };
-    match tag {
-        0 => SetAtimeRead::Took {
+    let tag = u32_at(src, at)?;
+    match tag.value {
+        0 => Ok(Took {
             value: set_atime::DONT_CHANGE,
-            next: n1,
-        },
-        1 => SetAtimeRead::Took {
+            next: tag.next,
+            plain: true,
+        }),
+        1 => Ok(Took {
             value: set_atime::SET_TO_SERVER_TIME,
-            next: n1,
-        },
+            next: tag.next,
+            plain: true,
+        }),
         2 => {
-            let r2 = nfstime3_at(src, n1);
-            let Nfstime3Read::Took { value: t, next: n2 } = r2 else {
-                return SetAtimeRead::Refused(r2.refusal());
-            };
-            SetAtimeRead::Took {
-                value: set_atime::SET_TO_CLIENT_TIME(t),
-                next: n2,
-            }
+            let t = nfstime3_at(src, tag.next)?;
+            Ok(Took {
+                value: set_atime::SET_TO_CLIENT_TIME(t.value),
+                next: t.next,
+                plain: t.plain,
+            })
         }
-        _ => SetAtimeRead::Refused(Refusal::Undeclared(at)),
+        _ => Err(Refusal::Undeclared(at)),
     }
 }
 
-pub fn set_mtime_at(src: &[u8], at: usize) -> SetMtimeRead
-    ensures { view_set_mtime result ≡ set-mtime.kind.read src.now at }
+pub fn set_mtime_at(src: &[u8], at: usize) -> Result<Took<set_mtime>, Refusal>
+    ensures { view result ≡ set-mtime.kind.read src.now at }
 {
-    let r1 = u32_at(src, at);
-    let U32Read::Took {
-        value: tag,
-        next: n1,
-    } = r1
-    else {
-        return SetMtimeRead::Refused(r1.refusal());
-    };
-    match tag {
-        0 => SetMtimeRead::Took {
+    let tag = u32_at(src, at)?;
+    match tag.value {
+        0 => Ok(Took {
             value: set_mtime::DONT_CHANGE,
-            next: n1,
-        },
-        1 => SetMtimeRead::Took {
+            next: tag.next,
+            plain: true,
+        }),
+        1 => Ok(Took {
             value: set_mtime::SET_TO_SERVER_TIME,
-            next: n1,
-        },
+            next: tag.next,
+            plain: true,
+        }),
         2 => {
-            let r2 = nfstime3_at(src, n1);
-            let Nfstime3Read::Took { value: t, next: n2 } = r2 else {
-                return SetMtimeRead::Refused(r2.refusal());
-            };
-            SetMtimeRead::Took {
-                value: set_mtime::SET_TO_CLIENT_TIME(t),
-                next: n2,
-            }
+            let t = nfstime3_at(src, tag.next)?;
+            Ok(Took {
+                value: set_mtime::SET_TO_CLIENT_TIME(t.value),
+                next: t.next,
+                plain: t.plain,
+            })
         }
-        _ => SetMtimeRead::Refused(Refusal::Undeclared(at)),
+        _ => Err(Refusal::Undeclared(at)),
     }
 }
 
-pub fn sattr3_at(src: &[u8], at: usize) -> Sattr3Read
-    ensures { view_sattr3 result ≡ sattr.kind.read src.now at }
+pub fn sattr3_at(src: &[u8], at: usize) -> Result<Took<sattr3>, Refusal>
+    ensures { view result ≡ sattr.kind.read src.now at }
 {
-    let r1 = set_mode3_at(src, at);
-    let SetMode3Read::Took {
-        value: mode,
-        next: n1,
-        plain: p1,
-    } = r1
-    else {
-        return Sattr3Read::Refused(r1.refusal());
-    };
-    let r2 = set_uid3_at(src, n1);
-    let SetUid3Read::Took {
-        value: uid,
-        next: n2,
-        plain: p2,
-    } = r2
-    else {
-        return Sattr3Read::Refused(r2.refusal());
-    };
-    let r3 = set_gid3_at(src, n2);
-    let SetGid3Read::Took {
-        value: gid,
-        next: n3,
-        plain: p3,
-    } = r3
-    else {
-        return Sattr3Read::Refused(r3.refusal());
-    };
-    let r4 = set_size3_at(src, n3);
-    let SetSize3Read::Took {
-        value: size,
-        next: n4,
-        plain: p4,
-    } = r4
-    else {
-        return Sattr3Read::Refused(r4.refusal());
-    };
-    let r5 = set_atime_at(src, n4);
-    let SetAtimeRead::Took {
-        value: atime,
-        next: n5,
-    } = r5
-    else {
-        return Sattr3Read::Refused(r5.refusal());
-    };
-    let r6 = set_mtime_at(src, n5);
-    let SetMtimeRead::Took {
-        value: mtime,
-        next: n6,
-    } = r6
-    else {
-        return Sattr3Read::Refused(r6.refusal());
-    };
-    Sattr3Read::Took {
+    let mode = set_mode3_at(src, at)?;
+    let uid = set_uid3_at(src, mode.next)?;
+    let gid = set_gid3_at(src, uid.next)?;
+    let size = set_size3_at(src, gid.next)?;
+    let atime = set_atime_at(src, size.next)?;
+    let mtime = set_mtime_at(src, atime.next)?;
+    Ok(Took {
         value: sattr3 {
-            mode,
-            uid,
-            gid,
-            size,
-            atime,
-            mtime,
+            mode: mode.value,
+            uid: uid.value,
+            gid: gid.value,
+            size: size.value,
+            atime: atime.value,
+            mtime: mtime.value,
         },
-        next: n6,
-        plain: p1 & (p2 & (p3 & p4)),
-    }
+        next: mtime.next,
+        plain: mode.plain & uid.plain & gid.plain & size.plain & atime.plain & mtime.plain,
+    })
 }

@@ -1,7 +1,7 @@
 -- The groups of fields by which the code reads and writes `fattr3` and `fsinfo3`, and that reading in groups and pairs is reading the fields
 -- one by one. Nobody has to believe these definitions: they are private to the code.
 -- Assumes nothing.
-use Rattle.std.specs.Prelude.{◌≡◌, refl, Bool, true, List, [], ℕ}
+use Rattle.std.specs.Prelude.{◌≡◌, refl, Bool, List, [], ℕ}
 use Rattle.std.proofs.Common.{sym, ap, ◌∙◌}
 use Rattle.xdr.specs.Meaning.Answer.{Answer, took, refused}
 use Rattle.xdr.specs.Meaning.Kind.{Codec}
@@ -11,28 +11,16 @@ use Rattle.xdr.specs.Meaning.Items.{word, hyper, word_pair, hyper_pair}
 use Rattle.xdr.specs.Meaning.Format.{exactly}
 use Rattle.xdr.specs.Laws.Plans.{Prog, follow, run, Plan, ◌next◌}
 use Rattle.xdr.specs.Laws.Records.{one}
-use Rattle.xdr.specs.declared.refusal.Refusal.{Refusal}
-use Rattle.xdr.specs.declared.refusal.Refusal.TheVariants.{PastEnd}
 use Rattle.nfsattr.specs.Meaning.Attr.{ftype, specdata, nfstime, post-op-attr}
 use Rattle.nfsattr.specs.declared.attr.ftype3.{ftype3}
 use Rattle.nfsattr.specs.declared.attr.specdata3.{specdata3}
 use Rattle.nfsattr.specs.declared.attr.nfstime3.{nfstime3}
 use Rattle.nfsattr.specs.declared.attr.post_op_attr.{post_op_attr}
 use Rattle.nfsattr.specs.declared.inner.attr.Ids.{Ids}
-use Rattle.nfsattr.specs.declared.inner.attr.IdsRead.{IdsRead}
-use Rattle.nfsattr.specs.declared.inner.attr.IdsRead.TheVariants as Ids·
 use Rattle.nfsattr.specs.declared.inner.attr.Sizes.{Sizes}
-use Rattle.nfsattr.specs.declared.inner.attr.SizesRead.{SizesRead}
-use Rattle.nfsattr.specs.declared.inner.attr.SizesRead.TheVariants as Sizes·
 use Rattle.nfsattr.specs.declared.inner.attr.Times.{Times}
-use Rattle.nfsattr.specs.declared.inner.attr.TimesRead.{TimesRead}
-use Rattle.nfsattr.specs.declared.inner.attr.TimesRead.TheVariants as Times·
 use Rattle.nfsattr.specs.declared.inner.attr.Transfer.{Transfer}
-use Rattle.nfsattr.specs.declared.inner.attr.TransferRead.{TransferRead}
-use Rattle.nfsattr.specs.declared.inner.attr.TransferRead.TheVariants as Transfer·
 use Rattle.nfsattr.specs.declared.inner.attr.Limits.{Limits}
-use Rattle.nfsattr.specs.declared.inner.attr.LimitsRead.{LimitsRead}
-use Rattle.nfsattr.specs.declared.inner.attr.LimitsRead.TheVariants as Limits·
 
 -- of fattr3
 unfoldable pub ids : Codec Ids
@@ -60,47 +48,6 @@ unfoldable pub limits : Codec Limits
 limits =
     mapped (word ⨾ hyper ⨾ nfstime ⨾ word) (λ x. record { dtpref = x.0; maxfilesize = x.1.0; time_delta = x.1.1.0; properties = x.1.1.1 }) (λ m. (m.dtpref, (m.maxfilesize, (m.time_delta, m.properties))))
     (λ x. refl) (λ m. refl)
-
--- their answers
-abbrev pub view_ids : IdsRead → Answer Ids
-view_ids (Ids·.Refused r) = refused r
-view_ids (Ids·.Took v n) = took v n true
-
-abbrev pub lost_ids : IdsRead → Refusal
-lost_ids (Ids·.Refused r) = r
-lost_ids (Ids·.Took v n) = PastEnd
-
-abbrev pub view_sizes : SizesRead → Answer Sizes
-view_sizes (Sizes·.Refused r) = refused r
-view_sizes (Sizes·.Took v n) = took v n true
-
-abbrev pub lost_sizes : SizesRead → Refusal
-lost_sizes (Sizes·.Refused r) = r
-lost_sizes (Sizes·.Took v n) = PastEnd
-
-abbrev pub view_times : TimesRead → Answer Times
-view_times (Times·.Refused r) = refused r
-view_times (Times·.Took v n) = took v n true
-
-abbrev pub lost_times : TimesRead → Refusal
-lost_times (Times·.Refused r) = r
-lost_times (Times·.Took v n) = PastEnd
-
-abbrev pub view_transfer : TransferRead → Answer Transfer
-view_transfer (Transfer·.Refused r) = refused r
-view_transfer (Transfer·.Took v n) = took v n true
-
-abbrev pub lost_transfer : TransferRead → Refusal
-lost_transfer (Transfer·.Refused r) = r
-lost_transfer (Transfer·.Took v n) = PastEnd
-
-abbrev pub view_limits : LimitsRead → Answer Limits
-view_limits (Limits·.Refused r) = refused r
-view_limits (Limits·.Took v n) = took v n true
-
-abbrev pub lost_limits : LimitsRead → Refusal
-lost_limits (Limits·.Refused r) = r
-lost_limits (Limits·.Took v n) = PastEnd
 
 -- a group, field by field
 module _ {M N : Type 0} {C : Codec M} (P : Plan (exactly C)) (f : M → N) (g : N → M) (gf : (x : M) → g (f x) ≡ x) (fg : (y : N) → f (g y) ≡ y) where

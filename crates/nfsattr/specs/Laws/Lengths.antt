@@ -1,6 +1,5 @@
 -- How many bytes the kinds take, and that no rewriting is longer than the bytes read.
 -- Assumes nothing.
-use Rattle.std.specs.Prelude.{ℕ}
 use Rattle.xdr.specs.Meaning.Codecs.{◌⨾◌}
 use Rattle.xdr.specs.Meaning.Items.{word, hyper, option}
 use Rattle.xdr.specs.Laws.Lengths.{Lengths, Within, pair-within, pair-lengths, view-within, view-lengths, no_default, word-lengths, word-within, hyper-lengths, hyper-within, closed-lengths, closed-within, option-lengths, option-within}

@@ -1,14 +1,13 @@
 -- A status, by its number.
 -- Assumes nothing.
-use Rattle.std.specs.Prelude.{◌≡◌, refl, Bool, true, false, cond, ◌&&◌, ◌||◌, List, [], ◌∷◌, map, ℕ, zero, suc, ◌+◌, ◌≤◌, ◌<◌, T, eqb, leb}
+use Rattle.std.specs.Prelude.{◌≡◌, refl, Bool, true, false, cond, ◌&&◌, ◌||◌, List, [], ◌∷◌, map, ℕ, zero, suc, ◌+◌, ◌≤◌, ◌<◌, T, eqb, leb, Some, None}
+use Rattle.std.specs.Prelude as std
 use Rattle.std.proofs.Common.{sym, ap, subst, ◌∙◌, arith, ne_eqb, leb-true, eqb-true}
 use Rattle.xdr.specs.Meaning.Combinators.{Seen, means, undeclared, among}
 use Rattle.xdr.specs.Meaning.Held.{map_seen}
 use Rattle.xdr.specs.Laws.Numbers.{Others, found_none}
 use Rattle.nfsattr.specs.Meaning.Stat.{fail_number, failures, stat_number, statuses, each_stat}
-use Rattle.nfsattr.specs.Meaning.Views.{found_stat}
-use Rattle.nfsattr.specs.declared.stat.StatFound.{StatFound}
-use Rattle.nfsattr.specs.declared.stat.StatFound.TheVariants.{None, Is}
+use Rattle.xdr.specs.Meaning.Views.{view_found}
 use Rattle.nfsattr.specs.declared.stat.nfsfail3.{nfsfail3}
 use Rattle.nfsattr.specs.declared.stat.nfsstat3.{nfsstat3}
 use Rattle.nfsattr.specs.declared.stat.nfsstat3.TheVariants.{NFS3_OK, Failed}
@@ -107,9 +106,9 @@ among-failed v = by (eqb v 0) refl
     by true e = rw (eqb-true v 0 e) refl
     by false e = ap failed (among-map Failed stat_number failures v) ∙ failed-map (among fail_number failures v)
 
-module _ (v : ℕ) (s : StatFound) (e : found_stat s ≡ among stat_number statuses v) where
+module _ (v : ℕ) (s : std.Option nfsstat3) (e : view_found s ≡ among stat_number statuses v) where
   pub fail-none : s ≡ None → undeclared ≡ among fail_number failures v
-  fail-none f = ap failed (ap found_stat (sym f) ∙ e) ∙ among-failed v
+  fail-none f = ap failed (ap view_found (sym f) ∙ e) ∙ among-failed v
 
-  pub fail-is : (x t : nfsstat3) (y : Seen nfsfail3) → s ≡ Is x → x ≡ t → y ≡ failed (means t []) → y ≡ among fail_number failures v
-  fail-is x t y f g h = h ∙ ap failed (ap found_stat (sym (f ∙ ap Is g)) ∙ e) ∙ among-failed v
+  pub fail-is : (x t : nfsstat3) (y : Seen nfsfail3) → s ≡ Some x → x ≡ t → y ≡ failed (means t []) → y ≡ among fail_number failures v
+  fail-is x t y f g h = h ∙ ap failed (ap view_found (sym (f ∙ ap Some g)) ∙ e) ∙ among-failed v

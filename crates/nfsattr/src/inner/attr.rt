@@ -2,20 +2,14 @@
 ghost use Rattle.std.specs.Prelude.{◌≡◌};
 ghost use Rattle.nfsattr.specs.Meaning.Attr.{ftype, specdata, nfstime, fattr, wcc-attr, pre-op-attr, post-op-attr, wcc-data, fsinfo};
 ghost use Rattle.nfsattr.specs.Laws.Groups.{ids, sizes, times, transfer, limits};
-ghost use Rattle.nfsattr.specs.Meaning.Views.{view_ftype3, view_specdata3, view_nfstime3, view_fattr3, view_wcc_attr, view_pre_op_attr, view_post_op_attr, view_wcc_data, view_fsinfo3};
-ghost use Rattle.nfsattr.specs.Laws.Groups.{view_ids, view_sizes, view_times, view_transfer, view_limits};
-ghost use Rattle.nfsattr.specs.Laws.Groups.{lost_ids, lost_sizes, lost_times, lost_transfer, lost_limits};
+ghost use Rattle.xdr.specs.Meaning.Views.{view};
 
-use crate::answer::{
-    Fattr3Read, Fsinfo3Read, Ftype3Read, Nfstime3Read, PostOpAttrRead, PreOpAttrRead,
-    Specdata3Read, WccAttrRead, WccDataRead,
-};
 use crate::attr::{
-    FtypeFound, fattr3, fileid3, fsinfo3, ftype3, gid3, mode3, nfstime3, post_op_attr, pre_op_attr,
-    size3, specdata3, uid3, wcc_attr, wcc_data,
+    fattr3, fileid3, fsinfo3, ftype3, gid3, mode3, nfstime3, post_op_attr, pre_op_attr, size3,
+    specdata3, uid3, wcc_attr, wcc_data,
 };
 use xdr::inner::{bool_at, u32_at, u32_pair_at, u64_at, u64_pair_at};
-use xdr::{BoolRead, Refusal, U32PairRead, U32Read, U64PairRead, U64Read};
+use xdr::{Refusal, Took};
 
 // Fields that stand together in `fattr3`: its readers and writers go by these.
 #[derive(Clone, Copy)]
@@ -79,371 +73,171 @@ impl Limits {
     pub const SIZE: usize = 24;
 }
 
-#[derive(Clone, Copy)]
-pub enum IdsRead {
-    Refused(Refusal),
-    Took { value: Ids, next: usize },
-}
-
-impl IdsRead {
-    pub fn refusal(self) -> Refusal
-        ensures { result ≡ lost_ids self }
-    {
-        match self {
-            IdsRead::Refused(r) => r,
-            IdsRead::Took { value: _, next: _ } => Refusal::PastEnd,
-        }
-    }
-}
-
-#[derive(Clone, Copy)]
-pub enum SizesRead {
-    Refused(Refusal),
-    Took { value: Sizes, next: usize },
-}
-
-impl SizesRead {
-    pub fn refusal(self) -> Refusal
-        ensures { result ≡ lost_sizes self }
-    {
-        match self {
-            SizesRead::Refused(r) => r,
-            SizesRead::Took { value: _, next: _ } => Refusal::PastEnd,
-        }
-    }
-}
-
-#[derive(Clone, Copy)]
-pub enum TimesRead {
-    Refused(Refusal),
-    Took { value: Times, next: usize },
-}
-
-impl TimesRead {
-    pub fn refusal(self) -> Refusal
-        ensures { result ≡ lost_times self }
-    {
-        match self {
-            TimesRead::Refused(r) => r,
-            TimesRead::Took { value: _, next: _ } => Refusal::PastEnd,
-        }
-    }
-}
-
-#[derive(Clone, Copy)]
-pub enum TransferRead {
-    Refused(Refusal),
-    Took { value: Transfer, next: usize },
-}
-
-impl TransferRead {
-    pub fn refusal(self) -> Refusal
-        ensures { result ≡ lost_transfer self }
-    {
-        match self {
-            TransferRead::Refused(r) => r,
-            TransferRead::Took { value: _, next: _ } => Refusal::PastEnd,
-        }
-    }
-}
-
-#[derive(Clone, Copy)]
-pub enum LimitsRead {
-    Refused(Refusal),
-    Took { value: Limits, next: usize },
-}
-
-impl LimitsRead {
-    pub fn refusal(self) -> Refusal
-        ensures { result ≡ lost_limits self }
-    {
-        match self {
-            LimitsRead::Refused(r) => r,
-            LimitsRead::Took { value: _, next: _ } => Refusal::PastEnd,
-        }
-    }
-}
-
-pub fn ftype3_at(src: &[u8], at: usize) -> Ftype3Read
-    ensures { view_ftype3 result ≡ ftype.kind.read src.now at }
+pub fn ftype3_at(src: &[u8], at: usize) -> Result<Took<ftype3>, Refusal>
+    ensures { view result ≡ ftype.kind.read src.now at }
 {
-    let r1 = u32_at(src, at);
-    let U32Read::Took { value: v, next: n } = r1 else {
-        return Ftype3Read::Refused(r1.refusal());
+    let v = u32_at(src, at)?;
+    let Some(x) = ftype3::of(v.value) else {
+        return Err(Refusal::Undeclared(at));
     };
-    let f = ftype3::of(v);
-    let FtypeFound::Is(x) = f else {
-        return Ftype3Read::Refused(Refusal::Undeclared(at));
-    };
-    Ftype3Read::Took { value: x, next: n }
+    Ok(Took {
+        value: x,
+        next: v.next,
+        plain: true,
+    })
 }
 
-pub fn specdata3_at(src: &[u8], at: usize) -> Specdata3Read
-    ensures { view_specdata3 result ≡ specdata.kind.read src.now at }
+pub fn specdata3_at(src: &[u8], at: usize) -> Result<Took<specdata3>, Refusal>
+    ensures { view result ≡ specdata.kind.read src.now at }
 {
-    let r1 = u32_pair_at(src, at);
-    let U32PairRead::Took {
-        first: specdata1,
-        second: specdata2,
-        next: n1,
-    } = r1
-    else {
-        return Specdata3Read::Refused(r1.refusal());
-    };
-    Specdata3Read::Took {
+    let specdata1_and_specdata2 = u32_pair_at(src, at)?;
+    Ok(Took {
         value: specdata3 {
-            specdata1,
-            specdata2,
+            specdata1: specdata1_and_specdata2.value.0,
+            specdata2: specdata1_and_specdata2.value.1,
         },
-        next: n1,
-    }
+        next: specdata1_and_specdata2.next,
+        plain: specdata1_and_specdata2.plain,
+    })
 }
 
-pub fn nfstime3_at(src: &[u8], at: usize) -> Nfstime3Read
-    ensures { view_nfstime3 result ≡ nfstime.kind.read src.now at }
+pub fn nfstime3_at(src: &[u8], at: usize) -> Result<Took<nfstime3>, Refusal>
+    ensures { view result ≡ nfstime.kind.read src.now at }
 {
-    let r1 = u32_pair_at(src, at);
-    let U32PairRead::Took {
-        first: seconds,
-        second: nseconds,
-        next: n1,
-    } = r1
-    else {
-        return Nfstime3Read::Refused(r1.refusal());
-    };
-    Nfstime3Read::Took {
-        value: nfstime3 { seconds, nseconds },
-        next: n1,
-    }
+    let seconds_and_nseconds = u32_pair_at(src, at)?;
+    Ok(Took {
+        value: nfstime3 {
+            seconds: seconds_and_nseconds.value.0,
+            nseconds: seconds_and_nseconds.value.1,
+        },
+        next: seconds_and_nseconds.next,
+        plain: seconds_and_nseconds.plain,
+    })
 }
 
-pub fn ids_at(src: &[u8], at: usize) -> IdsRead
-    ensures { view_ids result ≡ ids.kind.read src.now at }
+pub fn ids_at(src: &[u8], at: usize) -> Result<Took<Ids>, Refusal>
+    ensures { view result ≡ ids.kind.read src.now at }
 {
-    let r1 = ftype3_at(src, at);
-    let Ftype3Read::Took {
-        value: ftype,
-        next: n1,
-    } = r1
-    else {
-        return IdsRead::Refused(r1.refusal());
-    };
-    let r2 = u32_pair_at(src, n1);
-    let U32PairRead::Took {
-        first: mode,
-        second: nlink,
-        next: n2,
-    } = r2
-    else {
-        return IdsRead::Refused(r2.refusal());
-    };
-    let r3 = u32_pair_at(src, n2);
-    let U32PairRead::Took {
-        first: uid,
-        second: gid,
-        next: n3,
-    } = r3
-    else {
-        return IdsRead::Refused(r3.refusal());
-    };
-    IdsRead::Took {
+    let ftype = ftype3_at(src, at)?;
+    let mode_and_nlink = u32_pair_at(src, ftype.next)?;
+    let uid_and_gid = u32_pair_at(src, mode_and_nlink.next)?;
+    Ok(Took {
         value: Ids {
-            ftype,
-            mode,
-            nlink,
-            uid,
-            gid,
+            ftype: ftype.value,
+            mode: mode_and_nlink.value.0,
+            nlink: mode_and_nlink.value.1,
+            uid: uid_and_gid.value.0,
+            gid: uid_and_gid.value.1,
         },
-        next: n3,
-    }
+        next: uid_and_gid.next,
+        plain: ftype.plain & mode_and_nlink.plain & uid_and_gid.plain,
+    })
 }
 
-pub fn sizes_at(src: &[u8], at: usize) -> SizesRead
-    ensures { view_sizes result ≡ sizes.kind.read src.now at }
+pub fn sizes_at(src: &[u8], at: usize) -> Result<Took<Sizes>, Refusal>
+    ensures { view result ≡ sizes.kind.read src.now at }
 {
-    let r1 = u64_pair_at(src, at);
-    let U64PairRead::Took {
-        first: size,
-        second: used,
-        next: n1,
-    } = r1
-    else {
-        return SizesRead::Refused(r1.refusal());
-    };
-    let r2 = specdata3_at(src, n1);
-    let Specdata3Read::Took {
-        value: rdev,
-        next: n2,
-    } = r2
-    else {
-        return SizesRead::Refused(r2.refusal());
-    };
-    let r3 = u64_pair_at(src, n2);
-    let U64PairRead::Took {
-        first: fsid,
-        second: fileid,
-        next: n3,
-    } = r3
-    else {
-        return SizesRead::Refused(r3.refusal());
-    };
-    SizesRead::Took {
+    let size_and_used = u64_pair_at(src, at)?;
+    let rdev = specdata3_at(src, size_and_used.next)?;
+    let fsid_and_fileid = u64_pair_at(src, rdev.next)?;
+    Ok(Took {
         value: Sizes {
-            size,
-            used,
-            rdev,
-            fsid,
-            fileid,
+            size: size_and_used.value.0,
+            used: size_and_used.value.1,
+            rdev: rdev.value,
+            fsid: fsid_and_fileid.value.0,
+            fileid: fsid_and_fileid.value.1,
         },
-        next: n3,
-    }
+        next: fsid_and_fileid.next,
+        plain: size_and_used.plain & rdev.plain & fsid_and_fileid.plain,
+    })
 }
 
-pub fn times_at(src: &[u8], at: usize) -> TimesRead
-    ensures { view_times result ≡ times.kind.read src.now at }
+pub fn times_at(src: &[u8], at: usize) -> Result<Took<Times>, Refusal>
+    ensures { view result ≡ times.kind.read src.now at }
 {
-    let r1 = nfstime3_at(src, at);
-    let Nfstime3Read::Took {
-        value: atime,
-        next: n1,
-    } = r1
-    else {
-        return TimesRead::Refused(r1.refusal());
-    };
-    let r2 = nfstime3_at(src, n1);
-    let Nfstime3Read::Took {
-        value: mtime,
-        next: n2,
-    } = r2
-    else {
-        return TimesRead::Refused(r2.refusal());
-    };
-    let r3 = nfstime3_at(src, n2);
-    let Nfstime3Read::Took {
-        value: ctime,
-        next: n3,
-    } = r3
-    else {
-        return TimesRead::Refused(r3.refusal());
-    };
-    TimesRead::Took {
+    let atime = nfstime3_at(src, at)?;
+    let mtime = nfstime3_at(src, atime.next)?;
+    let ctime = nfstime3_at(src, mtime.next)?;
+    Ok(Took {
         value: Times {
-            atime,
-            mtime,
-            ctime,
+            atime: atime.value,
+            mtime: mtime.value,
+            ctime: ctime.value,
         },
-        next: n3,
-    }
+        next: ctime.next,
+        plain: atime.plain & mtime.plain & ctime.plain,
+    })
 }
 
-fn fattr3_short(src: &[u8], at: usize) -> Fattr3Read
-    ensures { view_fattr3 result ≡ fattr.kind.read src.now at }
+fn fattr3_short(src: &[u8], at: usize) -> Result<Took<fattr3>, Refusal>
+    ensures { view result ≡ fattr.kind.read src.now at }
 {
-    let r1 = ids_at(src, at);
-    let IdsRead::Took {
-        value: ids,
-        next: n1,
-    } = r1
-    else {
-        return Fattr3Read::Refused(r1.refusal());
-    };
-    let r2 = sizes_at(src, n1);
-    let SizesRead::Took {
-        value: sizes,
-        next: n2,
-    } = r2
-    else {
-        return Fattr3Read::Refused(r2.refusal());
-    };
-    let r3 = times_at(src, n2);
-    let TimesRead::Took {
-        value: times,
-        next: n3,
-    } = r3
-    else {
-        return Fattr3Read::Refused(r3.refusal());
-    };
-    let ftype = ids.ftype;
-    let rdev = sizes.rdev;
-    let atime = times.atime;
-    let mtime = times.mtime;
-    let ctime = times.ctime;
-    Fattr3Read::Took {
+    let ids = ids_at(src, at)?;
+    let sizes = sizes_at(src, ids.next)?;
+    let times = times_at(src, sizes.next)?;
+    let ftype = ids.value.ftype;
+    let rdev = sizes.value.rdev;
+    let atime = times.value.atime;
+    let mtime = times.value.mtime;
+    let ctime = times.value.ctime;
+    Ok(Took {
         value: fattr3 {
             ftype,
-            mode: ids.mode,
-            nlink: ids.nlink,
-            uid: ids.uid,
-            gid: ids.gid,
-            size: sizes.size,
-            used: sizes.used,
+            mode: ids.value.mode,
+            nlink: ids.value.nlink,
+            uid: ids.value.uid,
+            gid: ids.value.gid,
+            size: sizes.value.size,
+            used: sizes.value.used,
             rdev,
-            fsid: sizes.fsid,
-            fileid: sizes.fileid,
+            fsid: sizes.value.fsid,
+            fileid: sizes.value.fileid,
             atime,
             mtime,
             ctime,
         },
-        next: n3,
-    }
+        next: times.next,
+        plain: ids.plain & sizes.plain & times.plain,
+    })
 }
 
-fn fattr3_whole(src: &[u8], at: usize) -> Fattr3Read
-    ensures { view_fattr3 result ≡ fattr.kind.read src.now at }
+fn fattr3_whole(src: &[u8], at: usize) -> Result<Took<fattr3>, Refusal>
+    ensures { view result ≡ fattr.kind.read src.now at }
 {
-    let r1 = ids_at(src, at);
-    let IdsRead::Took {
-        value: ids,
-        next: n1,
-    } = r1
-    else {
-        return Fattr3Read::Refused(r1.refusal());
-    };
-    let r2 = sizes_at(src, n1);
-    let SizesRead::Took {
-        value: sizes,
-        next: n2,
-    } = r2
-    else {
-        return Fattr3Read::Refused(r2.refusal());
-    };
-    let r3 = times_at(src, n2);
-    let TimesRead::Took {
-        value: times,
-        next: n3,
-    } = r3
-    else {
-        return Fattr3Read::Refused(r3.refusal());
-    };
-    let ftype = ids.ftype;
-    let rdev = sizes.rdev;
-    let atime = times.atime;
-    let mtime = times.mtime;
-    let ctime = times.ctime;
-    Fattr3Read::Took {
+    let ids = ids_at(src, at)?;
+    let sizes = sizes_at(src, ids.next)?;
+    let times = times_at(src, sizes.next)?;
+    let ftype = ids.value.ftype;
+    let rdev = sizes.value.rdev;
+    let atime = times.value.atime;
+    let mtime = times.value.mtime;
+    let ctime = times.value.ctime;
+    Ok(Took {
         value: fattr3 {
             ftype,
-            mode: ids.mode,
-            nlink: ids.nlink,
-            uid: ids.uid,
-            gid: ids.gid,
-            size: sizes.size,
-            used: sizes.used,
+            mode: ids.value.mode,
+            nlink: ids.value.nlink,
+            uid: ids.value.uid,
+            gid: ids.value.gid,
+            size: sizes.value.size,
+            used: sizes.value.used,
             rdev,
-            fsid: sizes.fsid,
-            fileid: sizes.fileid,
+            fsid: sizes.value.fsid,
+            fileid: sizes.value.fileid,
             atime,
             mtime,
             ctime,
         },
-        next: n3,
-    }
+        next: times.next,
+        plain: ids.plain & sizes.plain & times.plain,
+    })
 }
 
 // Where all of it is there, one test of room will do: the compiler then drops those of the fields. It would make one call of two calls of
 // one function, so the same body stands under two names.
-pub fn fattr3_at(src: &[u8], at: usize) -> Fattr3Read
-    ensures { view_fattr3 result ≡ fattr.kind.read src.now at }
+pub fn fattr3_at(src: &[u8], at: usize) -> Result<Took<fattr3>, Refusal>
+    ensures { view result ≡ fattr.kind.read src.now at }
 {
     if src.len() < fattr3::SIZE {
         return fattr3_short(src, at);
@@ -454,251 +248,134 @@ pub fn fattr3_at(src: &[u8], at: usize) -> Fattr3Read
     fattr3_whole(src, at)
 }
 
-pub fn wcc_attr_at(src: &[u8], at: usize) -> WccAttrRead
-    ensures { view_wcc_attr result ≡ wcc-attr.kind.read src.now at }
+pub fn wcc_attr_at(src: &[u8], at: usize) -> Result<Took<wcc_attr>, Refusal>
+    ensures { view result ≡ wcc-attr.kind.read src.now at }
 {
-    let r1 = u64_at(src, at);
-    let U64Read::Took {
-        value: size,
-        next: n1,
-    } = r1
-    else {
-        return WccAttrRead::Refused(r1.refusal());
-    };
-    let r2 = nfstime3_at(src, n1);
-    let Nfstime3Read::Took {
-        value: mtime,
-        next: n2,
-    } = r2
-    else {
-        return WccAttrRead::Refused(r2.refusal());
-    };
-    let r3 = nfstime3_at(src, n2);
-    let Nfstime3Read::Took {
-        value: ctime,
-        next: n3,
-    } = r3
-    else {
-        return WccAttrRead::Refused(r3.refusal());
-    };
-    WccAttrRead::Took {
-        value: wcc_attr { size, mtime, ctime },
-        next: n3,
-    }
+    let size = u64_at(src, at)?;
+    let mtime = nfstime3_at(src, size.next)?;
+    let ctime = nfstime3_at(src, mtime.next)?;
+    Ok(Took {
+        value: wcc_attr {
+            size: size.value,
+            mtime: mtime.value,
+            ctime: ctime.value,
+        },
+        next: ctime.next,
+        plain: size.plain & mtime.plain & ctime.plain,
+    })
 }
 
-pub fn pre_op_attr_at(src: &[u8], at: usize) -> PreOpAttrRead
-    ensures { view_pre_op_attr result ≡ pre-op-attr.kind.read src.now at }
+pub fn pre_op_attr_at(src: &[u8], at: usize) -> Result<Took<pre_op_attr>, Refusal>
+    ensures { view result ≡ pre-op-attr.kind.read src.now at }
 {
-    let r1 = bool_at(src, at);
-    let BoolRead::Took {
-        value: follows,
-        next: n1,
-        plain: p1,
-    } = r1
-    else {
-        return PreOpAttrRead::Refused(r1.refusal());
-    };
-    if !follows {
-        return PreOpAttrRead::Took {
+    let follows = bool_at(src, at)?;
+    if !follows.value {
+        return Ok(Took {
             value: pre_op_attr::Void,
-            next: n1,
-            plain: p1,
-        };
+            next: follows.next,
+            plain: follows.plain,
+        });
     }
-    let r2 = wcc_attr_at(src, n1);
-    let WccAttrRead::Took { value: v, next: n2 } = r2 else {
-        return PreOpAttrRead::Refused(r2.refusal());
-    };
-    PreOpAttrRead::Took {
-        value: pre_op_attr::attributes(v),
-        next: n2,
-        plain: p1,
-    }
+    let v = wcc_attr_at(src, follows.next)?;
+    Ok(Took {
+        value: pre_op_attr::attributes(v.value),
+        next: v.next,
+        plain: follows.plain & v.plain,
+    })
 }
 
-pub fn post_op_attr_at(src: &[u8], at: usize) -> PostOpAttrRead
-    ensures { view_post_op_attr result ≡ post-op-attr.kind.read src.now at }
+pub fn post_op_attr_at(src: &[u8], at: usize) -> Result<Took<post_op_attr>, Refusal>
+    ensures { view result ≡ post-op-attr.kind.read src.now at }
 {
-    let r1 = bool_at(src, at);
-    let BoolRead::Took {
-        value: follows,
-        next: n1,
-        plain: p1,
-    } = r1
-    else {
-        return PostOpAttrRead::Refused(r1.refusal());
-    };
-    if !follows {
-        return PostOpAttrRead::Took {
+    let follows = bool_at(src, at)?;
+    if !follows.value {
+        return Ok(Took {
             value: post_op_attr::Void,
-            next: n1,
-            plain: p1,
-        };
+            next: follows.next,
+            plain: follows.plain,
+        });
     }
-    let r2 = fattr3_at(src, n1);
-    let Fattr3Read::Took { value: v, next: n2 } = r2 else {
-        return PostOpAttrRead::Refused(r2.refusal());
-    };
-    PostOpAttrRead::Took {
-        value: post_op_attr::attributes(v),
-        next: n2,
-        plain: p1,
-    }
+    let v = fattr3_at(src, follows.next)?;
+    Ok(Took {
+        value: post_op_attr::attributes(v.value),
+        next: v.next,
+        plain: follows.plain & v.plain,
+    })
 }
 
-pub fn wcc_data_at(src: &[u8], at: usize) -> WccDataRead
-    ensures { view_wcc_data result ≡ wcc-data.kind.read src.now at }
+pub fn wcc_data_at(src: &[u8], at: usize) -> Result<Took<wcc_data>, Refusal>
+    ensures { view result ≡ wcc-data.kind.read src.now at }
 {
-    let r1 = pre_op_attr_at(src, at);
-    let PreOpAttrRead::Took {
-        value: before,
-        next: n1,
-        plain: p1,
-    } = r1
-    else {
-        return WccDataRead::Refused(r1.refusal());
-    };
-    let r2 = post_op_attr_at(src, n1);
-    let PostOpAttrRead::Took {
-        value: after,
-        next: n2,
-        plain: p2,
-    } = r2
-    else {
-        return WccDataRead::Refused(r2.refusal());
-    };
-    WccDataRead::Took {
-        value: wcc_data { before, after },
-        next: n2,
-        plain: p1 & p2,
-    }
+    let before = pre_op_attr_at(src, at)?;
+    let after = post_op_attr_at(src, before.next)?;
+    Ok(Took {
+        value: wcc_data {
+            before: before.value,
+            after: after.value,
+        },
+        next: after.next,
+        plain: before.plain & after.plain,
+    })
 }
 
-pub fn transfer_at(src: &[u8], at: usize) -> TransferRead
-    ensures { view_transfer result ≡ transfer.kind.read src.now at }
+pub fn transfer_at(src: &[u8], at: usize) -> Result<Took<Transfer>, Refusal>
+    ensures { view result ≡ transfer.kind.read src.now at }
 {
-    let r1 = u32_at(src, at);
-    let U32Read::Took {
-        value: max,
-        next: n1,
-    } = r1
-    else {
-        return TransferRead::Refused(r1.refusal());
-    };
-    let r2 = u32_pair_at(src, n1);
-    let U32PairRead::Took {
-        first: pref,
-        second: mult,
-        next: n2,
-    } = r2
-    else {
-        return TransferRead::Refused(r2.refusal());
-    };
-    TransferRead::Took {
-        value: Transfer { max, pref, mult },
-        next: n2,
-    }
+    let max = u32_at(src, at)?;
+    let pref_and_mult = u32_pair_at(src, max.next)?;
+    Ok(Took {
+        value: Transfer {
+            max: max.value,
+            pref: pref_and_mult.value.0,
+            mult: pref_and_mult.value.1,
+        },
+        next: pref_and_mult.next,
+        plain: max.plain & pref_and_mult.plain,
+    })
 }
 
-pub fn limits_at(src: &[u8], at: usize) -> LimitsRead
-    ensures { view_limits result ≡ limits.kind.read src.now at }
+pub fn limits_at(src: &[u8], at: usize) -> Result<Took<Limits>, Refusal>
+    ensures { view result ≡ limits.kind.read src.now at }
 {
-    let r1 = u32_at(src, at);
-    let U32Read::Took {
-        value: dtpref,
-        next: n1,
-    } = r1
-    else {
-        return LimitsRead::Refused(r1.refusal());
-    };
-    let r2 = u64_at(src, n1);
-    let U64Read::Took {
-        value: maxfilesize,
-        next: n2,
-    } = r2
-    else {
-        return LimitsRead::Refused(r2.refusal());
-    };
-    let r3 = nfstime3_at(src, n2);
-    let Nfstime3Read::Took {
-        value: time_delta,
-        next: n3,
-    } = r3
-    else {
-        return LimitsRead::Refused(r3.refusal());
-    };
-    let r4 = u32_at(src, n3);
-    let U32Read::Took {
-        value: properties,
-        next: n4,
-    } = r4
-    else {
-        return LimitsRead::Refused(r4.refusal());
-    };
-    LimitsRead::Took {
+    let dtpref = u32_at(src, at)?;
+    let maxfilesize = u64_at(src, dtpref.next)?;
+    let time_delta = nfstime3_at(src, maxfilesize.next)?;
+    let properties = u32_at(src, time_delta.next)?;
+    Ok(Took {
         value: Limits {
-            dtpref,
-            maxfilesize,
-            time_delta,
-            properties,
+            dtpref: dtpref.value,
+            maxfilesize: maxfilesize.value,
+            time_delta: time_delta.value,
+            properties: properties.value,
         },
-        next: n4,
-    }
+        next: properties.next,
+        plain: dtpref.plain & maxfilesize.plain & time_delta.plain & properties.plain,
+    })
 }
 
-pub fn fsinfo3_at(src: &[u8], at: usize) -> Fsinfo3Read
-    ensures { view_fsinfo3 result ≡ fsinfo.kind.read src.now at }
+pub fn fsinfo3_at(src: &[u8], at: usize) -> Result<Took<fsinfo3>, Refusal>
+    ensures { view result ≡ fsinfo.kind.read src.now at }
 {
-    let r1 = post_op_attr_at(src, at);
-    let PostOpAttrRead::Took {
-        value: obj_attributes,
-        next: n1,
-        plain: p1,
-    } = r1
-    else {
-        return Fsinfo3Read::Refused(r1.refusal());
-    };
-    let r2 = transfer_at(src, n1);
-    let TransferRead::Took {
-        value: rt,
-        next: n2,
-    } = r2
-    else {
-        return Fsinfo3Read::Refused(r2.refusal());
-    };
-    let r3 = transfer_at(src, n2);
-    let TransferRead::Took {
-        value: wt,
-        next: n3,
-    } = r3
-    else {
-        return Fsinfo3Read::Refused(r3.refusal());
-    };
-    let r4 = limits_at(src, n3);
-    let LimitsRead::Took {
-        value: rest,
-        next: n4,
-    } = r4
-    else {
-        return Fsinfo3Read::Refused(r4.refusal());
-    };
-    let time_delta = rest.time_delta;
-    Fsinfo3Read::Took {
+    let obj_attributes = post_op_attr_at(src, at)?;
+    let rt = transfer_at(src, obj_attributes.next)?;
+    let wt = transfer_at(src, rt.next)?;
+    let rest = limits_at(src, wt.next)?;
+    let time_delta = rest.value.time_delta;
+    Ok(Took {
         value: fsinfo3 {
-            obj_attributes,
-            rtmax: rt.max,
-            rtpref: rt.pref,
-            rtmult: rt.mult,
-            wtmax: wt.max,
-            wtpref: wt.pref,
-            wtmult: wt.mult,
-            dtpref: rest.dtpref,
-            maxfilesize: rest.maxfilesize,
+            obj_attributes: obj_attributes.value,
+            rtmax: rt.value.max,
+            rtpref: rt.value.pref,
+            rtmult: rt.value.mult,
+            wtmax: wt.value.max,
+            wtpref: wt.value.pref,
+            wtmult: wt.value.mult,
+            dtpref: rest.value.dtpref,
+            maxfilesize: rest.value.maxfilesize,
             time_delta,
-            properties: rest.properties,
+            properties: rest.value.properties,
         },
-        next: n4,
-        plain: p1,
-    }
+        next: rest.next,
+        plain: obj_attributes.plain & rt.plain & wt.plain & rest.plain,
+    })
 }

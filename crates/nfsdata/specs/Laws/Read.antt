@@ -13,8 +13,7 @@ use Rattle.xdr.specs.Meaning.Public.{output, laid}
 use Rattle.xdr.specs.Meaning.Marks.{Marked, MarksAre}
 use Rattle.xdr.specs.Laws.Padding.{size_small}
 use Rattle.xdr.specs.Laws.Fixed.{hyper-fixed, word-fixed, flag-fixed}
-use Rattle.xdr.specs.Laws.One.{Told}
-use Rattle.xdr.specs.Laws.Plans.{Planned, plan, at, ◌then◌, Step, step, Loses, lost-at}
+use Rattle.xdr.specs.Laws.Plans.{Planned, plan, at, ◌then◌}
 use Rattle.xdr.specs.Laws.Records.{ByPlan, fields, one}
 use Rattle.xdr.specs.Laws.Lengths.{Within, view-within, pair-within, hyper-within, word-within, no_default, flag-within, opaque-within, mapped-within}
 use Rattle.xdr.specs.Laws.Write.{Ready}
@@ -32,33 +31,17 @@ use Rattle.nfsattr.specs.Laws.Sizes.{nfsstat-fixed}
 use Rattle.nfsattr.specs.Laws.Unpadded.{post-op-attr-unpadded, nfsstat-unpadded}
 use Rattle.nfsattr.specs.Meaning.Attr.{post-op-attr}
 use Rattle.nfsattr.specs.Meaning.Stat.{nfsstat, success_or}
-use Rattle.nfsdata.specs.Meaning.Read.{read_args, view_read3args, lost_read3args, read_args_names, read_resok, view_read3resok, lost_read3resok, read_resok_names, read_resfail, view_read3resfail, lost_read3resfail, read_res_arms, read_res, view_read3res, lost_read3res, read_res_from}
+use Rattle.nfsdata.specs.Meaning.Read.{read_args, read_args_names, read_resok, read_resok_names, read_resfail, read_res_arms, read_res, read_res_from}
 use Rattle.nfsdata.specs.declared.read.READ3args.{READ3args}
 use Rattle.nfsdata.specs.declared.read.READ3res.{READ3res}
 use Rattle.nfsdata.specs.declared.read.READ3resfail.{READ3resfail}
 use Rattle.nfsdata.specs.declared.read.READ3resok.{READ3resok}
-use Rattle.nfsdata.specs.declared.read.Read3argsRead.TheVariants as Read3args
-use Rattle.nfsdata.specs.declared.read.Read3resokRead.TheVariants as Read3resok
-use Rattle.nfsdata.specs.declared.read.Read3resfailRead.TheVariants as Read3resfail
-use Rattle.nfsdata.specs.declared.read.Read3resRead.TheVariants as Read3res
 use Rattle.nfsdata.specs.declared.read.READ3res.TheVariants as readResIs
 
 -- READ3args
 abbrev pub read-args-plan : Planned read_args.held.read
 unfolding read_args
 read-args-plan = plan (at nfs_fh then at (exactly hyper) then at (exactly word)) _
-
-pub step-read-args : Step view_read3args
-step-read-args U = step view_read3args
-
-pub lost-read-args : Loses lost_read3args
-lost-read-args A = lost-at lost_read3args
-
-pub read3args-told : Told view_read3args
-read3args-told (Read3args.Took v n p) (Read3args.Took v' n' p') e = cc
-read3args-told (Read3args.Took v n p) (Read3args.Refused r) e = cc
-read3args-told (Read3args.Refused r) (Read3args.Took v n p) e = cc
-read3args-told (Read3args.Refused r) (Read3args.Refused r') e = cc
 
 pub read-args-within : Within 0 read_args.codec.kind
 unfolding read_args
@@ -106,18 +89,6 @@ read-args-lays s x o z a = lays-named _ read_args_names s x o z a
 abbrev pub read-resok-plan : Planned read_resok.held.read
 unfolding read_resok
 read-resok-plan = plan (at (exactly post-op-attr) then at (exactly word) then at (exactly flag) then at bytes) _
-
-pub step-read-resok : Step view_read3resok
-step-read-resok U = step view_read3resok
-
-pub lost-read-resok : Loses lost_read3resok
-lost-read-resok A = lost-at lost_read3resok
-
-pub read3resok-told : Told view_read3resok
-read3resok-told (Read3resok.Took v n p) (Read3resok.Took v' n' p') e = cc
-read3resok-told (Read3resok.Took v n p) (Read3resok.Refused r) e = cc
-read3resok-told (Read3resok.Refused r) (Read3resok.Took v n p) e = cc
-read3resok-told (Read3resok.Refused r) (Read3resok.Refused r') e = cc
 
 pub read-resok-within : Within 0 read_resok.codec.kind
 unfolding read_resok
@@ -169,18 +140,6 @@ abbrev pub read-resfail-plan : ByPlan read_resfail
 unfolding read_resfail
 read-resfail-plan = fields (one post-op-attr) _ _ _ _
 
-pub step-read-resfail : Step view_read3resfail
-step-read-resfail U = step view_read3resfail
-
-pub lost-read-resfail : Loses lost_read3resfail
-lost-read-resfail A = lost-at lost_read3resfail
-
-pub read3resfail-told : Told view_read3resfail
-read3resfail-told (Read3resfail.Took v n p) (Read3resfail.Took v' n' p') e = cc
-read3resfail-told (Read3resfail.Took v n p) (Read3resfail.Refused r) e = cc
-read3resfail-told (Read3resfail.Refused r) (Read3resfail.Took v n p) e = cc
-read3resfail-told (Read3resfail.Refused r) (Read3resfail.Refused r') e = cc
-
 pub read-resfail-within : Within 0 read_resfail.kind
 unfolding read_resfail
 read-resfail-within = mapped-within (post-op-attr) _ _ _ _ post-op-attr-within
@@ -210,18 +169,6 @@ read-resfail-laid v o z e = e
 pub read-res-status : OnStatus nfsstat success_or read_resok (exactly read_resfail) read_res_arms read_res
 unfolding read_res
 read-res-status = record { is = refl }
-
-pub step-read-res : Step view_read3res
-step-read-res U = step view_read3res
-
-pub lost-read-res : Loses lost_read3res
-lost-read-res A = lost-at lost_read3res
-
-pub read3res-told : Told view_read3res
-read3res-told (Read3res.Took v n p) (Read3res.Took v' n' p') e = cc
-read3res-told (Read3res.Took v n p) (Read3res.Refused r) e = cc
-read3res-told (Read3res.Refused r) (Read3res.Took v n p) e = cc
-read3res-told (Read3res.Refused r) (Read3res.Refused r') e = cc
 
 pub read-res-marked : Marked read_res.held
 unfolding read_res

@@ -14,8 +14,7 @@ use Rattle.xdr.specs.Meaning.Marks.{Marked, MarksAre}
 use Rattle.xdr.specs.Laws.Padding.{size_small}
 use Rattle.xdr.specs.Laws.Closed.{by_number}
 use Rattle.xdr.specs.Laws.Fixed.{Fixed, seen-fixed, word-fixed, hyper-fixed}
-use Rattle.xdr.specs.Laws.One.{Told}
-use Rattle.xdr.specs.Laws.Plans.{Step, step, Loses, lost-at, at, Planned, plan, ◌then◌, ◌next◌}
+use Rattle.xdr.specs.Laws.Plans.{at, Planned, plan, ◌then◌, ◌next◌}
 use Rattle.xdr.specs.Laws.Records.{ByPlan, fields, one}
 use Rattle.xdr.specs.Laws.Lengths.{Within, closed-within, view-within, pair-within, hyper-within, word-within, opaque-within, no_default, mapped-within}
 use Rattle.xdr.specs.Laws.Write.{Ready}
@@ -33,32 +32,15 @@ use Rattle.nfsattr.specs.Laws.Sizes.{nfsstat-fixed}
 use Rattle.nfsattr.specs.Laws.Unpadded.{wcc-data-unpadded, nfsstat-unpadded}
 use Rattle.nfsattr.specs.Meaning.Attr.{wcc-data}
 use Rattle.nfsattr.specs.Meaning.Stat.{nfsstat, success_or}
-use Rattle.nfsdata.specs.Meaning.Write.{view_stable_how, lost_stable_how, stable-how, stable_how_number, stable_how_all, each_stable_how, write_args, view_write3args, lost_write3args, write_args_names, write_resok, view_write3resok, lost_write3resok, write_resfail, view_write3resfail, lost_write3resfail, write_res_arms, write_res, view_write3res, lost_write3res, write_res_from}
+use Rattle.nfsdata.specs.Meaning.Write.{stable-how, stable_how_number, stable_how_all, each_stable_how, write_args, write_args_names, write_resok, write_resfail, write_res_arms, write_res, write_res_from}
 use Rattle.nfsdata.specs.declared.write.WRITE3args.{WRITE3args}
 use Rattle.nfsdata.specs.declared.write.WRITE3res.{WRITE3res}
 use Rattle.nfsdata.specs.declared.write.WRITE3resfail.{WRITE3resfail}
 use Rattle.nfsdata.specs.declared.write.WRITE3resok.{WRITE3resok}
 use Rattle.nfsdata.specs.declared.write.stable_how.{stable_how}
-use Rattle.nfsdata.specs.declared.write.StableHowRead.TheVariants as StableHow
-use Rattle.nfsdata.specs.declared.write.Write3argsRead.TheVariants as Write3args
-use Rattle.nfsdata.specs.declared.write.Write3resokRead.TheVariants as Write3resok
-use Rattle.nfsdata.specs.declared.write.Write3resfailRead.TheVariants as Write3resfail
-use Rattle.nfsdata.specs.declared.write.Write3resRead.TheVariants as Write3res
 use Rattle.nfsdata.specs.declared.write.WRITE3res.TheVariants as writeResIs
 
 -- stable_how
-pub step-stable-how : Step view_stable_how
-step-stable-how U = step view_stable_how
-
-pub lost-stable-how : Loses lost_stable_how
-lost-stable-how A = lost-at lost_stable_how
-
-pub stable-how-told : Told view_stable_how
-stable-how-told (StableHow.Took v n) (StableHow.Took v' n') e = cc
-stable-how-told (StableHow.Took v n) (StableHow.Refused r) e = cc
-stable-how-told (StableHow.Refused r) (StableHow.Took v n) e = cc
-stable-how-told (StableHow.Refused r) (StableHow.Refused r') e = cc
-
 pub stable-how-within : Within 0 stable-how.kind
 unfolding stable-how
 stable-how-within = closed-within stable_how_number stable_how_all each_stable_how
@@ -84,18 +66,6 @@ stable-how-bytes n a e = ap word.kind.write e
 abbrev pub write-args-plan : Planned write_args.held.read
 unfolding write_args
 write-args-plan = plan (at nfs_fh then at (exactly hyper) then at (exactly word) then at (exactly stable-how) then at bytes) _
-
-pub step-write-args : Step view_write3args
-step-write-args U = step view_write3args
-
-pub lost-write-args : Loses lost_write3args
-lost-write-args A = lost-at lost_write3args
-
-pub write3args-told : Told view_write3args
-write3args-told (Write3args.Took v n p) (Write3args.Took v' n' p') e = cc
-write3args-told (Write3args.Took v n p) (Write3args.Refused r) e = cc
-write3args-told (Write3args.Refused r) (Write3args.Took v n p) e = cc
-write3args-told (Write3args.Refused r) (Write3args.Refused r') e = cc
 
 pub write-args-within : Within 0 write_args.codec.kind
 unfolding write_args
@@ -150,18 +120,6 @@ abbrev pub write-resok-plan : ByPlan write_resok
 unfolding write_resok
 write-resok-plan = fields (one wcc-data next one word next one stable-how next one hyper) _ _ _ _
 
-pub step-write-resok : Step view_write3resok
-step-write-resok U = step view_write3resok
-
-pub lost-write-resok : Loses lost_write3resok
-lost-write-resok A = lost-at lost_write3resok
-
-pub write3resok-told : Told view_write3resok
-write3resok-told (Write3resok.Took v n p) (Write3resok.Took v' n' p') e = cc
-write3resok-told (Write3resok.Took v n p) (Write3resok.Refused r) e = cc
-write3resok-told (Write3resok.Refused r) (Write3resok.Took v n p) e = cc
-write3resok-told (Write3resok.Refused r) (Write3resok.Refused r') e = cc
-
 pub write-resok-within : Within 0 write_resok.kind
 unfolding write_resok
 write-resok-within = mapped-within (wcc-data ⨾ word ⨾ stable-how ⨾ hyper) _ _ _ _ (pair-within wcc-data-within (pair-within word-within (pair-within stable-how-within hyper-within)))
@@ -201,18 +159,6 @@ abbrev pub write-resfail-plan : ByPlan write_resfail
 unfolding write_resfail
 write-resfail-plan = fields (one wcc-data) _ _ _ _
 
-pub step-write-resfail : Step view_write3resfail
-step-write-resfail U = step view_write3resfail
-
-pub lost-write-resfail : Loses lost_write3resfail
-lost-write-resfail A = lost-at lost_write3resfail
-
-pub write3resfail-told : Told view_write3resfail
-write3resfail-told (Write3resfail.Took v n p) (Write3resfail.Took v' n' p') e = cc
-write3resfail-told (Write3resfail.Took v n p) (Write3resfail.Refused r) e = cc
-write3resfail-told (Write3resfail.Refused r) (Write3resfail.Took v n p) e = cc
-write3resfail-told (Write3resfail.Refused r) (Write3resfail.Refused r') e = cc
-
 pub write-resfail-within : Within 0 write_resfail.kind
 unfolding write_resfail
 write-resfail-within = mapped-within (wcc-data) _ _ _ _ wcc-data-within
@@ -242,18 +188,6 @@ write-resfail-laid v o z e = e
 pub write-res-status : OnStatus nfsstat success_or (exactly write_resok) (exactly write_resfail) write_res_arms write_res
 unfolding write_res
 write-res-status = record { is = refl }
-
-pub step-write-res : Step view_write3res
-step-write-res U = step view_write3res
-
-pub lost-write-res : Loses lost_write3res
-lost-write-res A = lost-at lost_write3res
-
-pub write3res-told : Told view_write3res
-write3res-told (Write3res.Took v n p) (Write3res.Took v' n' p') e = cc
-write3res-told (Write3res.Took v n p) (Write3res.Refused r) e = cc
-write3res-told (Write3res.Refused r) (Write3res.Took v n p) e = cc
-write3res-told (Write3res.Refused r) (Write3res.Refused r') e = cc
 
 pub write-res-marked : Marked write_res.held
 unfolding write_res

@@ -2,7 +2,6 @@
 -- READ: bytes of a file (RFC 1813, section 3.3.6). They stay in the message, as a piece.
 -- Assumes nothing.
 use Rattle.std.specs.Prelude.{refl, ◌≡◌, Bool, List, ℕ}
-use Rattle.xdr.specs.Meaning.Answer.{Answer, refused, took}
 use Rattle.xdr.specs.Meaning.Kind.{Codec}
 use Rattle.xdr.specs.Meaning.Codecs.{mapped}
 use Rattle.xdr.specs.Meaning.Items.{hyper, word, flag}
@@ -10,8 +9,6 @@ use Rattle.xdr.specs.Meaning.Format.{Renaming, Format, named, ◌⨟◌, exactly
 use Rattle.xdr.specs.Meaning.Formats.{bytes}
 use Rattle.xdr.specs.Meaning.Status.{Result, ok, failed, Arms, on_status}
 use Rattle.xdr.specs.declared.piece.Piece.{Piece}
-use Rattle.xdr.specs.declared.refusal.Refusal.{Refusal}
-use Rattle.xdr.specs.declared.refusal.Refusal.TheVariants.{PastEnd}
 use Rattle.nfs.specs.Meaning.Dir.{NfsFh, nfs_fh}
 use Rattle.nfs.specs.declared.dir.nfs_fh3.{nfs_fh3}
 use Rattle.nfsattr.specs.Meaning.Attr.{post-op-attr}
@@ -22,14 +19,6 @@ use Rattle.nfsdata.specs.declared.read.READ3args.{READ3args}
 use Rattle.nfsdata.specs.declared.read.READ3res.{READ3res}
 use Rattle.nfsdata.specs.declared.read.READ3resfail.{READ3resfail}
 use Rattle.nfsdata.specs.declared.read.READ3resok.{READ3resok}
-use Rattle.nfsdata.specs.declared.read.Read3argsRead.{Read3argsRead}
-use Rattle.nfsdata.specs.declared.read.Read3resRead.{Read3resRead}
-use Rattle.nfsdata.specs.declared.read.Read3resfailRead.{Read3resfailRead}
-use Rattle.nfsdata.specs.declared.read.Read3resokRead.{Read3resokRead}
-use Rattle.nfsdata.specs.declared.read.Read3argsRead.TheVariants as Read3args
-use Rattle.nfsdata.specs.declared.read.Read3resokRead.TheVariants as Read3resok
-use Rattle.nfsdata.specs.declared.read.Read3resfailRead.TheVariants as Read3resfail
-use Rattle.nfsdata.specs.declared.read.Read3resRead.TheVariants as Read3res
 use Rattle.nfsdata.specs.declared.read.READ3res.TheVariants as readResIs
 
 -- READ3args
@@ -53,14 +42,6 @@ read_args_names =
 unfoldable pub read_args : Format ReadArgs READ3args
 read_args = named (nfs_fh ⨟ exactly hyper ⨟ exactly word) read_args_names
 
-abbrev pub view_read3args : Read3argsRead → Answer READ3args
-view_read3args (Read3args.Refused r) = refused r
-view_read3args (Read3args.Took v n p) = took v n p
-
-abbrev pub lost_read3args : Read3argsRead → Refusal
-lost_read3args (Read3args.Refused r) = r
-lost_read3args (Read3args.Took v n p) = PastEnd
-
 -- READ3resok
 pub record ReadResok : Type 0 where
   pub file_attributes : post_op_attr
@@ -83,25 +64,9 @@ read_resok_names =
 unfoldable pub read_resok : Format ReadResok READ3resok
 read_resok = named (exactly post-op-attr ⨟ exactly word ⨟ exactly flag ⨟ bytes) read_resok_names
 
-abbrev pub view_read3resok : Read3resokRead → Answer READ3resok
-view_read3resok (Read3resok.Refused r) = refused r
-view_read3resok (Read3resok.Took v n p) = took v n p
-
-abbrev pub lost_read3resok : Read3resokRead → Refusal
-lost_read3resok (Read3resok.Refused r) = r
-lost_read3resok (Read3resok.Took v n p) = PastEnd
-
 -- READ3resfail
 unfoldable pub read_resfail : Codec READ3resfail
 read_resfail = mapped (post-op-attr) (λ x. record { file_attributes = x }) (λ m. m.file_attributes) (λ x. refl) (λ m. refl)
-
-abbrev pub view_read3resfail : Read3resfailRead → Answer READ3resfail
-view_read3resfail (Read3resfail.Refused r) = refused r
-view_read3resfail (Read3resfail.Took v n p) = took v n p
-
-abbrev pub lost_read3resfail : Read3resfailRead → Refusal
-lost_read3resfail (Read3resfail.Refused r) = r
-lost_read3resfail (Read3resfail.Took v n p) = PastEnd
 
 -- READ3res
 abbrev pub read_res_to : Result nfsfail3 READ3resok READ3resfail → READ3res
@@ -125,11 +90,3 @@ read_res_arms = record { to = read_res_to; from = read_res_from; from_to = read_
 
 unfoldable pub read_res : Format (Result nfsfail3 ReadResok READ3resfail) READ3res
 read_res = on_status nfsstat success_or read_resok (exactly read_resfail) read_res_arms
-
-abbrev pub view_read3res : Read3resRead → Answer READ3res
-view_read3res (Read3res.Refused r) = refused r
-view_read3res (Read3res.Took v n p) = took v n p
-
-abbrev pub lost_read3res : Read3resRead → Refusal
-lost_read3res (Read3res.Refused r) = r
-lost_read3res (Read3res.Took v n p) = PastEnd

@@ -1,41 +1,26 @@
 -- made by tools/generate from crates/nfsdata/rfc/write.x
 -- WRITE: bytes for a file (RFC 1813, section 3.3.7). They stay in the message, as a piece.
 -- Assumes nothing.
-use Rattle.std.specs.Prelude.{◌≡◌, refl, true, List, ◌∷◌, [], ℕ}
-use Rattle.xdr.specs.Meaning.Answer.{Answer, refused, took}
+use Rattle.std.specs.Prelude.{◌≡◌, refl, List, ◌∷◌, [], ℕ}
 use Rattle.xdr.specs.Meaning.Kind.{Codec}
-use Rattle.xdr.specs.Meaning.Combinators.{among, means, Seen, undeclared}
+use Rattle.xdr.specs.Meaning.Combinators.{among, means}
 use Rattle.xdr.specs.Meaning.Codecs.{mapped, ◌⨾◌}
 use Rattle.xdr.specs.Meaning.Items.{closed, hyper, word, verifier}
 use Rattle.xdr.specs.Meaning.Format.{Renaming, Format, named, ◌⨟◌, exactly}
 use Rattle.xdr.specs.Meaning.Formats.{bytes}
 use Rattle.xdr.specs.Meaning.Status.{Result, ok, failed, Arms, on_status}
 use Rattle.xdr.specs.declared.piece.Piece.{Piece}
-use Rattle.xdr.specs.declared.refusal.Refusal.{Refusal}
-use Rattle.xdr.specs.declared.refusal.Refusal.TheVariants.{PastEnd}
 use Rattle.nfs.specs.Meaning.Dir.{NfsFh, nfs_fh}
 use Rattle.nfs.specs.declared.dir.nfs_fh3.{nfs_fh3}
 use Rattle.nfsattr.specs.Meaning.Attr.{wcc-data}
 use Rattle.nfsattr.specs.Meaning.Stat.{nfsstat, success_or}
 use Rattle.nfsattr.specs.declared.stat.nfsfail3.{nfsfail3}
-use Rattle.nfsdata.specs.declared.write.StableHowFound.{StableHowFound}
-use Rattle.nfsdata.specs.declared.write.StableHowRead.{StableHowRead}
 use Rattle.nfsdata.specs.declared.write.WRITE3args.{WRITE3args}
 use Rattle.nfsdata.specs.declared.write.WRITE3res.{WRITE3res}
 use Rattle.nfsdata.specs.declared.write.WRITE3resfail.{WRITE3resfail}
 use Rattle.nfsdata.specs.declared.write.WRITE3resok.{WRITE3resok}
-use Rattle.nfsdata.specs.declared.write.Write3argsRead.{Write3argsRead}
-use Rattle.nfsdata.specs.declared.write.Write3resRead.{Write3resRead}
-use Rattle.nfsdata.specs.declared.write.Write3resfailRead.{Write3resfailRead}
-use Rattle.nfsdata.specs.declared.write.Write3resokRead.{Write3resokRead}
 use Rattle.nfsdata.specs.declared.write.stable_how.{stable_how}
-use Rattle.nfsdata.specs.declared.write.StableHowRead.TheVariants as StableHow
 use Rattle.nfsdata.specs.declared.write.stable_how.TheVariants as stableHowIs
-use Rattle.nfsdata.specs.declared.write.StableHowFound.TheVariants as stableHowFound
-use Rattle.nfsdata.specs.declared.write.Write3argsRead.TheVariants as Write3args
-use Rattle.nfsdata.specs.declared.write.Write3resokRead.TheVariants as Write3resok
-use Rattle.nfsdata.specs.declared.write.Write3resfailRead.TheVariants as Write3resfail
-use Rattle.nfsdata.specs.declared.write.Write3resRead.TheVariants as Write3res
 use Rattle.nfsdata.specs.declared.write.WRITE3res.TheVariants as writeResIs
 
 -- stable_how
@@ -54,18 +39,6 @@ each_stable_how stableHowIs.FILE_SYNC = refl
 
 unfoldable pub stable-how : Codec stable_how
 stable-how = closed stable_how_number stable_how_all each_stable_how
-
-abbrev pub found_stable_how : StableHowFound → Seen stable_how
-found_stable_how stableHowFound.None = undeclared
-found_stable_how (stableHowFound.Is a) = means a []
-
-abbrev pub view_stable_how : StableHowRead → Answer stable_how
-view_stable_how (StableHow.Refused r) = refused r
-view_stable_how (StableHow.Took v n) = took v n true
-
-abbrev pub lost_stable_how : StableHowRead → Refusal
-lost_stable_how (StableHow.Refused r) = r
-lost_stable_how (StableHow.Took v n) = PastEnd
 
 -- WRITE3args
 pub record WriteArgs : Type 0 where
@@ -90,37 +63,13 @@ write_args_names =
 unfoldable pub write_args : Format WriteArgs WRITE3args
 write_args = named (nfs_fh ⨟ exactly hyper ⨟ exactly word ⨟ exactly stable-how ⨟ bytes) write_args_names
 
-abbrev pub view_write3args : Write3argsRead → Answer WRITE3args
-view_write3args (Write3args.Refused r) = refused r
-view_write3args (Write3args.Took v n p) = took v n p
-
-abbrev pub lost_write3args : Write3argsRead → Refusal
-lost_write3args (Write3args.Refused r) = r
-lost_write3args (Write3args.Took v n p) = PastEnd
-
 -- WRITE3resok
 unfoldable pub write_resok : Codec WRITE3resok
 write_resok = mapped (wcc-data ⨾ word ⨾ stable-how ⨾ verifier) (λ x. record { file_wcc = x.0; count = x.1.0; committed = x.1.1.0; verf = x.1.1.1 }) (λ m. (m.file_wcc, (m.count, (m.committed, m.verf)))) (λ x. refl) (λ m. refl)
 
-abbrev pub view_write3resok : Write3resokRead → Answer WRITE3resok
-view_write3resok (Write3resok.Refused r) = refused r
-view_write3resok (Write3resok.Took v n p) = took v n p
-
-abbrev pub lost_write3resok : Write3resokRead → Refusal
-lost_write3resok (Write3resok.Refused r) = r
-lost_write3resok (Write3resok.Took v n p) = PastEnd
-
 -- WRITE3resfail
 unfoldable pub write_resfail : Codec WRITE3resfail
 write_resfail = mapped (wcc-data) (λ x. record { file_wcc = x }) (λ m. m.file_wcc) (λ x. refl) (λ m. refl)
-
-abbrev pub view_write3resfail : Write3resfailRead → Answer WRITE3resfail
-view_write3resfail (Write3resfail.Refused r) = refused r
-view_write3resfail (Write3resfail.Took v n p) = took v n p
-
-abbrev pub lost_write3resfail : Write3resfailRead → Refusal
-lost_write3resfail (Write3resfail.Refused r) = r
-lost_write3resfail (Write3resfail.Took v n p) = PastEnd
 
 -- WRITE3res
 abbrev pub write_res_to : Result nfsfail3 WRITE3resok WRITE3resfail → WRITE3res
@@ -144,11 +93,3 @@ write_res_arms = record { to = write_res_to; from = write_res_from; from_to = wr
 
 unfoldable pub write_res : Format (Result nfsfail3 WRITE3resok WRITE3resfail) WRITE3res
 write_res = on_status nfsstat success_or (exactly write_resok) (exactly write_resfail) write_res_arms
-
-abbrev pub view_write3res : Write3resRead → Answer WRITE3res
-view_write3res (Write3res.Refused r) = refused r
-view_write3res (Write3res.Took v n p) = took v n p
-
-abbrev pub lost_write3res : Write3resRead → Refusal
-lost_write3res (Write3res.Refused r) = r
-lost_write3res (Write3res.Took v n p) = PastEnd

@@ -9,8 +9,7 @@ use Rattle.xdr.specs.Meaning.Formats.{piece_held}
 use Rattle.xdr.specs.Meaning.Public.{output, laid_of, laid}
 use Rattle.xdr.specs.Meaning.Marks.{Marked, MarksAre}
 use Rattle.xdr.specs.Laws.Fixed.{Fixed, seen-fixed}
-use Rattle.xdr.specs.Laws.One.{Told}
-use Rattle.xdr.specs.Laws.Plans.{Planned, plan, at, Step, step, Loses, lost-at}
+use Rattle.xdr.specs.Laws.Plans.{Planned, plan, at}
 use Rattle.xdr.specs.Laws.Records.{ByPlan, fields, one}
 use Rattle.xdr.specs.Laws.Lengths.{Within, view-within, no_default, mapped-within, void-within}
 use Rattle.xdr.specs.Laws.Write.{Ready}
@@ -26,31 +25,16 @@ use Rattle.nfsattr.specs.Laws.Sizes.{fattr-fixed, nfsstat-fixed}
 use Rattle.nfsattr.specs.Laws.Unpadded.{fattr-unpadded, nfsstat-unpadded}
 use Rattle.nfsattr.specs.Meaning.Attr.{fattr}
 use Rattle.nfsattr.specs.Meaning.Stat.{nfsstat, success_or}
-use Rattle.nfsfile.specs.Meaning.Getattr.{getattr_args, view_getattr3args, lost_getattr3args, getattr_args_names, getattr_resok, view_getattr3resok, lost_getattr3resok, getattr_res_arms, getattr_res, view_getattr3res, lost_getattr3res, getattr_res_from}
+use Rattle.nfsfile.specs.Meaning.Getattr.{getattr_args, getattr_args_names, getattr_resok, getattr_res_arms, getattr_res, getattr_res_from}
 use Rattle.nfsfile.specs.declared.getattr.GETATTR3args.{GETATTR3args}
 use Rattle.nfsfile.specs.declared.getattr.GETATTR3res.{GETATTR3res}
 use Rattle.nfsfile.specs.declared.getattr.GETATTR3resok.{GETATTR3resok}
-use Rattle.nfsfile.specs.declared.getattr.Getattr3argsRead.TheVariants as Getattr3args
-use Rattle.nfsfile.specs.declared.getattr.Getattr3resokRead.TheVariants as Getattr3resok
-use Rattle.nfsfile.specs.declared.getattr.Getattr3resRead.TheVariants as Getattr3res
 use Rattle.nfsfile.specs.declared.getattr.GETATTR3res.TheVariants as getattrResIs
 
 -- GETATTR3args
 abbrev pub getattr-args-plan : Planned getattr_args.held.read
 unfolding getattr_args
 getattr-args-plan = plan (at nfs_fh) _
-
-pub step-getattr-args : Step view_getattr3args
-step-getattr-args U = step view_getattr3args
-
-pub lost-getattr-args : Loses lost_getattr3args
-lost-getattr-args A = lost-at lost_getattr3args
-
-pub getattr3args-told : Told view_getattr3args
-getattr3args-told (Getattr3args.Took v n p) (Getattr3args.Took v' n' p') e = cc
-getattr3args-told (Getattr3args.Took v n p) (Getattr3args.Refused r) e = cc
-getattr3args-told (Getattr3args.Refused r) (Getattr3args.Took v n p) e = cc
-getattr3args-told (Getattr3args.Refused r) (Getattr3args.Refused r') e = cc
 
 pub getattr-args-within : Within 0 getattr_args.codec.kind
 unfolding getattr_args
@@ -93,18 +77,6 @@ abbrev pub getattr-resok-plan : ByPlan getattr_resok
 unfolding getattr_resok
 getattr-resok-plan = fields (one fattr) _ _ _ _
 
-pub step-getattr-resok : Step view_getattr3resok
-step-getattr-resok U = step view_getattr3resok
-
-pub lost-getattr-resok : Loses lost_getattr3resok
-lost-getattr-resok A = lost-at lost_getattr3resok
-
-pub getattr3resok-told : Told view_getattr3resok
-getattr3resok-told (Getattr3resok.Took v n) (Getattr3resok.Took v' n') e = cc
-getattr3resok-told (Getattr3resok.Took v n) (Getattr3resok.Refused r) e = cc
-getattr3resok-told (Getattr3resok.Refused r) (Getattr3resok.Took v n) e = cc
-getattr3resok-told (Getattr3resok.Refused r) (Getattr3resok.Refused r') e = cc
-
 pub getattr-resok-within : Within 0 getattr_resok.kind
 unfolding getattr_resok
 getattr-resok-within = mapped-within (fattr) _ _ _ _ fattr-within
@@ -125,18 +97,6 @@ getattr-resok-laid v o z e = e
 pub getattr-res-status : OnStatus nfsstat success_or (exactly getattr_resok) (exactly void) getattr_res_arms getattr_res
 unfolding getattr_res
 getattr-res-status = record { is = refl }
-
-pub step-getattr-res : Step view_getattr3res
-step-getattr-res U = step view_getattr3res
-
-pub lost-getattr-res : Loses lost_getattr3res
-lost-getattr-res A = lost-at lost_getattr3res
-
-pub getattr3res-told : Told view_getattr3res
-getattr3res-told (Getattr3res.Took v n) (Getattr3res.Took v' n') e = cc
-getattr3res-told (Getattr3res.Took v n) (Getattr3res.Refused r) e = cc
-getattr3res-told (Getattr3res.Refused r) (Getattr3res.Took v n) e = cc
-getattr3res-told (Getattr3res.Refused r) (Getattr3res.Refused r') e = cc
 
 pub getattr-res-marked : Marked getattr_res.held
 unfolding getattr_res

@@ -9,8 +9,7 @@ use Rattle.xdr.specs.Meaning.Format.{exactly, ◌⨟◌}
 use Rattle.xdr.specs.Meaning.Formats.{piece_held}
 use Rattle.xdr.specs.Meaning.Public.{output, laid_of, laid}
 use Rattle.xdr.specs.Meaning.Marks.{Marked, MarksAre}
-use Rattle.xdr.specs.Laws.One.{Told}
-use Rattle.xdr.specs.Laws.Plans.{Planned, plan, at, Step, step, Loses, lost-at, ◌then◌}
+use Rattle.xdr.specs.Laws.Plans.{Planned, plan, at, ◌then◌}
 use Rattle.xdr.specs.Laws.Records.{ByPlan, fields, one}
 use Rattle.xdr.specs.Laws.Lengths.{Within, view-within, no_default, pair-within, mapped-within}
 use Rattle.xdr.specs.Laws.Write.{Ready}
@@ -28,33 +27,17 @@ use Rattle.nfsattr.specs.Laws.Sizes.{nfsstat-fixed}
 use Rattle.nfsattr.specs.Laws.Unpadded.{post-op-attr-unpadded, nfsstat-unpadded}
 use Rattle.nfsattr.specs.Meaning.Attr.{post-op-attr}
 use Rattle.nfsattr.specs.Meaning.Stat.{nfsstat, success_or}
-use Rattle.nfsfile.specs.Meaning.Lookup.{lookup_args, view_lookup3args, lost_lookup3args, lookup_args_names, lookup_resok, view_lookup3resok, lost_lookup3resok, lookup_resok_names, lookup_resfail, view_lookup3resfail, lost_lookup3resfail, lookup_res_arms, lookup_res, view_lookup3res, lost_lookup3res, lookup_res_from}
+use Rattle.nfsfile.specs.Meaning.Lookup.{lookup_args, lookup_args_names, lookup_resok, lookup_resok_names, lookup_resfail, lookup_res_arms, lookup_res, lookup_res_from}
 use Rattle.nfsfile.specs.declared.lookup.LOOKUP3args.{LOOKUP3args}
 use Rattle.nfsfile.specs.declared.lookup.LOOKUP3res.{LOOKUP3res}
 use Rattle.nfsfile.specs.declared.lookup.LOOKUP3resfail.{LOOKUP3resfail}
 use Rattle.nfsfile.specs.declared.lookup.LOOKUP3resok.{LOOKUP3resok}
-use Rattle.nfsfile.specs.declared.lookup.Lookup3argsRead.TheVariants as Lookup3args
-use Rattle.nfsfile.specs.declared.lookup.Lookup3resokRead.TheVariants as Lookup3resok
-use Rattle.nfsfile.specs.declared.lookup.Lookup3resfailRead.TheVariants as Lookup3resfail
-use Rattle.nfsfile.specs.declared.lookup.Lookup3resRead.TheVariants as Lookup3res
 use Rattle.nfsfile.specs.declared.lookup.LOOKUP3res.TheVariants as lookupResIs
 
 -- LOOKUP3args
 abbrev pub lookup-args-plan : Planned lookup_args.held.read
 unfolding lookup_args
 lookup-args-plan = plan (at diropargs) _
-
-pub step-lookup-args : Step view_lookup3args
-step-lookup-args U = step view_lookup3args
-
-pub lost-lookup-args : Loses lost_lookup3args
-lost-lookup-args A = lost-at lost_lookup3args
-
-pub lookup3args-told : Told view_lookup3args
-lookup3args-told (Lookup3args.Took v n p) (Lookup3args.Took v' n' p') e = cc
-lookup3args-told (Lookup3args.Took v n p) (Lookup3args.Refused r) e = cc
-lookup3args-told (Lookup3args.Refused r) (Lookup3args.Took v n p) e = cc
-lookup3args-told (Lookup3args.Refused r) (Lookup3args.Refused r') e = cc
 
 pub lookup-args-within : Within 0 lookup_args.codec.kind
 unfolding lookup_args
@@ -96,18 +79,6 @@ lookup-args-laid s x o z e = e
 abbrev pub lookup-resok-plan : Planned lookup_resok.held.read
 unfolding lookup_resok
 lookup-resok-plan = plan (at nfs_fh then at (exactly post-op-attr) then at (exactly post-op-attr)) _
-
-pub step-lookup-resok : Step view_lookup3resok
-step-lookup-resok U = step view_lookup3resok
-
-pub lost-lookup-resok : Loses lost_lookup3resok
-lost-lookup-resok A = lost-at lost_lookup3resok
-
-pub lookup3resok-told : Told view_lookup3resok
-lookup3resok-told (Lookup3resok.Took v n p) (Lookup3resok.Took v' n' p') e = cc
-lookup3resok-told (Lookup3resok.Took v n p) (Lookup3resok.Refused r) e = cc
-lookup3resok-told (Lookup3resok.Refused r) (Lookup3resok.Took v n p) e = cc
-lookup3resok-told (Lookup3resok.Refused r) (Lookup3resok.Refused r') e = cc
 
 pub lookup-resok-within : Within 0 lookup_resok.codec.kind
 unfolding lookup_resok
@@ -156,18 +127,6 @@ abbrev pub lookup-resfail-plan : ByPlan lookup_resfail
 unfolding lookup_resfail
 lookup-resfail-plan = fields (one post-op-attr) _ _ _ _
 
-pub step-lookup-resfail : Step view_lookup3resfail
-step-lookup-resfail U = step view_lookup3resfail
-
-pub lost-lookup-resfail : Loses lost_lookup3resfail
-lost-lookup-resfail A = lost-at lost_lookup3resfail
-
-pub lookup3resfail-told : Told view_lookup3resfail
-lookup3resfail-told (Lookup3resfail.Took v n p) (Lookup3resfail.Took v' n' p') e = cc
-lookup3resfail-told (Lookup3resfail.Took v n p) (Lookup3resfail.Refused r) e = cc
-lookup3resfail-told (Lookup3resfail.Refused r) (Lookup3resfail.Took v n p) e = cc
-lookup3resfail-told (Lookup3resfail.Refused r) (Lookup3resfail.Refused r') e = cc
-
 pub lookup-resfail-within : Within 0 lookup_resfail.kind
 unfolding lookup_resfail
 lookup-resfail-within = mapped-within (post-op-attr) _ _ _ _ post-op-attr-within
@@ -197,18 +156,6 @@ lookup-resfail-laid v o z e = e
 pub lookup-res-status : OnStatus nfsstat success_or lookup_resok (exactly lookup_resfail) lookup_res_arms lookup_res
 unfolding lookup_res
 lookup-res-status = record { is = refl }
-
-pub step-lookup-res : Step view_lookup3res
-step-lookup-res U = step view_lookup3res
-
-pub lost-lookup-res : Loses lost_lookup3res
-lost-lookup-res A = lost-at lost_lookup3res
-
-pub lookup3res-told : Told view_lookup3res
-lookup3res-told (Lookup3res.Took v n p) (Lookup3res.Took v' n' p') e = cc
-lookup3res-told (Lookup3res.Took v n p) (Lookup3res.Refused r) e = cc
-lookup3res-told (Lookup3res.Refused r) (Lookup3res.Took v n p) e = cc
-lookup3res-told (Lookup3res.Refused r) (Lookup3res.Refused r') e = cc
 
 pub lookup-res-marked : Marked lookup_res.held
 unfolding lookup_res

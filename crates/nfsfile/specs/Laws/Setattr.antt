@@ -9,8 +9,7 @@ use Rattle.xdr.specs.Meaning.Format.{exactly, ◌⨟◌}
 use Rattle.xdr.specs.Meaning.Formats.{piece_held}
 use Rattle.xdr.specs.Meaning.Public.{output, laid}
 use Rattle.xdr.specs.Meaning.Marks.{Marked, MarksAre}
-use Rattle.xdr.specs.Laws.One.{Told}
-use Rattle.xdr.specs.Laws.Plans.{Step, step, Loses, lost-at, Planned, plan, at, ◌then◌}
+use Rattle.xdr.specs.Laws.Plans.{Planned, plan, at, ◌then◌}
 use Rattle.xdr.specs.Laws.Records.{ByPlan, fields, one}
 use Rattle.xdr.specs.Laws.Lengths.{Within, view-within, pair-within, no_default, mapped-within}
 use Rattle.xdr.specs.Laws.Write.{Ready}
@@ -33,35 +32,18 @@ use Rattle.nfsattr.specs.Laws.Sizes.{nfstime-fixed, nfsstat-fixed}
 use Rattle.nfsattr.specs.Laws.Unpadded.{nfstime-unpadded, wcc-data-unpadded, nfsstat-unpadded}
 use Rattle.nfsattr.specs.Meaning.Attr.{nfstime, wcc-data}
 use Rattle.nfsattr.specs.Meaning.Stat.{nfsstat, success_or}
-use Rattle.nfsfile.specs.Meaning.Setattr.{sattrguard, sattrguard_cases, view_sattrguard3, lost_sattrguard3, setattr_args, view_setattr3args, lost_setattr3args, setattr_args_names, setattr_resok, view_setattr3resok, lost_setattr3resok, setattr_resfail, view_setattr3resfail, lost_setattr3resfail, setattr_res_arms, setattr_res, view_setattr3res, lost_setattr3res, setattr_res_from}
+use Rattle.nfsfile.specs.Meaning.Setattr.{sattrguard, sattrguard_cases, setattr_args, setattr_args_names, setattr_resok, setattr_resfail, setattr_res_arms, setattr_res, setattr_res_from}
 use Rattle.nfsfile.specs.declared.setattr.SETATTR3args.{SETATTR3args}
 use Rattle.nfsfile.specs.declared.setattr.SETATTR3res.{SETATTR3res}
 use Rattle.nfsfile.specs.declared.setattr.SETATTR3resfail.{SETATTR3resfail}
 use Rattle.nfsfile.specs.declared.setattr.SETATTR3resok.{SETATTR3resok}
 use Rattle.nfsfile.specs.declared.setattr.sattrguard3.{sattrguard3}
-use Rattle.nfsfile.specs.declared.setattr.Sattrguard3Read.TheVariants as Sattrguard3
-use Rattle.nfsfile.specs.declared.setattr.Setattr3argsRead.TheVariants as Setattr3args
-use Rattle.nfsfile.specs.declared.setattr.Setattr3resokRead.TheVariants as Setattr3resok
-use Rattle.nfsfile.specs.declared.setattr.Setattr3resfailRead.TheVariants as Setattr3resfail
-use Rattle.nfsfile.specs.declared.setattr.Setattr3resRead.TheVariants as Setattr3res
 use Rattle.nfsfile.specs.declared.setattr.SETATTR3res.TheVariants as setattrResIs
 
 -- sattrguard3
 abbrev pub sattrguard-plan : ByPlan sattrguard
 unfolding sattrguard
 sattrguard-plan = maybe-plan nfstime sattrguard_cases
-
-pub step-sattrguard : Step view_sattrguard3
-step-sattrguard U = step view_sattrguard3
-
-pub lost-sattrguard : Loses lost_sattrguard3
-lost-sattrguard A = lost-at lost_sattrguard3
-
-pub sattrguard3-told : Told view_sattrguard3
-sattrguard3-told (Sattrguard3.Took v n p) (Sattrguard3.Took v' n' p') e = cc
-sattrguard3-told (Sattrguard3.Took v n p) (Sattrguard3.Refused r) e = cc
-sattrguard3-told (Sattrguard3.Refused r) (Sattrguard3.Took v n p) e = cc
-sattrguard3-told (Sattrguard3.Refused r) (Sattrguard3.Refused r') e = cc
 
 pub sattrguard-within : Within 0 sattrguard.kind
 unfolding sattrguard
@@ -86,18 +68,6 @@ sattrguard-unpadded = view-unpadded (λ x. refl) (option-unpadded nfstime nfstim
 abbrev pub setattr-args-plan : Planned setattr_args.held.read
 unfolding setattr_args
 setattr-args-plan = plan (at nfs_fh then at (exactly sattr) then at (exactly sattrguard)) _
-
-pub step-setattr-args : Step view_setattr3args
-step-setattr-args U = step view_setattr3args
-
-pub lost-setattr-args : Loses lost_setattr3args
-lost-setattr-args A = lost-at lost_setattr3args
-
-pub setattr3args-told : Told view_setattr3args
-setattr3args-told (Setattr3args.Took v n p) (Setattr3args.Took v' n' p') e = cc
-setattr3args-told (Setattr3args.Took v n p) (Setattr3args.Refused r) e = cc
-setattr3args-told (Setattr3args.Refused r) (Setattr3args.Took v n p) e = cc
-setattr3args-told (Setattr3args.Refused r) (Setattr3args.Refused r') e = cc
 
 pub setattr-args-within : Within 0 setattr_args.codec.kind
 unfolding setattr_args
@@ -146,18 +116,6 @@ abbrev pub setattr-resok-plan : ByPlan setattr_resok
 unfolding setattr_resok
 setattr-resok-plan = fields (one wcc-data) _ _ _ _
 
-pub step-setattr-resok : Step view_setattr3resok
-step-setattr-resok U = step view_setattr3resok
-
-pub lost-setattr-resok : Loses lost_setattr3resok
-lost-setattr-resok A = lost-at lost_setattr3resok
-
-pub setattr3resok-told : Told view_setattr3resok
-setattr3resok-told (Setattr3resok.Took v n p) (Setattr3resok.Took v' n' p') e = cc
-setattr3resok-told (Setattr3resok.Took v n p) (Setattr3resok.Refused r) e = cc
-setattr3resok-told (Setattr3resok.Refused r) (Setattr3resok.Took v n p) e = cc
-setattr3resok-told (Setattr3resok.Refused r) (Setattr3resok.Refused r') e = cc
-
 pub setattr-resok-within : Within 0 setattr_resok.kind
 unfolding setattr_resok
 setattr-resok-within = mapped-within (wcc-data) _ _ _ _ wcc-data-within
@@ -188,18 +146,6 @@ abbrev pub setattr-resfail-plan : ByPlan setattr_resfail
 unfolding setattr_resfail
 setattr-resfail-plan = fields (one wcc-data) _ _ _ _
 
-pub step-setattr-resfail : Step view_setattr3resfail
-step-setattr-resfail U = step view_setattr3resfail
-
-pub lost-setattr-resfail : Loses lost_setattr3resfail
-lost-setattr-resfail A = lost-at lost_setattr3resfail
-
-pub setattr3resfail-told : Told view_setattr3resfail
-setattr3resfail-told (Setattr3resfail.Took v n p) (Setattr3resfail.Took v' n' p') e = cc
-setattr3resfail-told (Setattr3resfail.Took v n p) (Setattr3resfail.Refused r) e = cc
-setattr3resfail-told (Setattr3resfail.Refused r) (Setattr3resfail.Took v n p) e = cc
-setattr3resfail-told (Setattr3resfail.Refused r) (Setattr3resfail.Refused r') e = cc
-
 pub setattr-resfail-within : Within 0 setattr_resfail.kind
 unfolding setattr_resfail
 setattr-resfail-within = mapped-within (wcc-data) _ _ _ _ wcc-data-within
@@ -229,18 +175,6 @@ setattr-resfail-laid v o z e = e
 pub setattr-res-status : OnStatus nfsstat success_or (exactly setattr_resok) (exactly setattr_resfail) setattr_res_arms setattr_res
 unfolding setattr_res
 setattr-res-status = record { is = refl }
-
-pub step-setattr-res : Step view_setattr3res
-step-setattr-res U = step view_setattr3res
-
-pub lost-setattr-res : Loses lost_setattr3res
-lost-setattr-res A = lost-at lost_setattr3res
-
-pub setattr3res-told : Told view_setattr3res
-setattr3res-told (Setattr3res.Took v n p) (Setattr3res.Took v' n' p') e = cc
-setattr3res-told (Setattr3res.Took v n p) (Setattr3res.Refused r) e = cc
-setattr3res-told (Setattr3res.Refused r) (Setattr3res.Took v n p) e = cc
-setattr3res-told (Setattr3res.Refused r) (Setattr3res.Refused r') e = cc
 
 pub setattr-res-marked : Marked setattr_res.held
 unfolding setattr_res

@@ -1,14 +1,11 @@
 -- made by tools/generate from crates/nfsfile/rfc/getattr.x
 -- GETATTR: the attributes of a file (RFC 1813, section 3.3.1).
 -- Assumes nothing.
-use Rattle.std.specs.Prelude.{refl, ◌≡◌, true}
-use Rattle.xdr.specs.Meaning.Answer.{Answer, refused, took}
+use Rattle.std.specs.Prelude.{refl, ◌≡◌}
 use Rattle.xdr.specs.Meaning.Kind.{Codec}
 use Rattle.xdr.specs.Meaning.Codecs.{mapped, void}
 use Rattle.xdr.specs.Meaning.Format.{Renaming, Format, named, exactly}
 use Rattle.xdr.specs.Meaning.Status.{Result, ok, failed, Arms, on_status}
-use Rattle.xdr.specs.declared.refusal.Refusal.{Refusal}
-use Rattle.xdr.specs.declared.refusal.Refusal.TheVariants.{PastEnd}
 use Rattle.nfs.specs.Meaning.Dir.{NfsFh, nfs_fh}
 use Rattle.nfs.specs.declared.dir.nfs_fh3.{nfs_fh3}
 use Rattle.nfsattr.specs.Meaning.Attr.{fattr}
@@ -17,12 +14,6 @@ use Rattle.nfsattr.specs.declared.stat.nfsfail3.{nfsfail3}
 use Rattle.nfsfile.specs.declared.getattr.GETATTR3args.{GETATTR3args}
 use Rattle.nfsfile.specs.declared.getattr.GETATTR3res.{GETATTR3res}
 use Rattle.nfsfile.specs.declared.getattr.GETATTR3resok.{GETATTR3resok}
-use Rattle.nfsfile.specs.declared.getattr.Getattr3argsRead.{Getattr3argsRead}
-use Rattle.nfsfile.specs.declared.getattr.Getattr3resRead.{Getattr3resRead}
-use Rattle.nfsfile.specs.declared.getattr.Getattr3resokRead.{Getattr3resokRead}
-use Rattle.nfsfile.specs.declared.getattr.Getattr3argsRead.TheVariants as Getattr3args
-use Rattle.nfsfile.specs.declared.getattr.Getattr3resokRead.TheVariants as Getattr3resok
-use Rattle.nfsfile.specs.declared.getattr.Getattr3resRead.TheVariants as Getattr3res
 use Rattle.nfsfile.specs.declared.getattr.GETATTR3res.TheVariants as getattrResIs
 
 -- GETATTR3args
@@ -44,25 +35,9 @@ getattr_args_names =
 unfoldable pub getattr_args : Format GetattrArgs GETATTR3args
 getattr_args = named nfs_fh getattr_args_names
 
-abbrev pub view_getattr3args : Getattr3argsRead → Answer GETATTR3args
-view_getattr3args (Getattr3args.Refused r) = refused r
-view_getattr3args (Getattr3args.Took v n p) = took v n p
-
-abbrev pub lost_getattr3args : Getattr3argsRead → Refusal
-lost_getattr3args (Getattr3args.Refused r) = r
-lost_getattr3args (Getattr3args.Took v n p) = PastEnd
-
 -- GETATTR3resok
 unfoldable pub getattr_resok : Codec GETATTR3resok
 getattr_resok = mapped (fattr) (λ x. record { obj_attributes = x }) (λ m. m.obj_attributes) (λ x. refl) (λ m. refl)
-
-abbrev pub view_getattr3resok : Getattr3resokRead → Answer GETATTR3resok
-view_getattr3resok (Getattr3resok.Refused r) = refused r
-view_getattr3resok (Getattr3resok.Took v n) = took v n true
-
-abbrev pub lost_getattr3resok : Getattr3resokRead → Refusal
-lost_getattr3resok (Getattr3resok.Refused r) = r
-lost_getattr3resok (Getattr3resok.Took v n) = PastEnd
 
 -- GETATTR3res
 abbrev pub getattr_res_to : Result nfsfail3 GETATTR3resok (Unit {0}) → GETATTR3res
@@ -86,11 +61,3 @@ getattr_res_arms = record { to = getattr_res_to; from = getattr_res_from; from_t
 
 unfoldable pub getattr_res : Format (Result nfsfail3 GETATTR3resok (Unit {0})) GETATTR3res
 getattr_res = on_status nfsstat success_or (exactly getattr_resok) (exactly void) getattr_res_arms
-
-abbrev pub view_getattr3res : Getattr3resRead → Answer GETATTR3res
-view_getattr3res (Getattr3res.Refused r) = refused r
-view_getattr3res (Getattr3res.Took v n) = took v n true
-
-abbrev pub lost_getattr3res : Getattr3resRead → Refusal
-lost_getattr3res (Getattr3res.Refused r) = r
-lost_getattr3res (Getattr3res.Took v n) = PastEnd

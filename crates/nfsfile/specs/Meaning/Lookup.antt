@@ -2,13 +2,10 @@
 -- LOOKUP: the handle of a name in a directory (RFC 1813, section 3.3.3).
 -- Assumes nothing.
 use Rattle.std.specs.Prelude.{refl, ◌≡◌}
-use Rattle.xdr.specs.Meaning.Answer.{Answer, refused, took}
 use Rattle.xdr.specs.Meaning.Kind.{Codec}
 use Rattle.xdr.specs.Meaning.Codecs.{mapped}
 use Rattle.xdr.specs.Meaning.Format.{Renaming, Format, named, ◌⨟◌, exactly}
 use Rattle.xdr.specs.Meaning.Status.{Result, ok, failed, Arms, on_status}
-use Rattle.xdr.specs.declared.refusal.Refusal.{Refusal}
-use Rattle.xdr.specs.declared.refusal.Refusal.TheVariants.{PastEnd}
 use Rattle.nfs.specs.Meaning.Dir.{Diropargs, diropargs, NfsFh, nfs_fh}
 use Rattle.nfs.specs.declared.dir.diropargs3.{diropargs3}
 use Rattle.nfs.specs.declared.dir.nfs_fh3.{nfs_fh3}
@@ -20,14 +17,6 @@ use Rattle.nfsfile.specs.declared.lookup.LOOKUP3args.{LOOKUP3args}
 use Rattle.nfsfile.specs.declared.lookup.LOOKUP3res.{LOOKUP3res}
 use Rattle.nfsfile.specs.declared.lookup.LOOKUP3resfail.{LOOKUP3resfail}
 use Rattle.nfsfile.specs.declared.lookup.LOOKUP3resok.{LOOKUP3resok}
-use Rattle.nfsfile.specs.declared.lookup.Lookup3argsRead.{Lookup3argsRead}
-use Rattle.nfsfile.specs.declared.lookup.Lookup3resRead.{Lookup3resRead}
-use Rattle.nfsfile.specs.declared.lookup.Lookup3resfailRead.{Lookup3resfailRead}
-use Rattle.nfsfile.specs.declared.lookup.Lookup3resokRead.{Lookup3resokRead}
-use Rattle.nfsfile.specs.declared.lookup.Lookup3argsRead.TheVariants as Lookup3args
-use Rattle.nfsfile.specs.declared.lookup.Lookup3resokRead.TheVariants as Lookup3resok
-use Rattle.nfsfile.specs.declared.lookup.Lookup3resfailRead.TheVariants as Lookup3resfail
-use Rattle.nfsfile.specs.declared.lookup.Lookup3resRead.TheVariants as Lookup3res
 use Rattle.nfsfile.specs.declared.lookup.LOOKUP3res.TheVariants as lookupResIs
 
 -- LOOKUP3args
@@ -48,14 +37,6 @@ lookup_args_names =
 
 unfoldable pub lookup_args : Format LookupArgs LOOKUP3args
 lookup_args = named diropargs lookup_args_names
-
-abbrev pub view_lookup3args : Lookup3argsRead → Answer LOOKUP3args
-view_lookup3args (Lookup3args.Refused r) = refused r
-view_lookup3args (Lookup3args.Took v n p) = took v n p
-
-abbrev pub lost_lookup3args : Lookup3argsRead → Refusal
-lost_lookup3args (Lookup3args.Refused r) = r
-lost_lookup3args (Lookup3args.Took v n p) = PastEnd
 
 -- LOOKUP3resok
 pub record LookupResok : Type 0 where
@@ -78,25 +59,9 @@ lookup_resok_names =
 unfoldable pub lookup_resok : Format LookupResok LOOKUP3resok
 lookup_resok = named (nfs_fh ⨟ exactly post-op-attr ⨟ exactly post-op-attr) lookup_resok_names
 
-abbrev pub view_lookup3resok : Lookup3resokRead → Answer LOOKUP3resok
-view_lookup3resok (Lookup3resok.Refused r) = refused r
-view_lookup3resok (Lookup3resok.Took v n p) = took v n p
-
-abbrev pub lost_lookup3resok : Lookup3resokRead → Refusal
-lost_lookup3resok (Lookup3resok.Refused r) = r
-lost_lookup3resok (Lookup3resok.Took v n p) = PastEnd
-
 -- LOOKUP3resfail
 unfoldable pub lookup_resfail : Codec LOOKUP3resfail
 lookup_resfail = mapped (post-op-attr) (λ x. record { dir_attributes = x }) (λ m. m.dir_attributes) (λ x. refl) (λ m. refl)
-
-abbrev pub view_lookup3resfail : Lookup3resfailRead → Answer LOOKUP3resfail
-view_lookup3resfail (Lookup3resfail.Refused r) = refused r
-view_lookup3resfail (Lookup3resfail.Took v n p) = took v n p
-
-abbrev pub lost_lookup3resfail : Lookup3resfailRead → Refusal
-lost_lookup3resfail (Lookup3resfail.Refused r) = r
-lost_lookup3resfail (Lookup3resfail.Took v n p) = PastEnd
 
 -- LOOKUP3res
 abbrev pub lookup_res_to : Result nfsfail3 LOOKUP3resok LOOKUP3resfail → LOOKUP3res
@@ -120,11 +85,3 @@ lookup_res_arms = record { to = lookup_res_to; from = lookup_res_from; from_to =
 
 unfoldable pub lookup_res : Format (Result nfsfail3 LookupResok LOOKUP3resfail) LOOKUP3res
 lookup_res = on_status nfsstat success_or lookup_resok (exactly lookup_resfail) lookup_res_arms
-
-abbrev pub view_lookup3res : Lookup3resRead → Answer LOOKUP3res
-view_lookup3res (Lookup3res.Refused r) = refused r
-view_lookup3res (Lookup3res.Took v n p) = took v n p
-
-abbrev pub lost_lookup3res : Lookup3resRead → Refusal
-lost_lookup3res (Lookup3res.Refused r) = r
-lost_lookup3res (Lookup3res.Took v n p) = PastEnd

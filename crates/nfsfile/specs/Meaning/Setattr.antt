@@ -3,14 +3,11 @@
 -- Assumes nothing.
 use Rattle.std.specs.Prelude.{◌≡◌, refl}
 use Rattle.std.proofs.Math.Option.{Option, none, some}
-use Rattle.xdr.specs.Meaning.Answer.{Answer, refused, took}
 use Rattle.xdr.specs.Meaning.Kind.{Codec}
 use Rattle.xdr.specs.Meaning.Codecs.{mapped}
 use Rattle.xdr.specs.Meaning.Format.{Renaming, Format, named, ◌⨟◌, exactly}
 use Rattle.xdr.specs.Meaning.Cases.{Cases, maybe}
 use Rattle.xdr.specs.Meaning.Status.{Result, ok, failed, Arms, on_status}
-use Rattle.xdr.specs.declared.refusal.Refusal.{Refusal}
-use Rattle.xdr.specs.declared.refusal.Refusal.TheVariants.{PastEnd}
 use Rattle.nfs.specs.Meaning.Dir.{NfsFh, nfs_fh}
 use Rattle.nfs.specs.Meaning.Set.{sattr}
 use Rattle.nfs.specs.declared.dir.nfs_fh3.{nfs_fh3}
@@ -23,18 +20,8 @@ use Rattle.nfsfile.specs.declared.setattr.SETATTR3args.{SETATTR3args}
 use Rattle.nfsfile.specs.declared.setattr.SETATTR3res.{SETATTR3res}
 use Rattle.nfsfile.specs.declared.setattr.SETATTR3resfail.{SETATTR3resfail}
 use Rattle.nfsfile.specs.declared.setattr.SETATTR3resok.{SETATTR3resok}
-use Rattle.nfsfile.specs.declared.setattr.Sattrguard3Read.{Sattrguard3Read}
-use Rattle.nfsfile.specs.declared.setattr.Setattr3argsRead.{Setattr3argsRead}
-use Rattle.nfsfile.specs.declared.setattr.Setattr3resRead.{Setattr3resRead}
-use Rattle.nfsfile.specs.declared.setattr.Setattr3resfailRead.{Setattr3resfailRead}
-use Rattle.nfsfile.specs.declared.setattr.Setattr3resokRead.{Setattr3resokRead}
 use Rattle.nfsfile.specs.declared.setattr.sattrguard3.{sattrguard3}
-use Rattle.nfsfile.specs.declared.setattr.Sattrguard3Read.TheVariants as Sattrguard3
 use Rattle.nfsfile.specs.declared.setattr.sattrguard3.TheVariants as sattrguardIs
-use Rattle.nfsfile.specs.declared.setattr.Setattr3argsRead.TheVariants as Setattr3args
-use Rattle.nfsfile.specs.declared.setattr.Setattr3resokRead.TheVariants as Setattr3resok
-use Rattle.nfsfile.specs.declared.setattr.Setattr3resfailRead.TheVariants as Setattr3resfail
-use Rattle.nfsfile.specs.declared.setattr.Setattr3resRead.TheVariants as Setattr3res
 use Rattle.nfsfile.specs.declared.setattr.SETATTR3res.TheVariants as setattrResIs
 
 -- sattrguard3
@@ -60,14 +47,6 @@ sattrguard_cases = record { to = sattrguard_to; from = sattrguard_from; from_to 
 unfoldable pub sattrguard : Codec sattrguard3
 sattrguard = maybe nfstime sattrguard_cases
 
-abbrev pub view_sattrguard3 : Sattrguard3Read → Answer sattrguard3
-view_sattrguard3 (Sattrguard3.Refused r) = refused r
-view_sattrguard3 (Sattrguard3.Took v n p) = took v n p
-
-abbrev pub lost_sattrguard3 : Sattrguard3Read → Refusal
-lost_sattrguard3 (Sattrguard3.Refused r) = r
-lost_sattrguard3 (Sattrguard3.Took v n p) = PastEnd
-
 -- SETATTR3args
 pub record SetattrArgs : Type 0 where
   pub object : NfsFh
@@ -89,37 +68,13 @@ setattr_args_names =
 unfoldable pub setattr_args : Format SetattrArgs SETATTR3args
 setattr_args = named (nfs_fh ⨟ exactly sattr ⨟ exactly sattrguard) setattr_args_names
 
-abbrev pub view_setattr3args : Setattr3argsRead → Answer SETATTR3args
-view_setattr3args (Setattr3args.Refused r) = refused r
-view_setattr3args (Setattr3args.Took v n p) = took v n p
-
-abbrev pub lost_setattr3args : Setattr3argsRead → Refusal
-lost_setattr3args (Setattr3args.Refused r) = r
-lost_setattr3args (Setattr3args.Took v n p) = PastEnd
-
 -- SETATTR3resok
 unfoldable pub setattr_resok : Codec SETATTR3resok
 setattr_resok = mapped (wcc-data) (λ x. record { obj_wcc = x }) (λ m. m.obj_wcc) (λ x. refl) (λ m. refl)
 
-abbrev pub view_setattr3resok : Setattr3resokRead → Answer SETATTR3resok
-view_setattr3resok (Setattr3resok.Refused r) = refused r
-view_setattr3resok (Setattr3resok.Took v n p) = took v n p
-
-abbrev pub lost_setattr3resok : Setattr3resokRead → Refusal
-lost_setattr3resok (Setattr3resok.Refused r) = r
-lost_setattr3resok (Setattr3resok.Took v n p) = PastEnd
-
 -- SETATTR3resfail
 unfoldable pub setattr_resfail : Codec SETATTR3resfail
 setattr_resfail = mapped (wcc-data) (λ x. record { obj_wcc = x }) (λ m. m.obj_wcc) (λ x. refl) (λ m. refl)
-
-abbrev pub view_setattr3resfail : Setattr3resfailRead → Answer SETATTR3resfail
-view_setattr3resfail (Setattr3resfail.Refused r) = refused r
-view_setattr3resfail (Setattr3resfail.Took v n p) = took v n p
-
-abbrev pub lost_setattr3resfail : Setattr3resfailRead → Refusal
-lost_setattr3resfail (Setattr3resfail.Refused r) = r
-lost_setattr3resfail (Setattr3resfail.Took v n p) = PastEnd
 
 -- SETATTR3res
 abbrev pub setattr_res_to : Result nfsfail3 SETATTR3resok SETATTR3resfail → SETATTR3res
@@ -143,11 +98,3 @@ setattr_res_arms = record { to = setattr_res_to; from = setattr_res_from; from_t
 
 unfoldable pub setattr_res : Format (Result nfsfail3 SETATTR3resok SETATTR3resfail) SETATTR3res
 setattr_res = on_status nfsstat success_or (exactly setattr_resok) (exactly setattr_resfail) setattr_res_arms
-
-abbrev pub view_setattr3res : Setattr3resRead → Answer SETATTR3res
-view_setattr3res (Setattr3res.Refused r) = refused r
-view_setattr3res (Setattr3res.Took v n p) = took v n p
-
-abbrev pub lost_setattr3res : Setattr3resRead → Refusal
-lost_setattr3res (Setattr3res.Refused r) = r
-lost_setattr3res (Setattr3res.Took v n p) = PastEnd

@@ -1,31 +1,24 @@
 -- made by tools/generate from crates/nfsproc/rfc/procedures.x
 -- What follows for the kinds of procedures: how they are read, how many bytes they have, and what is laid of them.
 -- Assumes nothing.
-use Rattle.std.specs.Prelude.{◌≡◌}
+use Rattle.std.specs.Prelude.{◌≡◌, None, Some}
+use Rattle.std.proofs.Common.{ap}
+use Rattle.std.specs.Prelude as std
+use Rattle.xdr.specs.Laws.One.{told}
+use Rattle.xdr.specs.declared.answer.Took.{Took}
+use Rattle.xdr.specs.declared.refusal.Refusal.{Refusal}
 use Rattle.nfsproc.specs.Meaning.Procedures.{view_arguments, view_results}
-use Rattle.nfsproc.specs.declared.procedures.ArgumentsRead.{ArgumentsRead}
-use Rattle.nfsproc.specs.declared.procedures.ResultsRead.{ResultsRead}
-use Rattle.nfsproc.specs.declared.procedures.ArgumentsRead.TheVariants as argumentsRead
-use Rattle.nfsproc.specs.declared.procedures.ResultsRead.TheVariants as resultsRead
+use Rattle.nfsproc.specs.declared.procedures.Arguments.{Arguments}
+use Rattle.nfsproc.specs.declared.procedures.Results.{Results}
 
-pub arguments-told : (a b : ArgumentsRead) → view_arguments a ≡ view_arguments b → a ≡ b
-arguments-told (argumentsRead.Refused r) (argumentsRead.Refused r') e = cc
-arguments-told (argumentsRead.Refused r) argumentsRead.Another e = cc
-arguments-told (argumentsRead.Refused r) (argumentsRead.Took v' n' p') e = cc
-arguments-told argumentsRead.Another (argumentsRead.Refused r') e = cc
-arguments-told argumentsRead.Another argumentsRead.Another e = cc
-arguments-told argumentsRead.Another (argumentsRead.Took v' n' p') e = cc
-arguments-told (argumentsRead.Took v n p) (argumentsRead.Refused r') e = cc
-arguments-told (argumentsRead.Took v n p) argumentsRead.Another e = cc
-arguments-told (argumentsRead.Took v n p) (argumentsRead.Took v' n' p') e = cc
+pub arguments-told : (a b : std.Option (std.Result (Took Arguments) Refusal)) → view_arguments a ≡ view_arguments b → a ≡ b
+arguments-told None None e = cc
+arguments-told None (Some y) e = cc
+arguments-told (Some x) None e = cc
+arguments-told (Some x) (Some y) e = ap Some (told x y cc)
 
-pub results-told : (a b : ResultsRead) → view_results a ≡ view_results b → a ≡ b
-results-told (resultsRead.Refused r) (resultsRead.Refused r') e = cc
-results-told (resultsRead.Refused r) resultsRead.Another e = cc
-results-told (resultsRead.Refused r) (resultsRead.Took v' n' p') e = cc
-results-told resultsRead.Another (resultsRead.Refused r') e = cc
-results-told resultsRead.Another resultsRead.Another e = cc
-results-told resultsRead.Another (resultsRead.Took v' n' p') e = cc
-results-told (resultsRead.Took v n p) (resultsRead.Refused r') e = cc
-results-told (resultsRead.Took v n p) resultsRead.Another e = cc
-results-told (resultsRead.Took v n p) (resultsRead.Took v' n' p') e = cc
+pub results-told : (a b : std.Option (std.Result (Took Results) Refusal)) → view_results a ≡ view_results b → a ≡ b
+results-told None None e = cc
+results-told None (Some y) e = cc
+results-told (Some x) None e = cc
+results-told (Some x) (Some y) e = ap Some (told x y cc)

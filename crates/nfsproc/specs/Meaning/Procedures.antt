@@ -1,23 +1,23 @@
 -- made by tools/generate from crates/nfsproc/rfc/procedures.x
 -- The procedures by their numbers (RFC 1813, section 3): those whose arguments and results are known here.
 -- Assumes nothing.
-use Rattle.std.proofs.Math.Option.{Option, some, none}
-use Rattle.std.specs.Prelude.{List, ◌∷◌, []}
-use Rattle.xdr.specs.Meaning.Answer.{Answer, refused, took}
+use Rattle.std.proofs.Math.Option.{Option, none, some}
+use Rattle.std.specs.Prelude.{List, ◌∷◌, [], None, Some}
+use Rattle.std.specs.Prelude as std
+use Rattle.xdr.specs.Meaning.Answer.{Answer}
 use Rattle.xdr.specs.Meaning.Programs.{Procedure, procedure}
+use Rattle.xdr.specs.Meaning.Views.{view}
+use Rattle.xdr.specs.declared.answer.Took.{Took}
+use Rattle.xdr.specs.declared.refusal.Refusal.{Refusal}
 use Rattle.nfsdata.specs.Meaning.Read.{read_args, read_res}
 use Rattle.nfsdata.specs.Meaning.Write.{write_args, write_res}
 use Rattle.nfsfile.specs.Meaning.Getattr.{getattr_args, getattr_res}
 use Rattle.nfsfile.specs.Meaning.Lookup.{lookup_args, lookup_res}
 use Rattle.nfsfile.specs.Meaning.Setattr.{setattr_args, setattr_res}
 use Rattle.nfsproc.specs.declared.procedures.Arguments.{Arguments}
-use Rattle.nfsproc.specs.declared.procedures.ArgumentsRead.{ArgumentsRead}
 use Rattle.nfsproc.specs.declared.procedures.Results.{Results}
-use Rattle.nfsproc.specs.declared.procedures.ResultsRead.{ResultsRead}
 use Rattle.nfsproc.specs.declared.procedures.Arguments.TheVariants as argumentsIs
-use Rattle.nfsproc.specs.declared.procedures.ArgumentsRead.TheVariants as argumentsRead
 use Rattle.nfsproc.specs.declared.procedures.Results.TheVariants as resultsIs
-use Rattle.nfsproc.specs.declared.procedures.ResultsRead.TheVariants as resultsRead
 
 abbrev pub getattr_arguments : Procedure Arguments
 getattr_arguments = procedure 1 getattr_args argumentsIs.GETATTR
@@ -37,10 +37,9 @@ write_arguments = procedure 7 write_args argumentsIs.WRITE
 abbrev pub arguments_by_number : List (Procedure Arguments)
 arguments_by_number = getattr_arguments ∷ setattr_arguments ∷ lookup_arguments ∷ read_arguments ∷ write_arguments ∷ []
 
-abbrev pub view_arguments : ArgumentsRead → Option (Answer Arguments)
-view_arguments (argumentsRead.Refused r) = some (refused r)
-view_arguments argumentsRead.Another = none
-view_arguments (argumentsRead.Took v n p) = some (took v n p)
+abbrev pub view_arguments : std.Option (std.Result (Took Arguments) Refusal) → Option (Answer Arguments)
+view_arguments None = none
+view_arguments (Some r) = some (view r)
 
 abbrev pub getattr_results : Procedure Results
 getattr_results = procedure 1 getattr_res resultsIs.GETATTR
@@ -60,7 +59,6 @@ write_results = procedure 7 write_res resultsIs.WRITE
 abbrev pub results_by_number : List (Procedure Results)
 results_by_number = getattr_results ∷ setattr_results ∷ lookup_results ∷ read_results ∷ write_results ∷ []
 
-abbrev pub view_results : ResultsRead → Option (Answer Results)
-view_results (resultsRead.Refused r) = some (refused r)
-view_results resultsRead.Another = none
-view_results (resultsRead.Took v n p) = some (took v n p)
+abbrev pub view_results : std.Option (std.Result (Took Results) Refusal) → Option (Answer Results)
+view_results None = none
+view_results (Some r) = some (view r)

@@ -1,6 +1,6 @@
 -- Steps in order are one reading of what stands in order; a step stays in its message; and what it says, it says of one answer and one reader alone.
 -- Assumes nothing.
-use Rattle.std.specs.Prelude.{◌≡◌, Bool, List, ℕ, ◌≤◌, leb, length}
+use Rattle.std.specs.Prelude.{◌≡◌, Bool, List, ℕ, ◌≤◌, leb, length, Result}
 use Rattle.std.proofs.Math.Path.{refl}
 use Rattle.std.proofs.Common.{sym, ap, subst, ◌∙◌, arith}
 use Rattle.std.proofs.Math.Bool.{true, false, cond}
@@ -9,10 +9,13 @@ use Rattle.xdr.specs.Meaning.Answer.{Answer, took, refused, opened, most}
 use Rattle.xdr.specs.Meaning.Held.{then_first, then_second}
 use Rattle.xdr.specs.Meaning.Format.{Format, ◌⨟◌}
 use Rattle.xdr.specs.Meaning.Public.{Answers, Took}
-use Rattle.xdr.specs.Laws.One.{Told}
+use Rattle.xdr.specs.Laws.One.{told}
 use Rattle.xdr.specs.Laws.Public.{opened_in, kept}
 use Rattle.reader.specs.Meaning.Step.{onward, Stepped, joined}
 use Rattle.reader.specs.declared.Reader.{Reader}
+use Rattle.xdr.specs.Meaning.Views.{view}
+use Rattle.xdr.specs.declared.answer.Took as Took·
+use Rattle.xdr.specs.declared.refusal.Refusal.{Refusal}
 use Rattle.xdr.specs.declared.refusal.Refusal.TheVariants.{TooLong, PastEnd}
 
 module _ {M N S T : Type 0} (F : Format M S) (G : Format N T) (s : List ℕ) (p : ℕ) where
@@ -45,6 +48,10 @@ module _ {M N S T : Type 0} (F : Format M S) (G : Format N T) (s : List ℕ) (p 
       record { is = is-second x n b z ∙ ap (second x b) k ∙ ap first c.is ∙ first-opened (F.held.read s p); bytes = c.bytes }
   in_order (refused r) z c d = record { is = ap first c.is ∙ first-opened (F.held.read s p); bytes = c.bytes }
 
+-- a refusal of the first is the refusal of both
+pub lost_first : {M N S T : Type 0} (F : Format M S) (G : Format N T) (s : List ℕ) (p : ℕ) {q : Refusal} → Answers F s p (refused q) → Answers (F ⨟ G) s p (refused q)
+lost_first F G s p c = record { is = ap (first F G s p) c.is ∙ first-opened F G s p (F.held.read s p); bytes = c.bytes }
+
 -- the same of a step and of what is read from the reader that it hands back
 pub step_then : {M N S T : Type 0} (F : Format M S) (G : Format N T) {r r' : Reader} {a : Answer S} {z : Answer T} → Stepped F r a r' → Answers G r'.src.now r'.at z
     → Answers (F ⨟ G) r.src.now r.at (joined a z)
@@ -70,6 +77,6 @@ module _ {M S : Type 0} (F : Format M S) (r r' : Reader) where
       (g, λ i. record { src = (e.same ∙ sym f.same) i; at = at i })
 
 -- the same in the code's own types
-pub step-told : {M S R : Type 0} {view : R → Answer S} → Told view → (F : Format M S) {r r' r'' : Reader} (x y : R) → Stepped F r (view x) r' → Stepped F r (view y) r''
+pub step-told : {M S : Type 0} (F : Format M S) {r r' r'' : Reader} (x y : Result (Took·.Took S) Refusal) → Stepped F r (view x) r' → Stepped F r (view y) r''
     → (x ≡ y) × (r' ≡ r'')
-step-told told F {r} {r'} x y e f = let o = step-one F r r' e f in (told x y o.0, o.1)
+step-told F {r} {r'} x y e f = let o = step-one F r r' e f in (told x y o.0, o.1)

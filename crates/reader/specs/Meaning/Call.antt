@@ -11,12 +11,14 @@ use Rattle.nfs.specs.Meaning.Dir.{Diropargs, diropargs}
 use Rattle.nfs.specs.Meaning.Set.{sattr}
 use Rattle.nfs.specs.declared.dir.diropargs3.{diropargs3}
 use Rattle.nfs.specs.declared.set.sattr3.{sattr3}
-use Rattle.reader.specs.declared.call.MkdirRead.{MkdirRead}
-use Rattle.reader.specs.declared.call.MkdirRead.TheVariants.{Refused, Took}
+use Rattle.std.specs.Prelude.{Result, Ok, Err}
+use Rattle.xdr.specs.declared.refusal.Refusal.{Refusal}
+use Rattle.xdr.specs.declared.answer.Took.{Took}
+use Rattle.reader.specs.declared.call.Mkdir.{Mkdir}
 
 unfoldable pub mkdir : Format (RpcMsg accept_body rejected_reply × (Diropargs × sattr3)) (rpc_msg × (diropargs3 × sattr3))
 mkdir = rpc-msg ⨟ diropargs ⨟ exactly sattr
 
-abbrev pub view_mkdir : MkdirRead → Answer (rpc_msg × (diropargs3 × sattr3))
-view_mkdir (Refused r) = refused r
-view_mkdir (Took m d a n p) = took (m, (d, a)) n p
+abbrev pub view_mkdir : Result (Took Mkdir) Refusal → Answer (rpc_msg × (diropargs3 × sattr3))
+view_mkdir (Ok x) = took (x.value.message, (x.value.dirops, x.value.attributes)) x.next x.plain
+view_mkdir (Err r) = refused r

@@ -10,7 +10,7 @@ use Rattle.xdr.specs.Laws.Pieces.{nothing-inside}
 use Rattle.rpc.specs.Meaning.Closed.{auth-flavor}
 use Rattle.rpc.specs.Meaning.Auth.{opaque-auth}
 use Rattle.rpc.specs.Meaning.Reading.{mismatch-info}
-use Rattle.rpc.specs.Meaning.Crate.{accept-body, accepted-reply, rejected-reply, reply-body, rpc-body, rpc-msg}
+use Rattle.rpc.specs.Meaning.Crate.{rpc-msg}
 use Rattle.rpc.specs.Meaning.Reply.{accept_body_of, accepted_reply_of, rejected_reply_of, reply_body_of}
 use Rattle.rpc.specs.Meaning.Message.{rpc_body_of, rpc_msg_of}
 use Rattle.rpc.specs.Meaning.Makers.{accepted_with, proc_unavail, prog_unavail, prog_mismatch, garbage_args, success, vers_mismatch_of}

@@ -6,7 +6,7 @@ use Rattle.xdr.specs.Meaning.Answer.{Answer}
 use Rattle.xdr.specs.Meaning.Items.{word, word_pair}
 use Rattle.xdr.specs.Meaning.Format.{exactly}
 use Rattle.xdr.specs.Meaning.Formats.{bytes, word_list}
-use Rattle.xdr.specs.Laws.Plans.{Prog, ask, give, run, planned, plan, planned-as, at, ◌then◌, asks, Step, Loses, step, lost-at}
+use Rattle.xdr.specs.Laws.Plans.{Prog, ask, give, run, planned, plan, planned-as, at, ◌then◌, asks}
 use Rattle.xdr.specs.Laws.Pairs.{two-words, words-then}
 use Rattle.xdr.specs.Laws.Keys.{keys}
 use Rattle.rpc.specs.Laws.Closed.{numbers}
@@ -17,7 +17,6 @@ use Rattle.rpc.specs.Meaning.Reading.{mismatch-info, accept_arms, Reading}
 use Rattle.rpc.specs.Meaning.Reply.{accept_kept, accept_body_of, accepted_reply_of, reject_arms, see_reject, from_reject, reject_kept, reject_back, rejected_reply_of, reply_branches, hold_reply, reply_body_of}
 use Rattle.rpc.specs.Meaning.Message.{call-body, body_branches, hold_body, rpc_body_of, rpc_msg_of}
 use Rattle.rpc.specs.Meaning.Crate.{see_accept, crate, accept-body, rejected-reply, reply-body, rpc-body}
-use Rattle.rpc.specs.Meaning.Views as views
 
 -- f reads as P plans
 abbrev pub Reads : {T : Type 0} → (List ℕ → ℕ → Answer T) → Prog T → Type 0
@@ -85,69 +84,8 @@ crate-reply-union = reply-union crate
 pub crate-body-union : Union rpc-body (body_branches crate) (hold_body crate) 2
 crate-body-union = body-union crate
 
--- the answers of the calls
-pub step-flavor : Step views.view_auth_flavor
-step-flavor U = step views.view_auth_flavor
-
-pub lost-flavor : Loses views.lost_auth_flavor
-lost-flavor A = lost-at views.lost_auth_flavor
-
-pub step-stat : Step views.view_auth_stat
-step-stat U = step views.view_auth_stat
-
-pub lost-stat : Loses views.lost_auth_stat
-lost-stat A = lost-at views.lost_auth_stat
-
-pub step-info : Step views.view_mismatch_info
-step-info U = step views.view_mismatch_info
-
-pub lost-info : Loses views.lost_mismatch_info
-lost-info A = lost-at views.lost_mismatch_info
-
-pub step-auth : Step views.view_opaque_auth
-step-auth U = step views.view_opaque_auth
-
-pub lost-auth : Loses views.lost_opaque_auth
-lost-auth A = lost-at views.lost_opaque_auth
-
-pub step_call : Step views.view_call_body
-step_call U = step views.view_call_body
-
-pub lost-call : Loses views.lost_call_body
-lost-call A = lost-at views.lost_call_body
-
-pub step-accept : Step views.view_accept_body
-step-accept U = step views.view_accept_body
-
-pub lost-accept : Loses views.lost_accept_body
-lost-accept A = lost-at views.lost_accept_body
-
-pub step-accepted : Step views.view_accepted_reply
-step-accepted U = step views.view_accepted_reply
-
-pub lost-accepted : Loses views.lost_accepted_reply
-lost-accepted A = lost-at views.lost_accepted_reply
-
-pub step-reject : Step views.view_rejected_reply
-step-reject U = step views.view_rejected_reply
-
-pub lost-reject : Loses views.lost_rejected_reply
-lost-reject A = lost-at views.lost_rejected_reply
-
-pub step-reply : Step views.view_reply_body
-step-reply U = step views.view_reply_body
-
-pub lost-reply : Loses views.lost_reply_body
-lost-reply A = lost-at views.lost_reply_body
-
-pub step-body : Step views.view_rpc_body
-step-body U = step views.view_rpc_body
-
-pub lost-body : Loses views.lost_rpc_body
-lost-body A = lost-at views.lost_rpc_body
-
 -- what is the same in every reading
-pub ruleset shared-inner = (keys, unions, info-plan, auth-plan, unix-plan, call-plan, accepted-plan, msg-plan, asks, step-flavor, lost-flavor, step-info, lost-info, step-auth, lost-auth, step_call, lost-call)
+pub ruleset shared-inner = (keys, unions, info-plan, auth-plan, unix-plan, call-plan, accepted-plan, msg-plan, asks)
 
 pub ruleset inner =
-    (shared-inner, numbers, crate-accept-union, crate-reject-union, crate-reply-union, crate-body-union, step-stat, lost-stat, step-accept, lost-accept, step-accepted, lost-accepted, step-reject, lost-reject, step-reply, lost-reply, step-body, lost-body)
+    (shared-inner, numbers, crate-accept-union, crate-reject-union, crate-reply-union, crate-body-union)

@@ -1,22 +1,18 @@
 -- What each kind's fields leave of a buffer, laid one behind the other, of kinds that are the same in every reading: each law is in the shape of
 -- the goal of `put_X`.
 -- Assumes nothing.
-use Rattle.std.specs.Prelude.{◌≡◌, List, ◌++◌, ℕ, ◌+◌, ◌-◌, ◌≤◌, length, drop, get_or}
-use Rattle.std.proofs.Common.{sym, ap, ◌∙◌, arith, Fits}
-use Rattle.std.specs.Int.{w8}
+use Rattle.std.specs.Prelude.{◌≡◌, List, ◌++◌, ℕ, ◌+◌, ◌-◌, ◌≤◌, length, drop}
+use Rattle.std.proofs.Common.{ap, ◌∙◌, arith}
 use borrow.Rule.Slice.PartMut.{mid_of, put_mid}
 use Rattle.xdr.specs.Meaning.Items.{word, word_pair}
-use Rattle.xdr.specs.Meaning.Formats.{bytes, word_list}
-use Rattle.xdr.specs.Meaning.Pieces.{size_up_to}
+use Rattle.xdr.specs.Meaning.Formats.{bytes}
 use Rattle.xdr.specs.Meaning.Public.{output, laid, laid_of}
-use Rattle.xdr.specs.Laws.Lists.{known_bytes}
-use Rattle.xdr.specs.Laws.Padding.{word-length, word-pair-length, word-pair-bytes}
-use Rattle.xdr.specs.Laws.Write.{Put, Ready, put_same, put-laid, field, lent, lent_of}
+use Rattle.xdr.specs.Laws.Padding.{word-length, word-pair-length}
+use Rattle.xdr.specs.Laws.Write.{Put, Ready, put_same, put-laid, field, lent_of}
 use Rattle.xdr.specs.Laws.Writers.{bytes-sized}
 use Rattle.rpc.specs.Meaning.Closed.{flavor_number}
-use Rattle.rpc.specs.Meaning.Auth.{opaque-auth, auth-unix}
+use Rattle.rpc.specs.Meaning.Auth.{opaque-auth}
 use Rattle.rpc.specs.Meaning.Reading.{mismatch-info}
-use Rattle.rpc.specs.Meaning.Message.{call-body}
 use Rattle.rpc.specs.Laws.Sizes.{auth_size, auth-written, auth-body, call-cred, call-verf, info-written}
 use Rattle.rpc.specs.declared.auth.opaque_auth.{opaque_auth}
 use Rattle.rpc.specs.declared.reply.mismatch_info.{mismatch_info}

@@ -4,7 +4,7 @@
 -- Assumes nothing.
 use Rattle.std.specs.Prelude.{◌≡◌, refl, ◌⊎◌, ◌↔◌, Bool, true, false, cond, ◌&&◌, List, []}
 use Rattle.std.proofs.Common.{sym, ap, subst, ◌∙◌, inl, inr, ⊎_elim, arith}
-use Prim.Native.Nat.{ℕ, zero, suc, ◌+◌, ◌-◌, ◌≤◌}
+use Prim.Native.Nat.{ℕ, zero, suc, ◌-◌, ◌≤◌}
 use borrow.Author.Tests.{ne_eqb}
 use Rattle.xdr.specs.Meaning.Answer.{Answer, took, refused}
 use Rattle.xdr.specs.Meaning.Combinators.{Seen, means}
@@ -12,31 +12,25 @@ use Rattle.xdr.specs.Meaning.Held.{seen_as, look_at, then_second}
 use Rattle.xdr.specs.Meaning.Items.{word}
 use Rattle.xdr.specs.Meaning.Format.{Format, plain, Branch, tagged}
 use Rattle.xdr.specs.Laws.Answers.{word-within}
-use Rattle.xdr.specs.Laws.Plans.{ask, give, follow, run}
+use Rattle.xdr.specs.Laws.Plans.{follow}
 use Rattle.xdr.specs.Laws.Unions.{Union, arm_branches}
 use Rattle.xdr.specs.declared.refusal.Refusal.{Refusal}
 use Rattle.xdr.specs.declared.refusal.Refusal.TheVariants.{Undeclared}
-use Rattle.rpc.specs.Meaning.Auth.{opaque-auth}
 use Rattle.rpc.specs.Meaning.Reading.{mismatch-info, accept_arms}
-use Rattle.rpc.specs.Meaning.Reply.{accept_stat_of, auth_stat_of, accepted_reply_of, reject_arms, see_reject, reply_branches, hold_reply}
-use Rattle.rpc.specs.Meaning.Message.{call-body, body_branches, hold_body, rpc_msg_of}
+use Rattle.rpc.specs.Meaning.Reply.{accept_stat_of, auth_stat_of, reject_arms, see_reject}
+use Rattle.rpc.specs.Meaning.Message.{body_branches, hold_body}
 use Rattle.rpc.specs.Meaning.Crate as Crate
 use Rattle.rpc.specs.Meaning.Current as Current
-use Rattle.rpc.specs.Meaning.Narrowed.{Narrow, same, other, refused_there, map_narrow, narrow_by, narrowed, narrow_stat, narrow_auth, narrow_accept, narrow_accepted, narrow_rejected, narrow_reply, narrow_body, narrow_msg}
-use Rattle.rpc.specs.Laws.Plans.{accepted-plan, msg-plan, accept-union, reject-union, reply-union, body-union}
-use Rattle.rpc.specs.declared.auth.opaque_auth.{opaque_auth}
+use Rattle.rpc.specs.Meaning.Narrowed.{Narrow, same, other, refused_there, map_narrow, narrow_by, narrowed, narrow_stat, narrow_auth, narrow_accept, narrow_rejected, narrow_body}
+use Rattle.rpc.specs.Laws.Plans.{reject-union}
 use Rattle.rpc.specs.declared.message.call_body.{call_body}
 use Rattle.rpc.specs.declared.reply.mismatch_info.{mismatch_info}
 use Rattle.rpc.specs.declared.current.reply.accept_stat.{accept_stat}
 use Rattle.rpc.specs.declared.current.reply.accept_stat.TheVariants as acceptStat
 use Rattle.rpc.specs.declared.current.reply.auth_stat.{auth_stat}
 use Rattle.rpc.specs.declared.current.reply.auth_stat.TheVariants as authStat
-use Rattle.rpc.specs.declared.reply.reply_body.TheVariants as crate·reply
-use Rattle.rpc.specs.declared.current.reply.reply_body.TheVariants as current·reply
 use Rattle.rpc.specs.declared.reply.rejected_reply.TheVariants as crate·rejected
 use Rattle.rpc.specs.declared.current.reply.rejected_reply.TheVariants as current·rejected
-use Rattle.rpc.specs.declared.message.rpc_body.TheVariants as crate·body
-use Rattle.rpc.specs.declared.current.message.rpc_body.TheVariants as current·body
 
 -- ---- the enumerations, by their word
 module _ (s : List ℕ) (p : ℕ) where

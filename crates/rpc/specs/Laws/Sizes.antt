@@ -1,10 +1,9 @@
 -- How long each kind is written that is the same in every reading, fixed or by its pieces; and when its pieces lie inside.
 -- Assumes nothing.
-use Rattle.std.specs.Prelude.{◌≡◌, Bool, true, ◌&&◌, ℕ, ◌+◌, ◌≤◌, length}
+use Rattle.std.specs.Prelude.{◌≡◌, Bool, ◌&&◌, ℕ, ◌+◌, ◌≤◌, length}
 use Rattle.std.proofs.Math.Path.{refl, ap₂}
 use Rattle.std.proofs.Common.{sym, ap, ◌∙◌, arith, length-append, Fits}
-use Rattle.std.proofs.Math.Bool.{and-true}
-use mathlib.Core.List.{List, ◌++◌, append_assoc, append-nil}
+use mathlib.Core.List.{List, ◌++◌, append_assoc}
 use Rattle.std.specs.Int.{w64}
 use Rattle.xdr.specs.Meaning.Bytes.{Bytes}
 use Rattle.xdr.specs.Meaning.Items.{word, word_pair}
@@ -21,8 +20,7 @@ use Rattle.xdr.specs.Laws.Putting.{Sized}
 use Rattle.rpc.specs.Meaning.Closed.{auth-flavor, flavor_number}
 use Rattle.rpc.specs.Meaning.Auth.{opaque-auth, auth-unix}
 use Rattle.rpc.specs.Meaning.Reading.{mismatch-info}
-use Rattle.rpc.specs.Meaning.Reply.{inside_reply}
-use Rattle.rpc.specs.Meaning.Message.{call-body, inside_body}
+use Rattle.rpc.specs.Meaning.Message.{call-body}
 use Rattle.rpc.specs.declared.auth.opaque_auth.{opaque_auth}
 use Rattle.rpc.specs.declared.auth.auth_unix.{auth_unix}
 use Rattle.rpc.specs.declared.reply.mismatch_info.{mismatch_info}

@@ -1,12 +1,12 @@
 -- Messages whose pieces lie in two sources: how they are laid, how long they are, and that with one source they are as any other.
 -- Assumes nothing.
-use Rattle.std.specs.Prelude.{◌≡◌, refl, Bool, true, ◌&&◌, ℕ, ◌+◌, ◌-◌, ◌≤◌, length, get_or}
+use Rattle.std.specs.Prelude.{◌≡◌, refl, Bool, true, ◌&&◌, ℕ, ◌+◌, ◌-◌, ◌≤◌, length, get_or, Result, Ok, Err}
 use Rattle.std.proofs.Common.{sym, ap, ap₂, ◌∙◌, arith, length-append, Fits}
 use mathlib.Core.List.{List, ◌++◌, append_assoc}
 use Rattle.std.specs.Int.{w8}
 use borrow.Rule.Slice.PartMut.{mid_of, put_mid}
 use Rattle.xdr.specs.Meaning.Bytes.{Bytes}
-use Rattle.xdr.specs.Meaning.Answer.{most}
+use Rattle.xdr.specs.Meaning.Answer.{most, done, unwritten}
 use Rattle.xdr.specs.Meaning.Items.{word, word_pair}
 use Rattle.xdr.specs.Meaning.Formats.{bytes, word_list, piece_held, words_held}
 use Rattle.xdr.specs.Meaning.Pieces.{is_inside, are_inside, size_up_to, words_up_to}
@@ -16,7 +16,7 @@ use Rattle.xdr.specs.Meaning.Sources.{longer}
 use Rattle.xdr.specs.Meaning.Views.{view_wrote}
 use Rattle.xdr.specs.Laws.Marks.{and_left, and_right}
 use Rattle.xdr.specs.Laws.Lists.{known_bytes}
-use Rattle.xdr.specs.Laws.Padding.{word-length, word-pair-length, word-pair-bytes}
+use Rattle.xdr.specs.Laws.Padding.{word-length, word-pair-length}
 use Rattle.xdr.specs.Laws.LayPieces.{words_size}
 use Rattle.xdr.specs.Laws.Write.{Put, Ready, put_same, put-laid, field, lent, lent_of}
 use Rattle.xdr.specs.Laws.Writers.{bytes-sized}
@@ -24,14 +24,12 @@ use Rattle.xdr.specs.Laws.Putting.{placed}
 use Rattle.xdr.specs.Laws.Sources.{first_short, second_short, placing-two, from-off, from_on}
 use Rattle.rpc.specs.Meaning.Auth.{opaque-auth, auth-unix}
 use Rattle.rpc.specs.Meaning.Message.{call-body, rpc_body_of, rpc_msg_of}
-use Rattle.rpc.specs.Meaning.Crate.{rpc-body, rpc-msg}
+use Rattle.rpc.specs.Meaning.Crate.{rpc-msg}
 use Rattle.rpc.specs.Meaning.Sources.{unix_from, WritesUnixFrom, call_from, message_from, WritesCallFrom}
 use Rattle.rpc.specs.Laws.Sizes.{auth_size, auth-length, unix_size, unix-name, unix-gids, call_size, call-cred, call-verf}
 use Rattle.rpc.specs.Laws.Puts.{lent_from, back_at, put-sized}
 use Rattle.rpc.specs.declared.auth.auth_unix.{auth_unix}
 use Rattle.rpc.specs.declared.message.call_body.{call_body}
-use Rattle.xdr.specs.declared.answer.Wrote.{Wrote}
-use Rattle.xdr.specs.declared.answer.Wrote.TheVariants as W
 use Rattle.xdr.specs.declared.refusal.Refusal.{Refusal}
 
 -- each source is not too long, and its piece lies inside it
@@ -164,7 +162,7 @@ message-put xs ys zs s t xid m h e f =
     put_same (message-parts s t xid m) (field (put-laid (word-pair-length xid 0) (omega arith) e) h f)
 
 -- what the writers leave, by what the code found
-module _ (s t : List ℕ) (at : ℕ) (o : List ℕ) (w : Wrote) (lng k : ℕ) (i : Bool) where
+module _ (s t : List ℕ) (at : ℕ) (o : List ℕ) (w : Result ℕ Refusal) (lng k : ℕ) (i : Bool) where
   module _ (j h : Bool) (m : auth_unix) (e : view_wrote w ≡ placing lng i k (length o) at) (f : lng ≡ longer (length s) (length t)) (g : i ≡ (j && h))
       (u : j ≡ is_inside s m.machinename) (v : h ≡ are_inside t m.gids) (l : k ≡ unix_size m) (known : (n : ℕ) → Fits w8 (get_or s n 0)) (given : (n : ℕ) → Fits w8 (get_or t n 0)) where
     unix-said : view_wrote w ≡ placing (longer (length s) (length t)) (is_inside s m.machinename && are_inside t m.gids) (unix_size m) (length o) at
@@ -175,19 +173,19 @@ module _ (s t : List ℕ) (at : ℕ) (o : List ℕ) (w : Wrote) (lng k : ℕ) (i
         → length (auth-unix.codec.kind.write (unix_from s t m)) ≡ unix_size m
     unix-size a b = unix-long s t m (known_bytes t given) (unix-ready s t a m b)
 
-    pub unix-from-off : (q : Refusal) → w ≡ W.Refused q → WritesUnixFrom s t m at o (view_wrote w) o
+    pub unix-from-off : (q : Refusal) → w ≡ Err q → WritesUnixFrom s t m at o (unwritten q) o
     unix-from-off q r =
         from-off (unix_from s t m) (longer (length s) (length t)) (is_inside s m.machinename && are_inside t m.gids) (unix_size m) at o w unix-said unix-size q r
 
-    pub unix-from-on : (n : ℕ) (zs : List ℕ) → w ≡ W.Done n
+    pub unix-from-on : (n : ℕ) (zs : List ℕ) → w ≡ Ok n
         → Put (mid_of at (length o - at) o) zs (unix_size m) (auth-unix.codec.kind.write (unix_from s t m))
-        → (Bytes s → Bytes t → UnixReady s t m → auth-unix.codec.kind.Good (unix_from s t m)) → WritesUnixFrom s t m at o (view_wrote w) (put_mid at (length o - at) o zs)
+        → (Bytes s → Bytes t → UnixReady s t m → auth-unix.codec.kind.Good (unix_from s t m)) → WritesUnixFrom s t m at o (done n) (put_mid at (length o - at) o zs)
     unix-from-on n zs r p good =
         let d = placed (longer (length s) (length t)) (is_inside s m.machinename && are_inside t m.gids) (unix_size m) (length o) at w n unix-said r in
         from_on (unix_from s t m) (longer (length s) (length t)) (is_inside s m.machinename && are_inside t m.gids) (unix_size m) at o w unix-said unix-size n zs r p
         (good (known_bytes s known) (known_bytes t given) (unix-ready s t d.short m d.inside))
 
-    pub unix-from-ready : (n : ℕ) → w ≡ W.Done n → UnixReady s t m
+    pub unix-from-ready : (n : ℕ) → w ≡ Ok n → UnixReady s t m
     unix-from-ready n r =
         let d = placed (longer (length s) (length t)) (is_inside s m.machinename && are_inside t m.gids) (unix_size m) (length o) at w n unix-said r in
         unix-ready s t d.short m d.inside
@@ -198,7 +196,7 @@ module _ (s t : List ℕ) (at : ℕ) (o : List ℕ) (w : Wrote) (lng k : ℕ) (i
     call-said =
         placing-two (length s) (length t) (opaque-auth.held.inside s m.cred) (opaque-auth.held.inside t m.verf) (8 + call_size m) (length o) at lng k i (opaque-auth.held.inside s m.cred) (opaque-auth.held.inside t m.verf) e f g refl refl l
 
-    pub call-from-ready : (n : ℕ) → w ≡ W.Done n → CallReady s t m
+    pub call-from-ready : (n : ℕ) → w ≡ Ok n → CallReady s t m
     call-from-ready n r =
         let d = placed (longer (length s) (length t)) (opaque-auth.held.inside s m.cred && opaque-auth.held.inside t m.verf) (8 + call_size m) (length o) at w n call-said r in
         call-ready s t d.short m d.inside
@@ -208,15 +206,15 @@ module _ (s t : List ℕ) (at : ℕ) (o : List ℕ) (w : Wrote) (lng k : ℕ) (i
           → length (rpc-msg.codec.kind.write (message_from s t xid m)) ≡ 8 + call_size m
       call-size a b = message-long s t xid m (call-ready s t a m b)
 
-      pub call-from-off : (q : Refusal) → w ≡ W.Refused q → WritesCallFrom s t xid m at o (view_wrote w) o
+      pub call-from-off : (q : Refusal) → w ≡ Err q → WritesCallFrom s t xid m at o (unwritten q) o
       call-from-off q r =
           from-off (message_from s t xid m) (longer (length s) (length t)) (opaque-auth.held.inside s m.cred && opaque-auth.held.inside t m.verf)
           (8 + call_size m) at o w call-said call-size q r
 
-      pub call-from-on : (n : ℕ) (zs : List ℕ) → w ≡ W.Done n
+      pub call-from-on : (n : ℕ) (zs : List ℕ) → w ≡ Ok n
           → Put (mid_of at (length o - at) o) zs (8 + call_size m) (rpc-msg.codec.kind.write (message_from s t xid m))
           → ((n : ℕ) → Fits w8 (get_or s n 0)) → ((n : ℕ) → Fits w8 (get_or t n 0))
-          → (Bytes s → Bytes t → CallReady s t m → rpc-msg.codec.kind.Good (message_from s t xid m)) → WritesCallFrom s t xid m at o (view_wrote w) (put_mid at (length o - at) o zs)
+          → (Bytes s → Bytes t → CallReady s t m → rpc-msg.codec.kind.Good (message_from s t xid m)) → WritesCallFrom s t xid m at o (done n) (put_mid at (length o - at) o zs)
       call-from-on n zs r p known given good =
           from_on (message_from s t xid m) (longer (length s) (length t)) (opaque-auth.held.inside s m.cred && opaque-auth.held.inside t m.verf)
           (8 + call_size m) at o w call-said call-size n zs r p

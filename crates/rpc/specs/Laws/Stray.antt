@@ -9,7 +9,7 @@ use Rattle.std.proofs.Math.ListN.{length}
 use Rattle.xdr.specs.Meaning.Answer.{Way, stray_tag, Loose, here, shifted}
 use Rattle.xdr.specs.Meaning.Combinators.{Seen, means}
 use Rattle.xdr.specs.Meaning.Items.{word}
-use Rattle.xdr.specs.Meaning.Format.{Branch, tagged, Kept, Back, union}
+use Rattle.xdr.specs.Meaning.Format.{Branch, Kept, Back, union}
 use Rattle.xdr.specs.Laws.Forms.{number-form}
 use Rattle.rpc.specs.Meaning.Reading.{accept_arms, Reading}
 use Rattle.rpc.specs.Meaning.Reply.{reject_arms, see_reject, reply_branches, see_reply}

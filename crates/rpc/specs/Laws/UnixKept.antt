@@ -1,27 +1,18 @@
 -- Demands 2 and 3 of the auth_unix inside a credential: its reading is a public reading of auth_unix in the message up to the body's end, and
 -- means the same in the whole message.
 -- Assumes nothing.
-use Rattle.std.specs.Prelude.{◌≡◌, refl, ◌↔◌, Bool, true, false, List, ◌++◌, ℕ, ◌+◌, ◌-◌, ◌≤◌, length, take, drop}
-use Rattle.std.proofs.Common.{sym, ap, subst, ◌∙◌, arith, take-append-drop, length-drop}
+use Rattle.std.specs.Prelude.{◌≡◌, Bool, true, false, List, ◌++◌, ℕ, ◌+◌, ◌-◌, ◌≤◌, length, take, drop}
+use Rattle.std.proofs.Common.{sym, ap, ◌∙◌, arith, length-drop}
 use borrow.Author.Tests.{leb-true}
 use Rattle.std.proofs.Math.ListN.{length-take}
 use Rattle.std.proofs.lemmas.List.{take-append-le, drop-append-le}
-use Rattle.xdr.specs.Meaning.Bytes.{Bytes, part}
-use Rattle.xdr.specs.Meaning.Refusal.{OfReading}
-use Rattle.xdr.specs.Meaning.Answer.{Answer, took, refused, most, opened}
-use Rattle.xdr.specs.Meaning.Promise.{Begins}
-use Rattle.xdr.specs.Meaning.Public.{Answers, Took, Later}
+use Rattle.xdr.specs.Meaning.Bytes.{part}
+use Rattle.xdr.specs.Meaning.Answer.{Answer, took, refused, most}
 use Rattle.xdr.specs.Meaning.Pieces.{is_inside}
-use Rattle.xdr.specs.Laws.Lists.{bytes_take}
-use Rattle.xdr.specs.Laws.Held.{refused-means}
-use Rattle.xdr.specs.Laws.Promise.{keeps}
-use Rattle.xdr.specs.Laws.Public.{kept, opened_in, opened-took}
-use Rattle.xdr.specs.declared.refusal.Refusal.{Refusal}
 use Rattle.xdr.specs.declared.refusal.Refusal.TheVariants.{Ended}
 use Rattle.xdr.specs.declared.piece.Piece.{Piece}
 use Rattle.rpc.specs.Meaning.Auth.{auth-unix}
-use Rattle.rpc.specs.Meaning.UnixIn.{unix_in, AnswersIn}
-use Rattle.rpc.specs.Laws.UnixIn.{unix-whole}
+use Rattle.rpc.specs.Meaning.UnixIn.{unix_in}
 use Rattle.rpc.specs.declared.auth.auth_unix.{auth_unix}
 
 -- a part of the front of a message is that part of the message

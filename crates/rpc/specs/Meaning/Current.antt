@@ -7,12 +7,11 @@ use Rattle.xdr.specs.Meaning.Kind.{Codec}
 use Rattle.xdr.specs.Meaning.Combinators.{Seen, means, among}
 use Rattle.xdr.specs.Meaning.Format.{Format}
 use Rattle.rpc.specs.Meaning.Messages.{AcceptedReply, ReplyBody, RpcBody, RpcMsg}
-use Rattle.rpc.specs.Meaning.Reading.{accept_arms, Same, Reading}
+use Rattle.rpc.specs.Meaning.Reading.{accept_arms, Reading}
 use Rattle.rpc.specs.Meaning.Reply.{accept_stat_of, auth_stat_of, accept_body_of, accepted_reply_of, rejected_reply_of, reply_body_of}
 use Rattle.rpc.specs.Meaning.Message.{rpc_body_of, rpc_msg_of}
 use Rattle.rpc.specs.declared.current.reply.auth_stat.{auth_stat}
 use Rattle.rpc.specs.declared.current.reply.auth_stat.TheVariants as authStat
-use Rattle.rpc.specs.declared.auth.opaque_auth.{opaque_auth}
 use Rattle.rpc.specs.declared.current.reply.accept_stat.{accept_stat}
 use Rattle.rpc.specs.declared.current.reply.accept_stat.TheVariants as acceptStat
 use Rattle.rpc.specs.declared.reply.mismatch_info.{mismatch_info}

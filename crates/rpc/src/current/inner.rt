@@ -2,14 +2,9 @@
 ghost use Rattle.std.specs.Prelude.{◌≡◌, false};
 ghost use Rattle.xdr.specs.Meaning.Answer.{took};
 ghost use Rattle.rpc.specs.Meaning.Current.{current_accept_stat, current_auth_stat, current_accept_body, current_accepted_reply, current_rejected_reply, current_reply_body, current_rpc_body, current_rpc_msg};
-ghost use Rattle.rpc.specs.Meaning.CurrentViews.{view_current_accept_stat, view_current_auth_stat, view_current_accept_body, view_current_accepted_reply, view_current_rejected_reply, view_current_reply_body, view_current_rpc_body, view_current_rpc_msg};
+ghost use Rattle.xdr.specs.Meaning.Views.{view};
 ghost use Rattle.rpc.specs.Laws.Current.{stray_reply, stray_body};
 
-use crate::answer::{CallBodyRead, MismatchInfoRead, OpaqueAuthRead};
-use crate::current::answer::{
-    CurrentAcceptBodyRead, CurrentAcceptStatRead, CurrentAcceptedReplyRead, CurrentAuthStatRead,
-    CurrentRejectedReplyRead, CurrentReplyBodyRead, CurrentRpcBodyRead, CurrentRpcMsgRead,
-};
 use crate::current::message::{rpc_body, rpc_msg};
 use crate::current::reply::{
     accept_body, accept_stat, accepted_reply, auth_stat, rejected_reply, reply_body,
@@ -19,35 +14,33 @@ use crate::makers::no_auth;
 use crate::message::call_body;
 use crate::reply::mismatch_info;
 use xdr::inner::u32_at;
-use xdr::{Refusal, U32Read};
+use xdr::{Refusal, Took};
 
-pub fn accept_stat_at(src: &[u8], at: usize) -> CurrentAcceptStatRead
-    ensures { view_current_accept_stat result ≡ current_accept_stat.kind.read src.now at }
+pub fn accept_stat_at(src: &[u8], at: usize) -> Result<Took<accept_stat>, Refusal>
+    ensures { view result ≡ current_accept_stat.kind.read src.now at }
 {
-    let r = u32_at(src, at);
-    let U32Read::Took { value: v, next: n } = r else {
-        return CurrentAcceptStatRead::Refused(r.refusal());
-    };
-    let value = match v {
+    let v = u32_at(src, at)?;
+    let value = match v.value {
         0 => accept_stat::SUCCESS,
         1 => accept_stat::PROG_UNAVAIL,
         2 => accept_stat::PROG_MISMATCH,
         3 => accept_stat::PROC_UNAVAIL,
         4 => accept_stat::GARBAGE_ARGS,
         5 => accept_stat::SYSTEM_ERR,
-        _ => return CurrentAcceptStatRead::Refused(Refusal::Undeclared(at)),
+        _ => return Err(Refusal::Undeclared(at)),
     };
-    CurrentAcceptStatRead::Took { value, next: n }
+    Ok(Took {
+        value,
+        next: v.next,
+        plain: true,
+    })
 }
 
-pub fn auth_stat_at(src: &[u8], at: usize) -> CurrentAuthStatRead
-    ensures { view_current_auth_stat result ≡ current_auth_stat.kind.read src.now at }
+pub fn auth_stat_at(src: &[u8], at: usize) -> Result<Took<auth_stat>, Refusal>
+    ensures { view result ≡ current_auth_stat.kind.read src.now at }
 {
-    let r = u32_at(src, at);
-    let U32Read::Took { value: v, next: n } = r else {
-        return CurrentAuthStatRead::Refused(r.refusal());
-    };
-    let value = match v {
+    let v = u32_at(src, at)?;
+    let value = match v.value {
         0 => auth_stat::AUTH_OK,
         1 => auth_stat::AUTH_BADCRED,
         2 => auth_stat::AUTH_REJECTEDCRED,
@@ -63,206 +56,137 @@ pub fn auth_stat_at(src: &[u8], at: usize) -> CurrentAuthStatRead
         12 => auth_stat::AUTH_NET_ADDR,
         13 => auth_stat::RPCSEC_GSS_CREDPROBLEM,
         14 => auth_stat::RPCSEC_GSS_CTXPROBLEM,
-        _ => return CurrentAuthStatRead::Refused(Refusal::Undeclared(at)),
+        _ => return Err(Refusal::Undeclared(at)),
     };
-    CurrentAuthStatRead::Took { value, next: n }
+    Ok(Took {
+        value,
+        next: v.next,
+        plain: true,
+    })
 }
 
 // Tolerance 5: a tag above 5 is GARBAGE_ARGS.
-pub fn accept_body_at(src: &[u8], at: usize) -> CurrentAcceptBodyRead
-    ensures { view_current_accept_body result ≡ current_accept_body.kind.read src.now at }
+pub fn accept_body_at(src: &[u8], at: usize) -> Result<Took<accept_body>, Refusal>
+    ensures { view result ≡ current_accept_body.kind.read src.now at }
 {
-    let r = u32_at(src, at);
-    let U32Read::Took {
-        value: tag,
-        next: n,
-    } = r
-    else {
-        return CurrentAcceptBodyRead::Refused(r.refusal());
-    };
-    let value = match tag {
+    let tag = u32_at(src, at)?;
+    let value = match tag.value {
         0 => accept_body::SUCCESS,
         1 => accept_body::PROG_UNAVAIL,
         2 => {
-            let r2 = mismatch_info_at(src, n);
-            let MismatchInfoRead::Took {
-                value: m,
-                next: next,
-            } = r2
-            else {
-                return CurrentAcceptBodyRead::Refused(r2.refusal());
-            };
-            return CurrentAcceptBodyRead::Took {
-                value: accept_body::PROG_MISMATCH(m),
-                next: next,
-                plain: true,
-            };
+            let m = mismatch_info_at(src, tag.next)?;
+            return Ok(Took {
+                value: accept_body::PROG_MISMATCH(m.value),
+                next: m.next,
+                plain: m.plain,
+            });
         }
         3 => accept_body::PROC_UNAVAIL,
         4 => accept_body::GARBAGE_ARGS,
         5 => accept_body::SYSTEM_ERR,
         _ => {
-            return CurrentAcceptBodyRead::Took {
+            return Ok(Took {
                 value: accept_body::GARBAGE_ARGS,
-                next: n,
+                next: tag.next,
                 plain: false,
-            };
+            });
         }
     };
-    CurrentAcceptBodyRead::Took {
+    Ok(Took {
         value,
-        next: n,
+        next: tag.next,
         plain: true,
-    }
+    })
 }
 
-pub fn accepted_reply_at(src: &[u8], at: usize) -> CurrentAcceptedReplyRead
-    ensures { view_current_accepted_reply result ≡ current_accepted_reply.held.read src.now at }
+pub fn accepted_reply_at(src: &[u8], at: usize) -> Result<Took<accepted_reply>, Refusal>
+    ensures { view result ≡ current_accepted_reply.held.read src.now at }
 {
-    let r1 = opaque_auth_at(src, at);
-    let OpaqueAuthRead::Took {
-        value: verf,
-        next: n1,
-        plain: p1,
-    } = r1
-    else {
-        return CurrentAcceptedReplyRead::Refused(r1.refusal());
-    };
-    let r2 = accept_body_at(src, n1);
-    let CurrentAcceptBodyRead::Took {
-        value: reply_data,
-        next: n2,
-        plain: p2,
-    } = r2
-    else {
-        return CurrentAcceptedReplyRead::Refused(r2.refusal());
-    };
-    CurrentAcceptedReplyRead::Took {
-        value: accepted_reply { verf, reply_data },
-        next: n2,
-        plain: p1 & p2,
-    }
+    let verf = opaque_auth_at(src, at)?;
+    let reply_data = accept_body_at(src, verf.next)?;
+    Ok(Took {
+        value: accepted_reply {
+            verf: verf.value,
+            reply_data: reply_data.value,
+        },
+        next: reply_data.next,
+        plain: verf.plain & reply_data.plain,
+    })
 }
 
 // Tolerance 6: a tag of 2 or more is RPC_MISMATCH 0, 0, and nothing more is read.
-pub fn rejected_reply_at(src: &[u8], at: usize) -> CurrentRejectedReplyRead
-    ensures { view_current_rejected_reply result ≡ current_rejected_reply.kind.read src.now at }
+pub fn rejected_reply_at(src: &[u8], at: usize) -> Result<Took<rejected_reply>, Refusal>
+    ensures { view result ≡ current_rejected_reply.kind.read src.now at }
 {
-    let r = u32_at(src, at);
-    let U32Read::Took {
-        value: tag,
-        next: n,
-    } = r
-    else {
-        return CurrentRejectedReplyRead::Refused(r.refusal());
-    };
-    match tag {
+    let tag = u32_at(src, at)?;
+    match tag.value {
         0 => {
-            let r0 = mismatch_info_at(src, n);
-            let MismatchInfoRead::Took {
-                value: m,
-                next: next,
-            } = r0
-            else {
-                return CurrentRejectedReplyRead::Refused(r0.refusal());
-            };
-            return CurrentRejectedReplyRead::Took {
-                value: rejected_reply::RPC_MISMATCH(m),
-                next: next,
-                plain: true,
-            };
+            let m = mismatch_info_at(src, tag.next)?;
+            Ok(Took {
+                value: rejected_reply::RPC_MISMATCH(m.value),
+                next: m.next,
+                plain: m.plain,
+            })
         }
         1 => {
-            let r1 = auth_stat_at(src, n);
-            let CurrentAuthStatRead::Took {
-                value: a,
-                next: next,
-            } = r1
-            else {
-                return CurrentRejectedReplyRead::Refused(r1.refusal());
-            };
-            return CurrentRejectedReplyRead::Took {
-                value: rejected_reply::AUTH_ERROR(a),
-                next: next,
-                plain: true,
-            };
+            let a = auth_stat_at(src, tag.next)?;
+            Ok(Took {
+                value: rejected_reply::AUTH_ERROR(a.value),
+                next: a.next,
+                plain: a.plain,
+            })
         }
-        _ => {}
-    }
-    CurrentRejectedReplyRead::Took {
-        value: rejected_reply::RPC_MISMATCH(mismatch_info { low: 0, high: 0 }),
-        next: n,
-        plain: false,
+        _ => Ok(Took {
+            value: rejected_reply::RPC_MISMATCH(mismatch_info { low: 0, high: 0 }),
+            next: tag.next,
+            plain: false,
+        }),
     }
 }
 
-fn stray_reply(n: usize) -> CurrentReplyBodyRead
-    ensures { view_current_reply_body result ≡ took stray_reply n false }
+fn stray_reply(n: usize) -> Result<Took<reply_body>, Refusal>
+    ensures { view result ≡ took stray_reply n false }
 {
-    CurrentReplyBodyRead::Took {
+    Ok(Took {
         value: reply_body::MSG_ACCEPTED(accepted_reply {
             verf: no_auth(),
             reply_data: accept_body::SUCCESS,
         }),
         next: n,
         plain: false,
-    }
+    })
 }
 
 // Tolerance 4: a tag of 2 or more is MSG_ACCEPTED, null verifier, SUCCESS, and nothing more is read.
-pub fn reply_body_at(src: &[u8], at: usize) -> CurrentReplyBodyRead
-    ensures { view_current_reply_body result ≡ current_reply_body.held.read src.now at }
+pub fn reply_body_at(src: &[u8], at: usize) -> Result<Took<reply_body>, Refusal>
+    ensures { view result ≡ current_reply_body.held.read src.now at }
 {
-    let r = u32_at(src, at);
-    let U32Read::Took {
-        value: tag,
-        next: n,
-    } = r
-    else {
-        return CurrentReplyBodyRead::Refused(r.refusal());
-    };
-    match tag {
+    let tag = u32_at(src, at)?;
+    match tag.value {
         0 => {
-            let r0 = accepted_reply_at(src, n);
-            let CurrentAcceptedReplyRead::Took {
-                value: a,
-                next: next,
-                plain: p,
-            } = r0
-            else {
-                return CurrentReplyBodyRead::Refused(r0.refusal());
-            };
-            return CurrentReplyBodyRead::Took {
-                value: reply_body::MSG_ACCEPTED(a),
-                next: next,
-                plain: p,
-            };
+            let a = accepted_reply_at(src, tag.next)?;
+            Ok(Took {
+                value: reply_body::MSG_ACCEPTED(a.value),
+                next: a.next,
+                plain: a.plain,
+            })
         }
         1 => {
-            let r1 = rejected_reply_at(src, n);
-            let CurrentRejectedReplyRead::Took {
-                value: d,
-                next: next,
-                plain: p,
-            } = r1
-            else {
-                return CurrentReplyBodyRead::Refused(r1.refusal());
-            };
-            return CurrentReplyBodyRead::Took {
-                value: reply_body::MSG_DENIED(d),
-                next: next,
-                plain: p,
-            };
+            let d = rejected_reply_at(src, tag.next)?;
+            Ok(Took {
+                value: reply_body::MSG_DENIED(d.value),
+                next: d.next,
+                plain: d.plain,
+            })
         }
-        _ => {}
+        _ => stray_reply(tag.next),
     }
-    stray_reply(n)
 }
 
-fn stray_body(n: usize) -> CurrentRpcBodyRead
-    ensures { view_current_rpc_body result ≡ took stray_body n false }
+fn stray_body(n: usize) -> Result<Took<rpc_body>, Refusal>
+    ensures { view result ≡ took stray_body n false }
 {
-    CurrentRpcBodyRead::Took {
+    Ok(Took {
         value: rpc_body::CALL(call_body {
             rpcvers: 0,
             prog: 0,
@@ -273,82 +197,46 @@ fn stray_body(n: usize) -> CurrentRpcBodyRead
         }),
         next: n,
         plain: false,
-    }
+    })
 }
 
 // Tolerance 3: a tag of 2 or more is a CALL with every field zero and empty, and nothing more is read.
-pub fn rpc_body_at(src: &[u8], at: usize) -> CurrentRpcBodyRead
-    ensures { view_current_rpc_body result ≡ current_rpc_body.held.read src.now at }
+pub fn rpc_body_at(src: &[u8], at: usize) -> Result<Took<rpc_body>, Refusal>
+    ensures { view result ≡ current_rpc_body.held.read src.now at }
 {
-    let r = u32_at(src, at);
-    let U32Read::Took {
-        value: tag,
-        next: n,
-    } = r
-    else {
-        return CurrentRpcBodyRead::Refused(r.refusal());
-    };
-    match tag {
+    let tag = u32_at(src, at)?;
+    match tag.value {
         0 => {
-            let r0 = call_body_at(src, n);
-            let CallBodyRead::Took {
-                value: c,
-                next: next,
-                plain: p,
-            } = r0
-            else {
-                return CurrentRpcBodyRead::Refused(r0.refusal());
-            };
-            return CurrentRpcBodyRead::Took {
-                value: rpc_body::CALL(c),
-                next: next,
-                plain: p,
-            };
+            let c = call_body_at(src, tag.next)?;
+            Ok(Took {
+                value: rpc_body::CALL(c.value),
+                next: c.next,
+                plain: c.plain,
+            })
         }
         1 => {
-            let r1 = reply_body_at(src, n);
-            let CurrentReplyBodyRead::Took {
-                value: r,
-                next: next,
-                plain: p,
-            } = r1
-            else {
-                return CurrentRpcBodyRead::Refused(r1.refusal());
-            };
-            return CurrentRpcBodyRead::Took {
-                value: rpc_body::REPLY(r),
-                next: next,
-                plain: p,
-            };
+            let r = reply_body_at(src, tag.next)?;
+            Ok(Took {
+                value: rpc_body::REPLY(r.value),
+                next: r.next,
+                plain: r.plain,
+            })
         }
-        _ => {}
+        _ => stray_body(tag.next),
     }
-    stray_body(n)
 }
 
-pub fn rpc_msg_at(src: &[u8], at: usize) -> CurrentRpcMsgRead
-    ensures { view_current_rpc_msg result ≡ current_rpc_msg.held.read src.now at }
+pub fn rpc_msg_at(src: &[u8], at: usize) -> Result<Took<rpc_msg>, Refusal>
+    ensures { view result ≡ current_rpc_msg.held.read src.now at }
 {
-    let r1 = u32_at(src, at);
-    let U32Read::Took {
-        value: xid,
-        next: n1,
-    } = r1
-    else {
-        return CurrentRpcMsgRead::Refused(r1.refusal());
-    };
-    let r2 = rpc_body_at(src, n1);
-    let CurrentRpcBodyRead::Took {
-        value: body,
-        next: n2,
-        plain: p1,
-    } = r2
-    else {
-        return CurrentRpcMsgRead::Refused(r2.refusal());
-    };
-    CurrentRpcMsgRead::Took {
-        value: rpc_msg { xid, body },
-        next: n2,
-        plain: p1,
-    }
+    let xid = u32_at(src, at)?;
+    let body = rpc_body_at(src, xid.next)?;
+    Ok(Took {
+        value: rpc_msg {
+            xid: xid.value,
+            body: body.value,
+        },
+        next: body.next,
+        plain: xid.plain & body.plain,
+    })
 }

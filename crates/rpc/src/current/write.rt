@@ -18,29 +18,34 @@ use crate::current::reply::{
     accept_body, accept_stat, accepted_reply, auth_stat, rejected_reply, reply_body,
 };
 use xdr::order::place;
-use xdr::{Wrote, write_u32};
+use xdr::{Refusal, write_u32};
 
-pub fn write_current_accept_stat(m: accept_stat, out: &mut [u8], at: usize) -> Wrote
+pub fn write_current_accept_stat(
+    m: accept_stat,
+    out: &mut [u8],
+    at: usize,
+) -> Result<usize, Refusal>
     ensures { Writes (exactly current_accept_stat) [] m at out.old (view_wrote result) out.new }
 {
     write_u32(m.number(), out, at)
 }
 
-pub fn write_current_auth_stat(m: auth_stat, out: &mut [u8], at: usize) -> Wrote
+pub fn write_current_auth_stat(m: auth_stat, out: &mut [u8], at: usize) -> Result<usize, Refusal>
     ensures { Writes (exactly current_auth_stat) [] m at out.old (view_wrote result) out.new }
 {
     write_u32(m.number(), out, at)
 }
 
-pub fn write_current_accept_body(m: accept_body, out: &mut [u8], at: usize) -> Wrote
+pub fn write_current_accept_body(
+    m: accept_body,
+    out: &mut [u8],
+    at: usize,
+) -> Result<usize, Refusal>
     ensures { Writes (exactly current_accept_body) [] m at out.old (view_wrote result) out.new }
 {
-    let w = place(0, true, accept_body_size(m), out.len(), at);
-    let Wrote::Done(_) = w else {
-        return w;
-    };
+    let end = place(0, true, accept_body_size(m), out.len(), at)?;
     put_accept_body(m, &mut out[at..]);
-    w
+    Ok(end)
 }
 
 pub fn write_current_accepted_reply(
@@ -48,82 +53,86 @@ pub fn write_current_accepted_reply(
     m: accepted_reply,
     out: &mut [u8],
     at: usize,
-) -> Wrote
+) -> Result<usize, Refusal>
     ensures { Writes current_accepted_reply src.now m at out.old (view_wrote result) out.new }
 {
-    let w = place(
+    let end = place(
         src.len(),
         accepted_reply_inside(src, m),
         accepted_reply_size(m),
         out.len(),
         at,
-    );
-    let Wrote::Done(_) = w else {
-        return w;
-    };
+    )?;
     put_accepted_reply(src, m, &mut out[at..]);
-    w
+    Ok(end)
 }
 
-pub fn write_current_rejected_reply(m: rejected_reply, out: &mut [u8], at: usize) -> Wrote
+pub fn write_current_rejected_reply(
+    m: rejected_reply,
+    out: &mut [u8],
+    at: usize,
+) -> Result<usize, Refusal>
     ensures { Writes (exactly current_rejected_reply) [] m at out.old (view_wrote result) out.new }
 {
-    let w = place(0, true, rejected_reply_size(m), out.len(), at);
-    let Wrote::Done(_) = w else {
-        return w;
-    };
+    let end = place(0, true, rejected_reply_size(m), out.len(), at)?;
     put_rejected_reply(m, &mut out[at..]);
-    w
+    Ok(end)
 }
 
-pub fn write_current_reply_body(src: &[u8], m: reply_body, out: &mut [u8], at: usize) -> Wrote
+pub fn write_current_reply_body(
+    src: &[u8],
+    m: reply_body,
+    out: &mut [u8],
+    at: usize,
+) -> Result<usize, Refusal>
     ensures { Writes current_reply_body src.now m at out.old (view_wrote result) out.new }
 {
-    let w = place(
+    let end = place(
         src.len(),
         reply_body_inside(src, m),
         reply_body_size(m),
         out.len(),
         at,
-    );
-    let Wrote::Done(_) = w else {
-        return w;
-    };
+    )?;
     put_reply_body(src, m, &mut out[at..]);
-    w
+    Ok(end)
 }
 
-pub fn write_current_rpc_body(src: &[u8], m: rpc_body, out: &mut [u8], at: usize) -> Wrote
+pub fn write_current_rpc_body(
+    src: &[u8],
+    m: rpc_body,
+    out: &mut [u8],
+    at: usize,
+) -> Result<usize, Refusal>
     ensures { Writes current_rpc_body src.now m at out.old (view_wrote result) out.new }
 {
-    let w = place(
+    let end = place(
         src.len(),
         rpc_body_inside(src, m),
         rpc_body_size(m),
         out.len(),
         at,
-    );
-    let Wrote::Done(_) = w else {
-        return w;
-    };
+    )?;
     put_rpc_body(src, m, &mut out[at..]);
-    w
+    Ok(end)
 }
 
-pub fn write_current_rpc_msg(src: &[u8], m: rpc_msg, out: &mut [u8], at: usize) -> Wrote
+pub fn write_current_rpc_msg(
+    src: &[u8],
+    m: rpc_msg,
+    out: &mut [u8],
+    at: usize,
+) -> Result<usize, Refusal>
     ensures { Writes current_rpc_msg src.now m at out.old (view_wrote result) out.new }
 {
     let body = m.body;
-    let w = place(
+    let end = place(
         src.len(),
         rpc_body_inside(src, body),
         4 + rpc_body_size(body),
         out.len(),
         at,
-    );
-    let Wrote::Done(_) = w else {
-        return w;
-    };
+    )?;
     put_rpc_msg(src, m, &mut out[at..]);
-    w
+    Ok(end)
 }

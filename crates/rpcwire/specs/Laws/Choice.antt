@@ -2,7 +2,7 @@
 -- Assumes nothing.
 use Rattle.std.proofs.Math.Path.{◌≡◌, refl, sym, ap}
 use Rattle.std.proofs.Common.{subst, ◌∙◌, inl, inr, ⊎_elim, arith, length-append, length-drop, drop_at}
-use Rattle.std.specs.Prelude.{Bool, cond, ◌⊎◌, List, [], ◌++◌, ℕ, ◌+◌, ◌-◌, ◌≤◌, ◌<◌, eqb, leb, length, drop}
+use Rattle.std.specs.Prelude.{Bool, cond, ◌⊎◌, List, [], ◌++◌, ℕ, ◌-◌, ◌≤◌, ◌<◌, eqb, leb, length, drop, Result, Ok, Err}
 use Rattle.std.proofs.Math.Bool.{true, false}
 use Rattle.std.proofs.Math.Option.{Option, none, some}
 use borrow.Author.Tests.{eq-eqb, ne_eqb, le-leb, lt-leb, leb-true, leb-false}
@@ -20,12 +20,11 @@ use Rattle.rpc.specs.Meaning.Reply.{accept_body_of, accepted_reply_of, rejected_
 use Rattle.rpc.specs.Meaning.Message.{rpc_body_of, rpc_msg_of}
 use Rattle.rpc.specs.Meaning.Makers.{vers_mismatch_of, prog_unavail}
 use Rattle.rpc.specs.Meaning.UnixIn.{unix_in}
-use Rattle.rpc.specs.Meaning.Views.{view_auth_unix, lost_auth_unix}
+use Rattle.xdr.specs.Meaning.Views.{view}
 use Rattle.rpc.specs.declared.auth.auth_flavor.{auth_flavor}
 use Rattle.rpc.specs.declared.auth.auth_flavor.TheVariants.{AUTH_NULL, AUTH_UNIX, AUTH_SHORT, AUTH_DES}
 use Rattle.rpc.specs.declared.auth.auth_unix.{auth_unix}
-use Rattle.rpc.specs.declared.answer.AuthUnixRead.{AuthUnixRead}
-use Rattle.rpc.specs.declared.answer.AuthUnixRead.TheVariants as Unix
+use Rattle.xdr.specs.declared.answer.Took.{Took}
 use Rattle.rpc.specs.declared.message.call_body.{call_body}
 use Rattle.rpc.specs.declared.message.rpc_msg.{rpc_msg}
 use Rattle.rpcwire.specs.Meaning.Choice.{Decision, refuse, reply, silence, hand_over, served, by_program, by_version, by_unix, by_flavor, by_body, by_message, decided, Chosen, turned_away, replied, silent, handed, Outcome, outcome, replying, carried_out, Chooses, Leaves, ChoicePromised}
@@ -145,31 +144,29 @@ module _ {Stat Auth Accept Rejected Accepted Reply Body Msg : Type 0} (R : Readi
     took-call f g = g ∙ sym (ap (λ d. carried_out d o) (by-body f))
 
 -- by the answers of the calls: that of the reader of auth_unix, and that of a reading's reader of messages
-module _ (s : List ℕ) (seen : Bool) (o : List ℕ) (v x : ℕ) (c : call_body) (n : ℕ) (r : AuthUnixRead) where
-  pub unix-lost : (q u : Refusal) → c.cred.flavor ≡ AUTH_UNIX → q ≡ lost_auth_unix r → view_auth_unix r ≡ unix_in s c.cred.body → r ≡ Unix.Refused u
+module _ (s : List ℕ) (seen : Bool) (o : List ℕ) (v x : ℕ) (c : call_body) (n : ℕ) (r : Result (Took auth_unix) Refusal) where
+  pub unix-lost : (q : Refusal) → c.cred.flavor ≡ AUTH_UNIX → view r ≡ unix_in s c.cred.body → r ≡ Err q
       → outcome (turned_away q) o ≡ carried_out (by_flavor s seen v x c n c.cred.flavor) o
-  unix-lost q u h g e f = unix-refused s seen o v x c n h (off view_auth_unix lost_auth_unix e f g refl)
+  unix-lost q h e f = unix-refused s seen o v x c n h (off e f)
 
-  pub unix-given : (a : auth_unix) (k : ℕ) (b : Bool) (z : Outcome) → c.cred.flavor ≡ AUTH_UNIX → view_auth_unix r ≡ unix_in s c.cred.body
-      → r ≡ Unix.Took a k b → z ≡ carried_out (by_version seen v x c (some a) n) o → z ≡ carried_out (by_flavor s seen v x c n c.cred.flavor) o
-  unix-given a k b z h e f g = unix-took s seen o v x c n h (on view_auth_unix e f) g
+  pub unix-given : (t : Took auth_unix) (z : Outcome) → c.cred.flavor ≡ AUTH_UNIX → view r ≡ unix_in s c.cred.body
+      → r ≡ Ok t → z ≡ carried_out (by_version seen v x c (some t.value) n) o → z ≡ carried_out (by_flavor s seen v x c n c.cred.flavor) o
+  unix-given t z h e f g = unix-took s seen o v x c n h (on e f) g
 
-module _ {Stat Auth Accept Rejected Accepted Reply Body Msg : Type 0} (R : Reading Stat Auth Accept Rejected Accepted Reply Body Msg) {Q : Type 0} (view : Q → Answer Msg) (lost : Q → Refusal) where
-  pub message-lost : (s : List ℕ) (seen : Bool) (o : List ℕ) (r t : Q) (q : Refusal) → Answers (rpc_msg_of R) s 0 (view r) → r ≡ t
-      → view t ≡ refused (lost t) → q ≡ lost r → Chooses R s seen o (turned_away q) o
-  message-lost s seen o r t q a e h g = record { is = not_taken R s seen o (off view lost a.is e g h); bytes = a.bytes }
+module _ {Stat Auth Accept Rejected Accepted Reply Body Msg : Type 0} (R : Reading Stat Auth Accept Rejected Accepted Reply Body Msg)
+    (s : List ℕ) (seen : Bool) (o : List ℕ) (r : Result (Took Msg) Refusal) where
+  pub message-lost : (q : Refusal) → Answers (rpc_msg_of R) s 0 (view r) → r ≡ Err q → Chooses R s seen o (turned_away q) o
+  message-lost q a e = record { is = not_taken R s seen o (off a.is e); bytes = a.bytes }
 
--- `Took` is what the reader's type calls an answer that took a message
-module _ {Stat Auth Accept Rejected Accepted Reply Body Msg : Type 0} (R : Reading Stat Auth Accept Rejected Accepted Reply Body Msg) {Q : Type 0} (view : Q → Answer Msg) (Took : Msg → ℕ → Bool → Q)
-    (is : (m : Msg) (n : ℕ) (b : Bool) → view (Took m n b) ≡ took m n b) where
-  pub message-reply : (s : List ℕ) (seen : Bool) (o : List ℕ) (r : Q) (m : Msg) (n : ℕ) (b : Bool) (y : Reply) → Answers (rpc_msg_of R) s 0 (view r)
-      → r ≡ Took m n b → (R.msg.from m).1 ≡ R.body.to (inr y) → Chooses R s seen o (turned_away NotCall) o
-  message-reply s seen o r m n b y a e f = record { is = took-reply R s seen o (on view a.is e ∙ is m n b) f; bytes = a.bytes }
+  module _ (t : Took Msg) where
+    pub message-reply : (y : Reply) → Answers (rpc_msg_of R) s 0 (view r) → r ≡ Ok t → (R.msg.from t.value).1 ≡ R.body.to (inr y)
+        → Chooses R s seen o (turned_away NotCall) o
+    message-reply y a e f = record { is = took-reply R s seen o (on a.is e) f; bytes = a.bytes }
 
-  pub message-call : (s : List ℕ) (seen : Bool) (o : List ℕ) (r : Q) (m : Msg) (n : ℕ) (b : Bool) (c : call_body) (w : Chosen) (o' : List ℕ)
-      → Answers (rpc_msg_of R) s 0 (view r) → r ≡ Took m n b → (R.msg.from m).1 ≡ R.body.to (inl c)
-      → outcome w o' ≡ carried_out (by_flavor s seen R.serves (R.msg.from m).0 c n c.cred.flavor) o → Chooses R s seen o w o'
-  message-call s seen o r m n b c w o' a e f g = record { is = g ∙ sym (ap (λ d. carried_out d o) (by-body R s seen o (on view a.is e ∙ is m n b) f)); bytes = a.bytes }
+    pub message-call : (c : call_body) (w : Chosen) (o' : List ℕ) → Answers (rpc_msg_of R) s 0 (view r) → r ≡ Ok t
+        → (R.msg.from t.value).1 ≡ R.body.to (inl c)
+        → outcome w o' ≡ carried_out (by_flavor s seen R.serves (R.msg.from t.value).0 c t.next c.cred.flavor) o → Chooses R s seen o w o'
+    message-call c w o' a e f g = record { is = g ∙ sym (ap (λ d. carried_out d o) (by-body R s seen o (on a.is e) f)); bytes = a.bytes }
 
 -- ---- the promise
 

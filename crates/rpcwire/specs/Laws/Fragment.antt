@@ -3,13 +3,13 @@
 use Rattle.std.proofs.Math.Path.{◌≡◌, refl, sym, ap, ap₂}
 use Rattle.std.proofs.Common.{◌∙◌, zero-add, div-add-mod'}
 use mathlib.Core.List.{List, [], ◌∷◌, ◌++◌, foldl, append_assoc}
-use Rattle.std.specs.Prelude.{Bool, true, false, leb}
+use Rattle.std.specs.Prelude.{true}
 use Prim.Native.Nat.{ℕ, ◌+◌, ◌-◌, ◌*◌, ◌/◌, ◌%◌, ◌≤◌, ◌<◌}
 use native.Mathlib.Omega.{arith}
 use Rattle.std.proofs.Math.ListN.{length, take, drop, length-append, length-drop}
 use Rattle.std.proofs.lemmas.List.Edits.{sets, sets-eq}
 use Rattle.std.proofs.Math.Seq.{length-take-le, take_at, drop_at, drop-drop}
-use borrow.Author.Tests.{le-leb, lt-leb, leb-true}
+use borrow.Author.Tests.{le-leb, lt-leb}
 use borrow.Rule.Slice.PartMut.{mid_of, put_mid}
 use Rattle.xdr.specs.Meaning.Bytes.{Bytes}
 use Rattle.xdr.specs.Meaning.Answer.{most, Written, done, unwritten}
@@ -18,12 +18,11 @@ use Rattle.xdr.specs.Meaning.Public.{laid}
 use Rattle.xdr.specs.Laws.Padding.{word-length}
 use Rattle.xdr.specs.Laws.Write.{copy-put, laid-is, laid-at, room_at}
 use Rattle.rpcwire.specs.Meaning.Stream.{Said, more, complete, stand, fresh, advance, after, step_at, header_byte, headed, settled, feed_of}
-use Rattle.rpcwire.specs.Meaning.Fragment.{fragment_of, fragment_said, fragment_left, WritesFragment, FragmentBack}
+use Rattle.rpcwire.specs.Meaning.Fragment.{fragment_of, fragment_said, fragment_left, WritesFragment}
 use Rattle.rpcwire.specs.Laws.Steps.{begin-more, settled-done, walk-ended}
 use Rattle.rpcwire.specs.Laws.Promise.{fresh-fits}
 use Rattle.rpcwire.specs.Laws.Turns.{copied-walk}
 use Rattle.xdr.specs.declared.refusal.Refusal.TheVariants.{TooLong, NoRoom, PastEnd}
-use Rattle.xdr.specs.declared.refusal.Refusal.{Refusal}
 
 -- ---- the writer, by case
 

@@ -1,33 +1,27 @@
 -- Two answers that a contract permits are one, in the code's own types.
 -- Assumes nothing.
-use Rattle.std.specs.Prelude.{◌≡◌, refl, Bool, List, ℕ}
-use Rattle.std.proofs.Common.{sym, ap, ◌∙◌}
-use Rattle.xdr.specs.Meaning.Views.{view_wrote}
+use Rattle.std.specs.Prelude.{◌≡◌, refl, Bool, List, ℕ, Result, Ok, Err, Some, None}
+use Rattle.std.proofs.Common.{sym, ◌∙◌}
+use Rattle.xdr.specs.Meaning.Views.{view_wrote, view_option}
 use Rattle.xdr.specs.Laws.One.{Told, wrote-told}
-use Rattle.xdr.specs.declared.answer.Wrote.{Wrote}
+use Rattle.xdr.specs.declared.refusal.Refusal.{Refusal}
 use Rattle.rpc.specs.Meaning.Reading.{Reading}
 use Rattle.rpcwire.specs.Meaning.Stream.{Feeds, fresh_of}
 use Rattle.rpcwire.specs.Meaning.Fragment.{WritesFragment}
 use Rattle.rpcwire.specs.Meaning.Choice.{Chooses}
-use Rattle.rpcwire.specs.Meaning.Views.{view_made, view_fed, view_caller, view_choice}
+use Rattle.rpcwire.specs.Meaning.Views.{view_made, view_fed, view_choice}
 use Rattle.rpcwire.specs.Laws.Promise.{promised}
 use Rattle.rpcwire.specs.Laws.Fragment.{one-fragment}
 use Rattle.rpcwire.specs.Laws.Choice.{said-held}
 use Rattle.rpcwire.specs.declared.assembler.Assembler.{Assembler}
-use Rattle.rpcwire.specs.declared.assembler.AssemblerMade.{AssemblerMade}
-use Rattle.rpcwire.specs.declared.assembler.AssemblerMade.TheVariants as Asked
 use Rattle.rpcwire.specs.declared.assembler.Fed.{Fed}
-use Rattle.rpcwire.specs.declared.assembler.Fed.TheVariants as Fed
-use Rattle.rpcwire.specs.declared.choice.Caller.{Caller}
-use Rattle.rpcwire.specs.declared.choice.Caller.TheVariants as Caller
 use Rattle.rpcwire.specs.declared.choice.Choice.{Choice}
-use Rattle.rpcwire.specs.declared.choice.Choice.TheVariants as Choice
 
 pub made_told : Told view_made
-made_told (Asked.Ready s) (Asked.Ready s') e = cc
-made_told (Asked.Ready s) (Asked.Refused r) e = cc
-made_told (Asked.Refused r) (Asked.Ready s) e = cc
-made_told (Asked.Refused r) (Asked.Refused r') e = cc
+made_told (Ok s) (Ok s') e = cc
+made_told (Ok s) (Err r) e = cc
+made_told (Err r) (Ok s) e = cc
+made_told (Err r) (Err r') e = cc
 
 pub fed-told : Told view_fed
 fed-told (Fed.More s u) (Fed.More s' u') e = cc
@@ -40,16 +34,17 @@ fed-told (Fed.Refused r s u) (Fed.More s' u') e = cc
 fed-told (Fed.Refused r s u) (Fed.Complete n s' u') e = cc
 fed-told (Fed.Refused r s u) (Fed.Refused r' s' u') e = cc
 
-pub caller-told : Told view_caller
-caller-told Caller.Unnamed Caller.Unnamed e = refl
-caller-told Caller.Unnamed (Caller.Unix a) e = cc
-caller-told (Caller.Unix a) Caller.Unnamed e = cc
-caller-told (Caller.Unix a) (Caller.Unix a') e = cc
+-- of a caller, and of whatever else may be there
+pub option-told : {A : Type 0} → Told (view_option {A = A})
+option-told None None e = refl
+option-told None (Some a) e = cc
+option-told (Some a) None e = cc
+option-told (Some a) (Some a') e = cc
 
 pub choice-told : Told view_choice
 choice-told (Choice.HandOver p v f c n) (Choice.HandOver p' v' f' c' n') e =
-    let h : view_caller c ≡ view_caller c' = cc in
-    let k : c ≡ c' = caller-told c c' h in
+    let h : view_option c ≡ view_option c' = cc in
+    let k : c ≡ c' = option-told c c' h in
     cc
 choice-told (Choice.HandOver p v f c n) (Choice.Replied m) e = cc
 choice-told (Choice.HandOver p v f c n) Choice.Silent e = cc
@@ -68,13 +63,13 @@ choice-told (Choice.Refused r) Choice.Silent e = cc
 choice-told (Choice.Refused r) (Choice.Refused r') e = cc
 
 -- the assembler's maker, `feed`, `write_fragment` and `choose`
-pub made_one : (c : ℕ) (r r' : AssemblerMade) → view_made r ≡ fresh_of c → view_made r' ≡ fresh_of c → r ≡ r'
+pub made_one : (c : ℕ) (r r' : Result Assembler Refusal) → view_made r ≡ fresh_of c → view_made r' ≡ fresh_of c → r ≡ r'
 made_one c r r' e f = made_told r r' (e ∙ sym f)
 
 pub feed-one : {s : Assembler} {run d d' e : List ℕ} (r r' : Fed) → Feeds s run d (view_fed r) d' → Feeds s run d (view_fed r') e → (r ≡ r') × (d' ≡ e)
 feed-one r r' c d = let o = (promised c).one d in (fed-told r r' o.0, o.1)
 
-pub fragment-one : (m : List ℕ) (at : ℕ) (o : List ℕ) (r r' : Wrote) {p q : List ℕ} → WritesFragment m at o (view_wrote r) p
+pub fragment-one : (m : List ℕ) (at : ℕ) (o : List ℕ) (r r' : Result ℕ Refusal) {p q : List ℕ} → WritesFragment m at o (view_wrote r) p
     → WritesFragment m at o (view_wrote r') q → (r ≡ r') × (p ≡ q)
 fragment-one m at o r r' c d = let f = one-fragment m at o c d in (wrote-told r r' f.0, f.1)
 

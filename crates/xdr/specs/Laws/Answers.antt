@@ -2,9 +2,13 @@
 -- Assumes nothing.
 use Rattle.std.proofs.Math.Path.{◌≡◌, refl}
 use Rattle.std.proofs.Common.{sym, ap, ◌∙◌}
-use Rattle.std.specs.Prelude.{Bool, true, false, cond, not, List, leb, ltb, eqb, ℤ}
+use Rattle.std.specs.Prelude.{Bool, true, false, cond, not, List, leb, ltb, eqb, ℤ, Result, Ok, Err, IsErrAnd}
 use Prim.Native.Nat.{ℕ, zero, suc, ◌+◌, ◌*◌, ◌-◌, ◌≤◌, ◌<◌}
 use native.Mathlib.Omega.{arith}
+use Rattle.std.proofs.lemmas.Result.{err_from_is_err_and}
+use Rattle.std.specs.Result.{result_from_control_flow}
+use Rattle.std.specs.declared.ops.ControlFlow.{ControlFlow}
+use Rattle.std.specs.declared.ops.ControlFlow.TheVariants.{Continue, Break}
 use Rattle.std.proofs.Math.ListN.{length}
 use borrow.Author.Tests.{leb-true, leb-false, le-leb, lt-leb, le-ltb, ne_eqb}
 use Rattle.xdr.specs.Meaning.Bytes.{number_at, signed}
@@ -15,18 +19,37 @@ use Rattle.xdr.specs.Meaning.Items.{number, word, hyper, word_pair, hyper_pair, 
 use Rattle.xdr.specs.Meaning.Formats.{eight_held, piece_held, words_held}
 use Rattle.xdr.specs.Meaning.Pieces.{piece_answer}
 use Rattle.xdr.specs.Laws.Reading.{number_read}
+use Rattle.xdr.specs.Meaning.Views.{view}
 use Rattle.xdr.specs.declared.refusal.Refusal.{Refusal}
+use Rattle.xdr.specs.declared.answer.Took.{Took}
 use Rattle.xdr.specs.declared.refusal.Refusal.TheVariants.{Ended}
 
 -- of any answer of the code: what it says where it was taken apart
-module _ {R A : Type 0} (view : R → Answer A) {x : Answer A} {r t : R} where
+module _ {A : Type 0} {x : Answer A} {r : Result (Took A) Refusal} where
   -- it took
-  pub on : view r ≡ x → r ≡ t → x ≡ view t
+  pub on : {t : Took A} → view r ≡ x → r ≡ Ok t → x ≡ took t.value t.next t.plain
   on e f = sym e ∙ ap view f
 
   -- it refused
-  pub off : (lost : R → Refusal) {q : Refusal} → view r ≡ x → r ≡ t → q ≡ lost r → view t ≡ refused (lost t) → x ≡ refused q
-  off lost e f g h = sym e ∙ ap view f ∙ h ∙ ap refused (sym (g ∙ ap lost f))
+  pub off : {q : Refusal} → view r ≡ x → r ≡ Err q → x ≡ refused q
+  off e f = sym e ∙ ap view f
+
+-- what a `?` returns: the refusal that it was handed
+pub exit : {T : Type 0} {r : Result T Refusal} {q : Refusal} → IsErrAnd r (λ e. e ≡ q) → r ≡ Err q
+exit {T} {r} {q} h = let p = err_from_is_err_and r h in p.1 ∙ ap Err p.2
+
+pub exits : {T : Type 0} (r : Result (Took T) Refusal) {q : Refusal} {z : Answer T} → IsErrAnd r (λ e. e ≡ q) → refused q ≡ z → view r ≡ z
+exits r h e = ap view (exit h) ∙ e
+
+-- what a `?` found in its operand
+module _ {T : Type 0} {r : Result T Refusal} {b : ControlFlow _ T} (e : r ≡ result_from_control_flow b) where
+  pub was-ok : {x : T} → b ≡ Continue x → r ≡ Ok x
+  was-ok f = e ∙ ap result_from_control_flow f
+
+  pub was-err : {q : _} → b ≡ Break q → r ≡ Err q.0
+  was-err f = e ∙ ap result_from_control_flow f
+
+pub ruleset tries = (was-ok, was-err)
 
 -- a number of k bytes, by the room for it
 module _ (k : ℕ) (s : List ℕ) (p : ℕ) where
@@ -57,6 +80,18 @@ module _ (k : ℕ) (s : List ℕ) (p : ℕ) where
   by-no-room {r} false e f =
       let g : ◌≡◌ {A = Answer ℕ} (refused (cut_short k s p)) (refused r) = simp e at (sym (number_read k s p) ∙ f) in
       (leb-false k (length s - p) e, sym g)
+
+  whole-by : {v n : ℕ} {b : Bool} (t : Bool) → leb k (length s - p) ≡ t → (number k).kind.read s p ≡ took v n b → (number k).kind.read s p ≡ took v n true
+  whole-by {v} {n} {b} true e f =
+      let g : took (number_at k s p) (p + k) true ≡ took v n b = simp e at (sym (number_read k s p) ∙ f) in
+      let h : b ≡ true = cc in f ∙ ap (took v n) h
+  whole-by {v} {n} {b} false e f =
+      let g : ◌≡◌ {A = Answer ℕ} (refused (cut_short k s p)) (took v n b) = simp e at (sym (number_read k s p) ∙ f) in
+      let z : ◌≡◌ {A = ℕ} 0 1 = cc in absurd (omega arith)
+
+  -- what was taken is plain
+  pub number-whole : {v n : ℕ} {b : Bool} → (number k).kind.read s p ≡ took v n b → (number k).kind.read s p ≡ took v n true
+  number-whole f = whole-by (leb k (length s - p)) refl f
 
   -- what was refused had none
   pub number-without : {r : Refusal} → (number k).kind.read s p ≡ refused r → (length s - p < k) × (◌≡◌ {A = Answer ℕ} (refused r) (refused (cut_short k s p)))
@@ -91,6 +126,16 @@ module _ (k : ℕ) (s : List ℕ) (p : ℕ) where
   pub pair-short : length s - p < k + k → refused (pair_end k s p) ≡ (number k ⨾ number k).kind.read s p
   unfolding pair_end
   pair-short h = pair_end_lem (leb k (length s - p)) refl h
+
+-- a number that was taken
+module _ (s : List ℕ) (p : ℕ) {r : Result (Took ℕ) Refusal} {t : Took ℕ} where
+  pub word-on : view r ≡ word.kind.read s p → r ≡ Ok t → word.kind.read s p ≡ took t.value t.next true
+  unfolding word
+  word-on e f = number-whole 4 s p (on e f)
+
+  pub hyper-on : view r ≡ hyper.kind.read s p → r ≡ Ok t → hyper.kind.read s p ≡ took t.value t.next true
+  unfolding hyper
+  hyper-on e f = number-whole 8 s p (on e f)
 
 module _ (s : List ℕ) (p : ℕ) where
   pub word-short : length s - p < 4 → refused (cut_short 4 s p) ≡ word.kind.read s p

@@ -1,11 +1,11 @@
 -- A lawful kind under a bound is lawful.
 -- Assumes nothing.
-use Rattle.std.specs.Prelude.{◌≡◌, refl, ◌⊎◌, Bool, true, List, [], ◌++◌, ℕ, ◌+◌, ◌≤◌, ◌<◌, length}
+use Rattle.std.specs.Prelude.{◌≡◌, refl, ◌⊎◌, Bool, true, List, ◌++◌, ℕ, ◌≤◌, ◌<◌, length}
 use Rattle.std.proofs.Common.{sym, ap, subst, ◌∙◌, inl, inr, arith}
 use Rattle.std.proofs.Math.Option.{Option, none, some}
-use Rattle.xdr.specs.Meaning.Bytes.{Bytes, Stands}
+use Rattle.xdr.specs.Meaning.Bytes.{Bytes}
 use Rattle.xdr.specs.Meaning.Refusal.{OfReading, TooFew, less_by}
-use Rattle.xdr.specs.Meaning.Answer.{Answer, took, refused, map_answer, Taken, Reaches, Came, Loose, clean}
+use Rattle.xdr.specs.Meaning.Answer.{Answer, took, refused, map_answer, Taken, Reaches, Came}
 use Rattle.xdr.specs.Meaning.Kind.{Kind, Found, Sound, Lawful, Codec}
 use Rattle.xdr.specs.Meaning.Held.{Held}
 use Rattle.xdr.specs.Laws.Lists.{stands-grow}

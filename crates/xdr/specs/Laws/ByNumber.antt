@@ -1,58 +1,58 @@
 -- Items that are read by the number in front, by the answer of the call that reads it: each law is in the shape of a reader's goal.
 -- Assumes nothing.
-use Rattle.std.specs.Prelude.{◌≡◌, refl, Bool, true, not, List, ℕ, ◌+◌, ◌*◌, ◌-◌, ◌/◌, ◌≤◌, ◌<◌, ◌%◌, eqb, ltb, ℤ, length, get_or}
+use Rattle.std.specs.Prelude.{◌≡◌, refl, Bool, true, not, List, ℕ, ◌+◌, ◌*◌, ◌-◌, ◌/◌, ◌≤◌, ◌<◌, ◌%◌, eqb, ltb, ℤ, length, get_or, Result, Err}
 use Rattle.std.proofs.Common.{sym, ap, ◌∙◌, arith, Fits, SFits, to_z, of_z}
 use Rattle.std.specs.Int.{w8, w32, w64}
 use Rattle.std.proofs.lemmas.Int.{to_z-of_z}
+use Rattle.std.specs.Result.{result_from_control_flow}
+use Rattle.std.specs.declared.ops.ControlFlow.{ControlFlow}
+use Rattle.std.specs.declared.ops.ControlFlow.TheVariants.{Continue}
 use Rattle.xdr.specs.Meaning.Bytes.{signed, number_at, padding}
 use Rattle.xdr.specs.Meaning.Refusal.{cut_short}
 use Rattle.xdr.specs.Meaning.Answer.{Answer, took, refused}
 use Rattle.xdr.specs.Meaning.Items.{word, hyper, flag, int, long}
 use Rattle.xdr.specs.Meaning.Formats.{piece_held, words_held}
 use Rattle.xdr.specs.Meaning.Pieces.{piece_answer}
-use Rattle.xdr.specs.Meaning.Views.{view_u32, view_u64}
-use Rattle.xdr.specs.Laws.Answers.{on, off, word-within, flag-took, int-took, long-took, piece-took, words-short, words-took}
+use Rattle.xdr.specs.Meaning.Views.{view}
+use Rattle.xdr.specs.Laws.Answers.{was-ok, on, off, word-on, hyper-on, word-within, flag-took, int-took, long-took, piece-took, words-short}
 use Rattle.xdr.specs.Laws.Padding.{last_zeros, padded, body-short, body-took}
 use Rattle.xdr.specs.declared.piece.Piece.{Piece}
 use Rattle.xdr.specs.declared.refusal.Refusal.{Refusal}
-use Rattle.xdr.specs.declared.answer.U32Read.{U32Read}
-use Rattle.xdr.specs.declared.answer.U32Read.TheVariants as U32
-use Rattle.xdr.specs.declared.answer.U64Read.{U64Read}
-use Rattle.xdr.specs.declared.answer.U64Read.TheVariants as U64
+use Rattle.xdr.specs.declared.answer.Took.{Took}
 
 -- the number is refused, and so is the item
-module _ {R T : Type 0} (view : R → Answer ℕ) (lost : R → Refusal) {f : List ℕ → ℕ → Answer ℕ} {g : List ℕ → ℕ → Answer T}
-    (keeps : (s : List ℕ) (p : ℕ) (q : Refusal) → f s p ≡ refused q → refused q ≡ g s p) (s : List ℕ) (p : ℕ) (r t : R) (q : Refusal) where
-  pub passed : view r ≡ f s p → r ≡ t → q ≡ lost r → view t ≡ refused (lost t) → refused q ≡ g s p
-  passed e h i j = keeps s p q (off view lost e h i j)
+module _ {A T : Type 0} {f : List ℕ → ℕ → Answer A} {g : List ℕ → ℕ → Answer T}
+    (keeps : (s : List ℕ) (p : ℕ) (q : Refusal) → f s p ≡ refused q → refused q ≡ g s p) (s : List ℕ) (p : ℕ) (r : Result (Took A) Refusal) (q : Refusal) where
+  pub passed : view r ≡ f s p → r ≡ Err q → refused q ≡ g s p
+  passed e h = keeps s p q (off e h)
 
 -- the word is taken
-module _ (s : List ℕ) (p : ℕ) (r : U32Read) (v n : ℕ) (e : view_u32 r ≡ word.kind.read s p) (f : r ≡ U32.Took v n) where
-  pub by_flag : took (not (eqb v 0)) n (ltb v 2) ≡ flag.kind.read s p
-  by_flag = flag-took s p (on view_u32 e f)
+module _ (s : List ℕ) (p : ℕ) (r : Result (Took ℕ) Refusal) (x : Took ℕ) (c : ControlFlow _ (Took ℕ)) (e : view r ≡ word.kind.read s p) (t : r ≡ result_from_control_flow c) (g : c ≡ Continue x) where
+  pub by_flag : took (not (eqb x.value 0)) x.next (ltb x.value 2) ≡ flag.kind.read s p
+  by_flag = flag-took s p (word-on s p e (was-ok t g))
 
-  pub by_int : (z : ℤ) → SFits w32 z → z ≡ signed 2147483648 v → took (to_z w32 (of_z w32 z)) n true ≡ int.kind.read s p
-  by_int z h i = int-took s p (to_z-of_z w32 z h ∙ i) (on view_u32 e f)
+  pub by_int : (z : ℤ) → SFits w32 z → z ≡ signed 2147483648 x.value → took (to_z w32 (of_z w32 z)) x.next true ≡ int.kind.read s p
+  by_int z h i = int-took s p (to_z-of_z w32 z h ∙ i) (word-on s p e (was-ok t g))
 
   pub by-room : p + 4 ≤ length s
-  by-room = omega (arith, word-within s p (on view_u32 e f))
+  by-room = omega (arith, word-within s p (on e (was-ok t g)))
 
-  pub by-piece : (a : Answer Piece) → a ≡ piece_answer s p v → a ≡ piece_held.read s p
-  by-piece a g = g ∙ piece-took s p (on view_u32 e f)
+  pub by-piece : (a : Answer Piece) → a ≡ piece_answer s p x.value → a ≡ piece_held.read s p
+  by-piece a h = h ∙ piece-took s p (on e (was-ok t g))
 
-  pub by_next : n ≤ length s
-  by_next = omega (arith, word-within s p (on view_u32 e f))
+  pub by_next : x.next ≤ length s
+  by_next = omega (arith, word-within s p (on e (was-ok t g)))
 
-  pub by-words-room : length s - n < v * 4 → length s - p < 4 + v * 4
-  by-words-room g = omega (arith, word-within s p (on view_u32 e f))
+  pub by-words-room : length s - x.next < x.value * 4 → length s - p < 4 + x.value * 4
+  by-words-room h = omega (arith, word-within s p (on e (was-ok t g)))
 
-  pub by-words-short : (q : Refusal) → length s - n < v * 4 → q ≡ cut_short (4 + v * 4) s p → refused q ≡ words_held.read s p
-  by-words-short q g h = ap refused h ∙ words-short s p (on view_u32 e f) g
+  pub by-words-short : (q : Refusal) → length s - x.next < x.value * 4 → q ≡ cut_short (4 + x.value * 4) s p → refused q ≡ words_held.read s p
+  by-words-short q h i = ap refused i ∙ words-short s p (on e (was-ok t g)) h
 
 -- the hyper is taken
-module _ (s : List ℕ) (p : ℕ) (r : U64Read) (v n : ℕ) (e : view_u64 r ≡ hyper.kind.read s p) (f : r ≡ U64.Took v n) where
-  pub by-long : (z : ℤ) → SFits w64 z → z ≡ signed 9223372036854775808 v → took (to_z w64 (of_z w64 z)) n true ≡ long.kind.read s p
-  by-long z h i = long-took s p (to_z-of_z w64 z h ∙ i) (on view_u64 e f)
+module _ (s : List ℕ) (p : ℕ) (r : Result (Took ℕ) Refusal) (x : Took ℕ) (c : ControlFlow _ (Took ℕ)) (e : view r ≡ hyper.kind.read s p) (t : r ≡ result_from_control_flow c) (g : c ≡ Continue x) where
+  pub by-long : (z : ℤ) → SFits w64 z → z ≡ signed 9223372036854775808 x.value → took (to_z w64 (of_z w64 z)) x.next true ≡ long.kind.read s p
+  by-long z h i = long-took s p (to_z-of_z w64 z h ∙ i) (hyper-on s p e (was-ok t g))
 
 -- the bytes of an opaque behind its length word, by the test of room for them
 module _ (s : List ℕ) (p n : ℕ) (h : p + 4 ≤ length s) where

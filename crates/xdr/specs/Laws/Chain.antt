@@ -1,7 +1,7 @@
 -- One lawful kind after another is lawful.
 -- Assumes nothing.
 use Rattle.std.specs.Prelude.{◌≡◌, refl, ◌⊎◌, Bool, ◌&&◌, List, [], ◌++◌, ℕ, ◌+◌, ◌≤◌, ◌<◌, length}
-use Rattle.std.proofs.Common.{sym, ap, ap₂, subst, ◌∙◌, inl, inr, add_assoc, arith, length-append}
+use Rattle.std.proofs.Common.{sym, ap₂, subst, ◌∙◌, inl, inr, add_assoc, arith, length-append}
 use Rattle.xdr.specs.Meaning.Bytes.{Bytes, Stands}
 use Rattle.xdr.specs.Meaning.Refusal.{OfReading, TooFew, less_by}
 use Rattle.xdr.specs.Meaning.Answer.{Answer, took, refused, Reaches, Came, Loose, shifted, clean}

@@ -1,12 +1,11 @@
 -- Bytes copied one by one, and in runs that may overlap.
 -- Assumes nothing.
-use Rattle.std.specs.Prelude.{◌≡◌, refl, List, [], ◌∷◌, ◌++◌, ℕ, zero, suc, ◌+◌, ◌-◌, ◌/◌, ◌≤◌, ◌<◌, min, length, get_or, set, take, drop}
+use Rattle.std.specs.Prelude.{◌≡◌, refl, List, [], ◌∷◌, ◌++◌, ℕ, zero, suc, ◌+◌, ◌-◌, ◌/◌, ◌≤◌, min, length, get_or, set, take, drop}
 use Rattle.std.proofs.Common.{sym, ap, ap₂, ◌∙◌, append_assoc, arith, length-drop, length-take-le, take-take, drop-drop, take-add, drop-cons}
 use Rattle.std.proofs.lemmas.List.{take-append-le, set_split}
-use Rattle.std.proofs.Math.Seq.{drop-append-add, length-sets, lt-length-sets}
-use Rattle.std.proofs.lemmas.List.Edits.{sets}
+use Rattle.std.proofs.Math.Seq.{drop-append-add}
 use Rattle.xdr.specs.Meaning.Public.{laid}
-use Rattle.xdr.specs.Laws.Write.{Put, start, put-length, laid-at, laid-is, put_same, put-sets}
+use Rattle.xdr.specs.Laws.Write.{Put, start, put-length, laid-at}
 use Rattle.xdr.specs.Laws.Lays.{after, tail_of}
 
 -- a run byte by byte, as code reads it: at p, p + 1, p + 2
@@ -29,24 +28,6 @@ run-at zero s p h = refl
 run-at (suc k) s p h =
     let next : suc p ≡ p + 1 = omega arith in
     rw (drop-cons s p 0 (omega arith)) (ap (λ l. get_or s p 0 ∷ l) (ap (λ j. take k (drop j s)) next ∙ run-from k s p 1 (omega arith)))
-
--- the k stores of a run
-pub run-laid : (k : ℕ) (s : List ℕ) (p : ℕ) (xs : List ℕ) → p + k ≤ length s → k ≤ length xs → sets xs 0 (run_at k s p) ≡ laid (take k (drop p s)) xs
-run-laid k s p xs h g =
-    let e : take k (drop p s) ≡ run_at k s p = run-at k s p h in
-    let long : length (run_at k s p) ≡ k = ap length (sym e) ∙ length-take-le k (drop p s) (omega (arith, length-drop p s)) in
-    laid-is (omega arith) (put_same (sym e) (put-sets (run_at k s p) xs (omega arith)))
-
--- the store behind k others is inside, and all leave the buffer as long as it was
-module _ (k : ℕ) (s : List ℕ) (p : ℕ) (xs : List ℕ) where
-  abbrev pub stored : List ℕ
-  stored = sets xs 0 (run_at k s p)
-
-  pub store_in : (n : ℕ) → n ≤ length xs → k < n → k < length stored
-  store_in n h l = lt-length-sets xs 0 (run_at k s p) (omega arith)
-
-  pub stores-long : length stored ≡ length xs
-  stores-long = length-sets xs 0 (run_at k s p)
 
 pub none-copied : (s xs : List ℕ) → length s ≡ 0 → xs ≡ take (length s) s ++ drop (length s) xs
 none-copied s xs e = rw e

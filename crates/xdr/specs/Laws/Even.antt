@@ -1,6 +1,6 @@
 -- Kinds whose messages have one length each: every form of a message is as long as what it is written as.
 -- Assumes nothing.
-use Rattle.std.specs.Prelude.{◌≡◌, refl, Bool, true, false, List, [], ◌∷◌, ◌++◌, ℕ, zero, suc, ◌+◌, ◌≤◌, length}
+use Rattle.std.specs.Prelude.{◌≡◌, refl, Bool, true, false, List, [], ◌∷◌, ℕ, zero, suc, ◌+◌, length}
 use Rattle.std.proofs.Common.{sym, ap, ap₂, subst, ◌∙◌, arith, length-append}
 use Rattle.std.proofs.Math.Option.{Option, none, some}
 use Rattle.xdr.specs.Meaning.Answer.{Way, Loose}
@@ -9,7 +9,6 @@ use Rattle.xdr.specs.Meaning.Combinators.{void_kind, chain_kind, means, Faithful
 use Rattle.xdr.specs.Meaning.Codecs.{chain}
 use Rattle.xdr.specs.Meaning.Items.{flag, opaque}
 use Rattle.xdr.specs.Meaning.Format.{Format, Renaming, named, if_format, flagged, optional}
-use Rattle.xdr.specs.Meaning.Cases.{Cases, maybe_held}
 use Rattle.xdr.specs.Meaning.Linked.{rest, fewer, linked_kind}
 use Rattle.xdr.specs.Meaning.Lists.{linked}
 use Rattle.xdr.specs.Laws.Padding.{flag-length, opaque-long}

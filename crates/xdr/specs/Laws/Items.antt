@@ -3,7 +3,7 @@
 use Rattle.std.specs.Prelude.{◌≡◌, refl, Bool, true, false, cond, List, [], ◌∷◌, ℕ, zero, suc, ◌+◌, ◌-◌, ◌^◌, ◌<◌, ◌≤◌, ltb, eqb, ℤ, pos, negsuc, length, replicate}
 use Rattle.std.proofs.Common.{ap, arith, eqb-true, lt-ltb, le-ltb, ltb-true, ltb-false}
 use Rattle.std.proofs.lemmas.List.{length-replicate}
-use Rattle.xdr.specs.Meaning.Bytes.{Bytes, value, digits, padding, zeros, signed, unsigned, InHalf}
+use Rattle.xdr.specs.Meaning.Bytes.{Bytes, value, digits, zeros, signed, unsigned, InHalf}
 use Rattle.xdr.specs.Meaning.Answer.{Way, dirty_pad}
 use Rattle.xdr.specs.Meaning.Combinators.{Raw, means}
 use Rattle.xdr.specs.Laws.Marks.{and_left, and_right}

@@ -1,21 +1,23 @@
 -- Closed enumerations whose code matches on the number itself: each law is in the shape of a reader's goal.
 -- Assumes nothing.
-use Rattle.std.specs.Prelude.{◌≡◌, refl, true, List, [], ◌∷◌, map, ℕ, length}
+use Rattle.std.specs.Prelude.{◌≡◌, refl, true, List, [], ◌∷◌, map, ℕ, length, Result, Err}
 use Rattle.std.proofs.Common.{ap, subst, ◌∙◌, ne_eqb}
+use Rattle.std.specs.Result.{result_from_control_flow}
+use Rattle.std.specs.declared.ops.ControlFlow.{ControlFlow}
+use Rattle.std.specs.declared.ops.ControlFlow.TheVariants.{Continue}
 use Rattle.xdr.specs.Meaning.Answer.{took, refused, Written}
 use Rattle.xdr.specs.Meaning.Combinators.{means, undeclared, among}
 use Rattle.xdr.specs.Meaning.Items.{word, closed}
 use Rattle.xdr.specs.Meaning.Kind.{Codec}
 use Rattle.xdr.specs.Meaning.Format.{exactly}
 use Rattle.xdr.specs.Meaning.Public.{Writes}
-use Rattle.xdr.specs.Meaning.Views.{view_u32, lost_u32}
-use Rattle.xdr.specs.Laws.Answers.{on, off}
+use Rattle.xdr.specs.Meaning.Views.{view}
+use Rattle.xdr.specs.Laws.Answers.{was-ok, off, word-on}
 use Rattle.xdr.specs.Laws.Padding.{word-length}
 use Rattle.xdr.specs.Laws.Closed.{closed-refused, closed-undeclared, closed-took, by_number}
 use Rattle.xdr.specs.declared.refusal.Refusal.{Refusal}
 use Rattle.xdr.specs.declared.refusal.Refusal.TheVariants.{Undeclared}
-use Rattle.xdr.specs.declared.answer.U32Read.{U32Read}
-use Rattle.xdr.specs.declared.answer.U32Read.TheVariants as U32
+use Rattle.xdr.specs.declared.answer.Took.{Took}
 
 -- v is none of the keys: what the last arm of a match on v is handed, as it is handed
 abbrev pub Rest : Type 0 → List ℕ → ℕ → Type 0
@@ -39,20 +41,20 @@ pub record Numbered {A : Type 0} (C : Codec A) (number : A → ℕ) (values : Li
   pub is : closed number values each ≡ C
 
 module _ {A : Type 0} {C : Codec A} (number : A → ℕ) (values : List A) (E : Numbered C number values) where
-  module _ (s : List ℕ) (p : ℕ) (r : U32Read) where
+  module _ (s : List ℕ) (p : ℕ) (r : Result (Took ℕ) Refusal) where
     same : (closed number values E.each).kind.read s p ≡ C.kind.read s p
     same = ap (λ D. D.kind.read s p) E.is
 
-    pub key-lost : (u q : Refusal) → q ≡ lost_u32 r → view_u32 r ≡ word.kind.read s p → r ≡ U32.Refused u → refused q ≡ C.kind.read s p
-    key-lost u q g e f = closed-refused number values E.each s p (off view_u32 lost_u32 e f g refl) ∙ same
+    pub key-lost : (q : Refusal) → view r ≡ word.kind.read s p → r ≡ Err q → refused q ≡ C.kind.read s p
+    key-lost q e f = closed-refused number values E.each s p (off e f) ∙ same
 
-    module _ (v n : ℕ) where
-      pub key-rest : view_u32 r ≡ word.kind.read s p → r ≡ U32.Took v n → Rest (Unit {0}) (map number values) v → refused (Undeclared p) ≡ C.kind.read s p
-      key-rest e f h = closed-undeclared number values E.each s p (on view_u32 e f) (among-rest number v (Unit {0}) values h) ∙ same
+    module _ (x : Took ℕ) (c : ControlFlow _ (Took ℕ)) where
+      pub key-rest : view r ≡ word.kind.read s p → r ≡ result_from_control_flow c → c ≡ Continue x → Rest (Unit {0}) (map number values) x.value → refused (Undeclared p) ≡ C.kind.read s p
+      key-rest e t f h = closed-undeclared number values E.each s p (word-on s p e (was-ok t f)) (among-rest number x.value (Unit {0}) values h) ∙ same
 
-      pub key-is : (k : ℕ) (a : A) → view_u32 r ≡ word.kind.read s p → r ≡ U32.Took v n → v ≡ k → among number values k ≡ means a []
-          → took a n true ≡ C.kind.read s p
-      key-is k a e f g h = closed-took number values E.each s p (on view_u32 e f) (ap (among number values) g ∙ h) ∙ same
+      pub key-is : (k : ℕ) (a : A) → view r ≡ word.kind.read s p → r ≡ result_from_control_flow c → c ≡ Continue x → x.value ≡ k → among number values k ≡ means a []
+          → took a x.next true ≡ C.kind.read s p
+      key-is k a e t f g h = closed-took number values E.each s p (word-on s p e (was-ok t f)) (ap (among number values) g ∙ h) ∙ same
 
   -- it is written as the word of its number, in 4 bytes
   pub key-writes : (a : A) (v at : ℕ) (o : List ℕ) (w : Written) (o' : List ℕ) → v ≡ number a → Writes (exactly word) [] v at o w o'

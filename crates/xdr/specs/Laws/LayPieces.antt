@@ -1,9 +1,8 @@
 -- What laying an opaque or a word list, as a part of its source, leaves.
 -- Assumes nothing.
-use Rattle.std.specs.Prelude.{◌≡◌, refl, Bool, true, false, not, List, ◌++◌, ℕ, ◌+◌, ◌-◌, ◌*◌, ◌/◌, ◌≤◌, ◌<◌, length, get_or, take, drop}
+use Rattle.std.specs.Prelude.{◌≡◌, refl, Bool, true, false, List, ◌++◌, ℕ, ◌+◌, ◌-◌, ◌*◌, ◌/◌, ◌≤◌, ◌<◌, length, get_or, take, drop}
 use Rattle.std.proofs.Common.{sym, ap, ◌∙◌, arith, length-drop, length-take-le, Fits}
 use Rattle.std.specs.Int.{w8}
-use Rattle.std.proofs.lemmas.Bool.{not-true, not-false}
 use Rattle.xdr.specs.Meaning.Bytes.{Bytes}
 use Rattle.xdr.specs.Meaning.Answer.{most}
 use Rattle.xdr.specs.Meaning.Items.{word, opaque}
@@ -12,8 +11,8 @@ use Rattle.xdr.specs.Meaning.Formats.{bytes, piece_held, word_list, words_held}
 use Rattle.xdr.specs.Meaning.Format.{Format}
 use Rattle.xdr.specs.Meaning.Public.{output, laid_of}
 use Rattle.xdr.specs.Laws.Lists.{known_bytes}
-use Rattle.xdr.specs.Laws.Pieces.{piece-part, inside-le}
-use Rattle.xdr.specs.Laws.Words.{words-part, words-le, words-bytes, words-length}
+use Rattle.xdr.specs.Laws.Pieces.{piece-part, inside-le, inside-past}
+use Rattle.xdr.specs.Laws.Words.{words-part, words-le, words-past, words-bytes, words-length}
 use Rattle.xdr.specs.Laws.Padding.{padded, opaque-length, piece-long, size-within, words-within}
 use Rattle.xdr.specs.Laws.Write.{Put, put_same, Ready, of-long, of-outside, of-short, of_is}
 use Rattle.xdr.specs.declared.piece.Piece.{Piece}
@@ -67,8 +66,14 @@ module _ (s : List ℕ) (x : Piece) where
   pub piece-told : {i : Bool} → i ≡ is_inside s x → i ≡ true → x.at + x.count ≤ length s
   piece-told e t = inside-le s x (yes e t)
 
+  pub piece-off : {i : Bool} → i ≡ is_inside s x → i ≡ false → length s < x.at + x.count
+  piece-off e t = inside-past s x (no e t)
+
   pub words-told : {i : Bool} → i ≡ are_inside s x → i ≡ true → x.at + x.count * 4 ≤ length s
   words-told e t = words-le s x (yes e t)
+
+  pub words-off : {i : Bool} → i ≡ are_inside s x → i ≡ false → length s < x.at + x.count * 4
+  words-off e t = words-past s x (no e t)
 
 -- what a function that lays a piece leaves, by its tests: of the source, of the piece, and of the room
 pub record Tested (F : Format (List ℕ) Piece) (inside : List ℕ → Piece → Bool) (size : ℕ → ℕ) : Type 0 where

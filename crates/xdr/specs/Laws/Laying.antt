@@ -15,7 +15,7 @@ use Rattle.xdr.specs.Laws.Even.{Even}
 use Rattle.xdr.specs.Laws.Fields.{Lays}
 use Rattle.xdr.specs.Laws.Held.{taken-inside}
 use Rattle.xdr.specs.Laws.Linked.{put, optional-some}
-use Rattle.xdr.specs.Laws.Walks.{by_names, by-names-refused, list-ends, list-goes, list-refused, step-inside, step-size}
+use Rattle.xdr.specs.Laws.Walks.{by_names, by-names-refused, list-ends, list-goes, list-refused, step-size}
 use Rattle.xdr.specs.Laws.Write.{Put, Ready, start, room, field}
 use Rattle.xdr.specs.declared.piece.Piece.{Piece}
 use Rattle.xdr.specs.declared.refusal.Refusal.{Refusal}

@@ -1,12 +1,12 @@
 -- What a writer of bytes leaves, in the shape of its goals, so that `search` closes each: the facts are those of its tests and of its calls.
 -- Assumes nothing.
-use Rattle.std.specs.Prelude.{◌≡◌, Bool, ℕ, ◌+◌, ◌-◌, ◌≤◌, ◌<◌, length}
+use Rattle.std.specs.Prelude.{◌≡◌, Bool, ℕ, ◌+◌, ◌-◌, ◌≤◌, ◌<◌, length, Result, Ok}
 use Rattle.std.proofs.Math.Path.{refl}
 use Rattle.std.proofs.Common.{sym, ap, subst, ◌∙◌, arith, lit≤, length-append, Fits, rules}
 use mathlib.Core.List.{List, [], ◌++◌}
 use Rattle.std.specs.Int.{w64}
 use borrow.Rule.Slice.PartMut.{mid_of, put_mid}
-use Rattle.xdr.specs.Meaning.Answer.{most}
+use Rattle.xdr.specs.Meaning.Answer.{most, done}
 use Rattle.xdr.specs.Meaning.Kind.{Codec}
 use Rattle.xdr.specs.Meaning.Format.{exactly}
 use Rattle.xdr.specs.Meaning.Order.{roomed}
@@ -21,8 +21,6 @@ use Rattle.xdr.specs.Laws.Fixed.{Fixed, word-fixed, hyper-fixed, word-pair-fixed
 use Rattle.xdr.specs.Laws.Write.{Ready, laid-short, laid-is, laid_same, lent, lent-first}
 use Rattle.xdr.specs.Laws.Writers.{room-place, plain-on}
 use Rattle.xdr.specs.Meaning.Pieces.{size_up_to, words_up_to}
-use Rattle.xdr.specs.declared.answer.Wrote.{Wrote}
-use Rattle.xdr.specs.declared.answer.Wrote.TheVariants as wrote
 use Rattle.xdr.specs.declared.refusal.Refusal.{Refusal}
 
 -- what a writer leaves that was lent the tail of ys from n on, and left zs there
@@ -72,9 +70,9 @@ module _ {M : Type 0} {k : ℕ} {C : Codec M} (F : Fixed k C) where
   pub size-behind : (i j : ℕ) (m : M) → j ≡ i + k → j ≡ i + length (C.kind.write m)
   size-behind i j m e = e ∙ ap (λ n. i + n) (size_is m)
 
-  module _ (x : M) (at : ℕ) (o : List ℕ) (w : Wrote) where
-    pub fixed_on : (n : ℕ) (zs : List ℕ) → view_wrote w ≡ roomed (length o) at k → w ≡ wrote.Done n → k ≤ most → C.kind.Good x → zs ≡ laid (C.kind.write x) (tail_of at o)
-        → Writes (exactly C) [] x at o (view_wrote w) (after at o zs)
+  module _ (x : M) (at : ℕ) (o : List ℕ) (w : Result ℕ Refusal) where
+    pub fixed_on : (n : ℕ) (zs : List ℕ) → view_wrote w ≡ roomed (length o) at k → w ≡ Ok n → k ≤ most → C.kind.Good x → zs ≡ laid (C.kind.write x) (tail_of at o)
+        → Writes (exactly C) [] x at o (done n) (after at o zs)
     fixed_on n zs e f s g z = plain-on C (λ x. omega (arith, F.writes x)) x at o w k n zs (size_is x) e f g z
 
 -- items that stand together
@@ -85,13 +83,13 @@ pub word-hyper-size : (a b : ℕ) → 12 ≡ length (word.kind.write a ++ hyper.
 word-hyper-size a b = sym ((pair-fixed word-fixed hyper-fixed).writes (a, b))
 
 -- eight bytes, held as the number that they write
-module _ (v at : ℕ) (o : List ℕ) (w : Wrote) where
+module _ (v at : ℕ) (o : List ℕ) (w : Result ℕ Refusal) where
   pub eight-ready : Ready eight_bytes [] v
   unfolding eight_held
   eight-ready = record { short = omega arith; inside = refl }
 
-  pub eight-on : (n : ℕ) (zs : List ℕ) → v < 18446744073709551616 → view_wrote w ≡ roomed (length o) at 8 → w ≡ wrote.Done n
-      → zs ≡ laid (hyper.kind.write v) (tail_of at o) → Writes eight_bytes [] v at o (view_wrote w) (after at o zs)
+  pub eight-on : (n : ℕ) (zs : List ℕ) → v < 18446744073709551616 → view_wrote w ≡ roomed (length o) at 8 → w ≡ Ok n
+      → zs ≡ laid (hyper.kind.write v) (tail_of at o) → Writes eight_bytes [] v at o (done n) (after at o zs)
   unfolding eight_held
   eight-on n zs h e f z =
       room-laid eight_bytes [] v (eight-length v h) eight-ready (omega arith) at o (eight-good v h) e f (laid_same _ _ _ (eight-bytes v h) z)

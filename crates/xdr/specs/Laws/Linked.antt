@@ -1,7 +1,7 @@
 -- Linked lists are lawful, and are read element by element.
 -- Assumes nothing.
-use Rattle.std.specs.Prelude.{◌≡◌, refl, ◌⊎◌, ◌↔◌, Bool, true, false, ◌&&◌, List, [], ◌∷◌, ◌++◌, ℕ, zero, suc, ◌+◌, ◌-◌, ◌≤◌, ◌<◌, length}
-use Rattle.std.proofs.Common.{sym, ap, ap₂, subst, ◌∙◌, inl, inr, append-nil, arith, length-append, eq-eqb}
+use Rattle.std.specs.Prelude.{◌≡◌, refl, ◌↔◌, Bool, true, ◌&&◌, List, [], ◌∷◌, ◌++◌, ℕ, zero, suc, ◌+◌, ◌-◌, ◌≤◌, ◌<◌, length}
+use Rattle.std.proofs.Common.{sym, ap, ap₂, ◌∙◌, inl, inr, append-nil, arith, length-append, eq-eqb}
 use Rattle.std.proofs.Math.Bool.{and-true}
 use Rattle.std.proofs.Math.Option.{Option, none, some}
 use Rattle.xdr.specs.Meaning.Bytes.{Bytes, Stands}
@@ -9,8 +9,7 @@ use Rattle.xdr.specs.Meaning.Refusal.{TooFew, less_by}
 use Rattle.xdr.specs.Meaning.Answer.{Answer, took, refused, map_answer, Taken, Came, Way, Loose, here, shifted, clean}
 use Rattle.xdr.specs.Meaning.Format.{Format, optional}
 use Rattle.xdr.specs.Laws.Lengths.{flag-lengths}
-use Rattle.xdr.specs.declared.piece.Piece.{Piece}
-use Rattle.xdr.specs.Meaning.Kind.{Kind, Found, Sound, Lawful, Codec}
+use Rattle.xdr.specs.Meaning.Kind.{Sound, Lawful, Codec}
 use Rattle.xdr.specs.Meaning.Combinators.{means}
 use Rattle.xdr.specs.Laws.Lists.{room}
 use Rattle.xdr.specs.declared.refusal.Refusal.{Refusal}

@@ -4,32 +4,28 @@ use Rattle.std.specs.Prelude.{◌≡◌, refl, ◌↔◌, Bool, true, false, con
 use Rattle.std.proofs.Common.{sym, ap, ap₂, subst, ◌∙◌, arith, take-append-drop}
 use Rattle.std.proofs.Math.Bool.{and-true}
 use Rattle.std.proofs.Math.Option.{Option, none, some}
-use Rattle.xdr.specs.Meaning.Bytes.{Bytes, Stands, digits, value, number_at, padding, zeros}
+use Rattle.xdr.specs.Meaning.Bytes.{Stands, digits, value, number_at, padding, zeros}
 use Rattle.xdr.specs.Meaning.Refusal.{cut_short}
-use Rattle.xdr.specs.Meaning.Answer.{Answer, took, refused, map_answer, Taken, Way, dirty_pad, Loose, here, shifted, clean}
+use Rattle.xdr.specs.Meaning.Answer.{Answer, took, refused, Taken, Way, dirty_pad, Loose, here, shifted, clean}
 use Rattle.xdr.specs.Meaning.Kind.{Codec}
 use Rattle.xdr.specs.Meaning.Combinators.{Seen, means, undeclared, View, Raw}
 use Rattle.xdr.specs.Meaning.Codecs.{exact_view}
 use Rattle.xdr.specs.Meaning.Items.{hyper, eight}
 use Rattle.xdr.specs.Laws.Items.{eight-faithful, eight-to-good, eight-see-to}
 use Rattle.xdr.specs.Meaning.Held.{Held, then_first, then_second, then_marks, Holds, map_seen, seen_as, look_at}
-use Rattle.xdr.specs.Meaning.Format.{Format, plain, exactly, held_chain, ◌⨟◌, held_view, Renaming, named_see_to, named_square, named_within, named, if_format, flagged, optional, Branch, tagged, Choice, Lawfully, choice}
-use Rattle.xdr.specs.Meaning.Cases.{Cases, case_names, maybe_held}
+use Rattle.xdr.specs.Meaning.Format.{Format, plain, held_chain, ◌⨟◌, held_view, Renaming, named_see_to, named_square, named_within, named, Branch, tagged, Choice, Lawfully, choice}
 use Rattle.xdr.specs.Meaning.Status.{Status, Arms, arm_of, status_of, on_status}
 use Rattle.xdr.specs.Meaning.Pieces.{pad_zero, piece_at, word_piece_at}
-use Rattle.xdr.specs.Meaning.Linked.{placed_at}
 use Rattle.xdr.specs.Meaning.Bounded.{capped, cap}
-use Rattle.xdr.specs.Meaning.Lists.{linked, clean_step, clean_list, list_of, bounded}
+use Rattle.xdr.specs.Meaning.Lists.{bounded}
 use Rattle.xdr.specs.Meaning.Formats.{eight_held, eight_bytes, piece_held, bytes, words_held, word_list}
 use Rattle.xdr.specs.Meaning.Public.{Took, message, used_by}
 use Rattle.xdr.specs.Meaning.Marks.{all_clean, no_pad, pads_clean, OnlyPads, Marked, MarksAre, marks_of, MarksTell}
 use Rattle.xdr.specs.Laws.Lists.{stands-first, stands-second}
 use Rattle.xdr.specs.Laws.Forms.{pad-mark, opaque-stands, words-form}
 use Rattle.xdr.specs.Laws.Held.{means-taken}
-use Rattle.xdr.specs.Laws.Unpadded.{pads-append, pads-shifted, Unpadded, void-unpadded, hyper-unpadded, flag-unpadded, view-unpadded}
+use Rattle.xdr.specs.Laws.Unpadded.{pads-append, pads-shifted, Unpadded, hyper-unpadded, view-unpadded}
 use Rattle.xdr.specs.Laws.Public.{opened-took, kept}
-use Rattle.xdr.specs.Laws.Linked.{optional-some, empty-form, link-form}
-use Rattle.xdr.specs.Laws.Walks.{clean_step_lem}
 use Rattle.xdr.specs.declared.piece.Piece.{Piece}
 use Rattle.xdr.specs.declared.refusal.Refusal.{Refusal}
 

@@ -3,15 +3,10 @@
 use Rattle.std.specs.Prelude.{◌≡◌, Bool, List, ℕ}
 use Rattle.std.proofs.Math.Path.{refl}
 use Rattle.std.proofs.Common.{sym, ◌∙◌}
-use Rattle.std.proofs.Math.Bool.{and-true}
-use Rattle.xdr.specs.Meaning.Answer.{Answer}
 use Rattle.xdr.specs.Meaning.Codecs.{◌⨾◌}
 use Rattle.xdr.specs.Meaning.Items.{word, word_pair}
 use Rattle.xdr.specs.Meaning.Format.{Format, exactly, ◌⨟◌}
-use Rattle.xdr.specs.Meaning.Views.{view_u32_pair}
 use Rattle.xdr.specs.Laws.Plans.{Prog, ask, follow, run, Plan, at, ◌then◌, pair-is-c}
-use Rattle.xdr.specs.declared.answer.U32PairRead.{U32PairRead}
-use Rattle.xdr.specs.declared.answer.U32PairRead.TheVariants as U32Pair
 
 module _ {U : Type 0} (k : ℕ × ℕ → Prog U) (s : List ℕ) (p : ℕ) (b : Bool) where
   pub words-is : follow (λ x n d. run (k x) s n d) b ((word ⨾ word).kind.read s p) ≡ run (ask word_pair.kind.read k) s p b
@@ -37,8 +32,3 @@ words-then P =
       by = λ k. ask word_pair.kind.read (λ x. P.by (λ y. k (x.0, (x.1, y))));
       is = λ k s p b. words-then-is P k s p b;
     }
-
--- what was taken is plain, so what was plain before it still is
-module _ {U : Type 0} (f : List ℕ → ℕ → Answer (ℕ × ℕ)) (k : ℕ × ℕ → Prog U) (s : List ℕ) (p : ℕ) (b : Bool) (z : Answer U) (r : U32PairRead) (v w n : ℕ) where
-  pub step_words : view_u32_pair r ≡ f s p → r ≡ U32Pair.Took v w n → z ≡ run (k (v, w)) s n b → z ≡ run (ask f k) s p b
-  step_words e g h = rw (sym e, g, and-true b) h

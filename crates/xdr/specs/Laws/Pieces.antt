@@ -6,7 +6,7 @@ use Rattle.std.proofs.Common.{ap, ◌∙◌, arith, length-take, length-drop, le
 use Rattle.std.proofs.Math.Bool.{true, false}
 use Rattle.std.proofs.Math.Nat.{min-le_right}
 use Rattle.std.proofs.lemmas.List.{take-append-le, drop-append-le}
-use borrow.Author.Tests.{le-leb, lt-leb, leb-true}
+use borrow.Author.Tests.{le-leb, lt-leb, leb-true, leb-false}
 use Rattle.xdr.specs.Meaning.Bytes.{Bytes, number_at, padding, zeros}
 use Rattle.xdr.specs.Meaning.Refusal.{cut_short}
 use Rattle.xdr.specs.Meaning.Answer.{took, refused, map_answer, Taken, most}
@@ -63,6 +63,20 @@ module _ (s : List ℕ) (x : Piece) where
   pub inside-le : is_inside s x ≡ true → x.at + x.count ≤ length s
   unfolding is_inside
   inside-le h = leb-true (x.at + x.count) (length s) h
+
+  pub inside-past : is_inside s x ≡ false → length s < x.at + x.count
+  unfolding is_inside
+  inside-past h = leb-false (x.at + x.count) (length s) h
+
+  -- the code's test, which subtracts so that nothing can overflow
+  pub inside-at : x.count ≤ length s → leb x.at (length s - x.count) ≡ is_inside s x
+  inside-at h = at (leb x.at (length s - x.count)) refl where
+    at : (b : Bool) → leb x.at (length s - x.count) ≡ b → b ≡ is_inside s x
+    at true e = let k = leb-true x.at (length s - x.count) e in sym (inside-yes (omega (arith, k)))
+    at false e = let k = leb-false x.at (length s - x.count) e in sym (inside-no (omega (arith, k)))
+
+  pub inside-over : length s < x.count → leb x.count (length s) ≡ is_inside s x
+  inside-over h = lt-leb x.count (length s) h ∙ sym (inside-no (omega arith))
 
   -- a part of a slice, as the code takes it
   pub piece-part : take (x.at + x.count - x.at) (drop x.at s) ≡ bytes_in s x

@@ -14,7 +14,6 @@ use Rattle.xdr.specs.Meaning.Held.{look_at, then_first, then_second}
 use Rattle.xdr.specs.Meaning.Format.{Format, exactly, plain, ◌⨟◌, if_format, optional}
 use Rattle.xdr.specs.Meaning.Shapes.{to_option}
 use Rattle.xdr.specs.Meaning.Items.{flag}
-use Rattle.xdr.specs.Meaning.Views.{view_u32, lost_u32, view_u64, lost_u64, view_u32_pair, lost_u32_pair, view_u64_pair, lost_u64_pair, view_bool, lost_bool, view_piece, lost_piece}
 use Rattle.xdr.specs.declared.refusal.Refusal.{Refusal}
 
 pub data Prog (U : Type 0) : Type 1 where
@@ -151,9 +150,13 @@ module _ {M N : Type 0} {C : Codec M} (P : Plan (exactly C)) (f : M → N) (g : 
 pub planned : {T : Type 0} {f : List ℕ → ℕ → Answer T} (P : Planned f) (s : List ℕ) (p : ℕ) (z : Answer T) → z ≡ run P.by s p true → z ≡ f s p
 planned P s p z e = e ∙ sym (P.is s p)
 
-module _ {S R : Type 0} (view : R → Answer S) {U : Type 0} (f : List ℕ → ℕ → Answer S) (k : S → Prog U) (s : List ℕ) (p : ℕ) (b : Bool) (z : Answer U) (r t : R) where
-  pub step : view r ≡ f s p → r ≡ t → z ≡ follow (λ x n d. run (k x) s n d) b (view t) → z ≡ run (ask f k) s p b
-  step e g h = rw (sym e, g) h
+-- what was asked for was handed over, or it was refused
+module _ {S U : Type 0} (f : List ℕ → ℕ → Answer S) (k : S → Prog U) (s : List ℕ) (p : ℕ) (b : Bool) where
+  pub step : (z : Answer U) (x : S) (n : ℕ) (d : Bool) → took x n d ≡ f s p → z ≡ run (k x) s n (b && d) → z ≡ run (ask f k) s p b
+  step z x n d e h = rw (sym e) h
+
+  pub lost : (q : Refusal) → refused q ≡ f s p → refused q ≡ run (ask f k) s p b
+  lost q e = rw (sym e)
 
 pub given : {U : Type 0} (u : U) (s : List ℕ) (p : ℕ) (b : Bool) → took u p b ≡ run (give u) s p b
 given u s p b = refl
@@ -173,56 +176,23 @@ module _ {U : Type 0} (v : Bool) (P Q : Prog U) (s : List ℕ) (p : ℕ) (b : Bo
       by true e = h
       by false e = let y : ◌≡◌ {A = ℕ} 0 1 = cc in absurd (omega arith)
 
--- a refusal is passed up
-pub lost-at : {R A : Type 0} (lost : R → Refusal) (r t : R) (q u : Refusal) → q ≡ lost r → r ≡ t → u ≡ lost t → ◌≡◌ {A = Answer A} (refused q) (refused u)
-lost-at lost r t q u e f g = rw (e, f, g)
+-- the same where the code tests what it found before it is named
+module _ {U : Type 0} (v : Bool) (P Q : Prog U) (s : List ℕ) (p : ℕ) (b : Bool) (z : Answer U) where
+  pub tested-not : not v ≡ true → z ≡ run Q s p b → z ≡ run (test v P Q) s p b
+  tested-not e h = tested-none v P Q s p b z (no v e) h
+    where
+      no : (v : Bool) → not v ≡ true → v ≡ false
+      no false e = refl
+      no true e = let y : ◌≡◌ {A = ℕ} 0 1 = cc in absurd (omega arith)
 
--- the same for a rule set: one of each for a type of answer
-abbrev pub Step : {R S : Type 0} → (R → Answer S) → Type 1
-Step {R} {S} view =
-    (U : Type 0) (f : List ℕ → ℕ → Answer S) (k : S → Prog U) (s : List ℕ) (p : ℕ) (b : Bool) (z : Answer U) (r t : R)
-    → view r ≡ f s p → r ≡ t → z ≡ follow (λ x n d. run (k x) s n d) b (view t) → z ≡ run (ask f k) s p b
+  pub tested-is : not v ≡ false → z ≡ run P s p b → z ≡ run (test v P Q) s p b
+  tested-is e h = tested-some v P Q s p b z (yes v e) h
+    where
+      yes : (v : Bool) → not v ≡ false → v ≡ true
+      yes true e = refl
+      yes false e = let y : ◌≡◌ {A = ℕ} 0 1 = cc in absurd (omega arith)
 
-abbrev pub Loses : {R : Type 0} → (R → Refusal) → Type 1
-Loses {R} lost = (A : Type 0) (r t : R) (q u : Refusal) → q ≡ lost r → r ≡ t → u ≡ lost t → ◌≡◌ {A = Answer A} (refused q) (refused u)
-
-pub step-u32 : Step view_u32
-step-u32 U = step view_u32
-
-pub lost-u32 : Loses lost_u32
-lost-u32 A = lost-at lost_u32
-
-pub step-u64 : Step view_u64
-step-u64 U = step view_u64
-
-pub lost-u64 : Loses lost_u64
-lost-u64 A = lost-at lost_u64
-
-pub step-u32-pair : Step view_u32_pair
-step-u32-pair U = step view_u32_pair
-
-pub lost-u32-pair : Loses lost_u32_pair
-lost-u32-pair A = lost-at lost_u32_pair
-
-pub step-u64-pair : Step view_u64_pair
-step-u64-pair U = step view_u64_pair
-
-pub lost-u64-pair : Loses lost_u64_pair
-lost-u64-pair A = lost-at lost_u64_pair
-
-pub step-bool : Step view_bool
-step-bool U = step view_bool
-
-pub lost-bool : Loses lost_bool
-lost-bool A = lost-at lost_bool
-
-pub step-piece : Step view_piece
-step-piece U = step view_piece
-
-pub lost-piece : Loses lost_piece
-lost-piece A = lost-at lost_piece
-
-pub ruleset asks = (given, tested-none, tested-some, step-u32, lost-u32, step-u64, lost-u64, step-u32-pair, lost-u32-pair, step-u64-pair, lost-u64-pair, step-bool, lost-bool, step-piece, lost-piece)
+pub ruleset asks = (given, tested-none, tested-some, tested-not, tested-is, step, lost)
 
 -- what a public reader's proof cites
 pub ruleset reads = (rules, answers-off, answers-on)

@@ -1,6 +1,6 @@
 -- Demands 2 and 3 hold of the answers of every public reader, and what it answers by the tests that come first.
 -- Assumes nothing.
-use Rattle.std.specs.Prelude.{◌↔◌, ◌⊎◌, Bool, List, ◌++◌, ℕ, ◌-◌, ◌<◌, ◌≤◌, get_or}
+use Rattle.std.specs.Prelude.{◌↔◌, ◌⊎◌, Bool, List, ◌++◌, ℕ, ◌-◌, ◌<◌, ◌≤◌, get_or, Result, Ok, Err}
 use Rattle.std.proofs.Math.Logic.{inl, inr}
 use Rattle.std.proofs.Math.Path.{◌≡◌, refl, sym}
 use Rattle.std.proofs.Common.{ap, ap₂, subst, ◌∙◌, arith, length-append, Fits}
@@ -18,8 +18,6 @@ use Rattle.xdr.specs.Laws.Held.{taken-means, refused-means, taken-inside}
 use Rattle.xdr.specs.Laws.Promise.{keeps}
 use Rattle.xdr.specs.Meaning.Views.{view_opening}
 use Rattle.xdr.specs.declared.refusal.Refusal.{Refusal}
-use Rattle.xdr.specs.declared.order.Opening.{Opening}
-use Rattle.xdr.specs.declared.order.Opening.TheVariants as opening
 use Rattle.xdr.specs.declared.refusal.Refusal.TheVariants.{Ended, TooLong, PastEnd}
 use Rattle.xdr.specs.Meaning.Refusal.{OfReading, wanting_of}
 
@@ -68,15 +66,15 @@ opened-off {A} s p a y {r} e = by (leb (length s) most) refl (leb p (length s)) 
         let i : r ≡ TooLong = cc in rw (h, i)
 
 -- what a public reader answers; `given` is what a slice's rule gives
-module _ {M S : Type 0} (F : Format M S) (s : List ℕ) (p : ℕ) (given : (i : ℕ) → Fits w8 (get_or s i 0)) {r : Opening}
+module _ {M S : Type 0} (F : Format M S) (s : List ℕ) (p : ℕ) (given : (i : ℕ) → Fits w8 (get_or s i 0)) {r : Result (Unit {0}) Refusal}
     (e : view_opening p r ≡ opened s p (took tt p true)) where
   -- it may not read
-  pub answers-off : {q : Refusal} → r ≡ opening.Refused q → Answers F s p (refused q)
+  pub answers-off : {q : Refusal} → r ≡ Err q → Answers F s p (refused q)
   answers-off f =
       record { is = opened-off s p tt (F.held.read s p) (sym (ap (view_opening p) f) ∙ e); bytes = known_bytes s given }
 
   -- it may
-  pub answers-on : {a : Answer S} → r ≡ opening.Open → a ≡ F.held.read s p → Answers F s p a
+  pub answers-on : {a : Answer S} {u : Unit {0}} → r ≡ Ok u → a ≡ F.held.read s p → Answers F s p a
   answers-on f g =
       let o = opened-took s p (took tt p true) (sym (ap (view_opening p) f) ∙ e) in
       record { is = g ∙ sym (opened_in s p (F.held.read s p) o.1 o.2); bytes = known_bytes s given }

@@ -1,18 +1,16 @@
 -- A public writer's test of room, and what it answers by it.
 -- Assumes nothing.
-use Rattle.std.specs.Prelude.{◌≡◌, Bool, true, false, cond, List, ℕ, ◌+◌, ◌-◌, ◌<◌, ◌≤◌, leb, length}
+use Rattle.std.specs.Prelude.{◌≡◌, Bool, true, false, cond, List, ℕ, ◌+◌, ◌-◌, ◌<◌, ◌≤◌, leb, length, Result, Ok}
 use Rattle.std.proofs.Math.Path.{refl}
 use Rattle.std.proofs.Common.{sym, ap, subst, ◌∙◌, arith}
-use borrow.Author.Tests.{leb-true, leb-false, le-leb, lt-leb}
+use borrow.Author.Tests.{leb-true, le-leb, lt-leb}
 use borrow.Rule.Slice.PartMut.{mid_of, put_mid}
 use Rattle.xdr.specs.Meaning.Answer.{most, done, unwritten}
 use Rattle.xdr.specs.Meaning.Order.{roomed}
 use Rattle.xdr.specs.Meaning.Format.{Format}
 use Rattle.xdr.specs.Meaning.Public.{output, Writes, laid}
 use Rattle.xdr.specs.Meaning.Views.{view_wrote}
-use Rattle.xdr.specs.Laws.Write.{Ready, writes-past, sized-done}
-use Rattle.xdr.specs.declared.answer.Wrote.{Wrote}
-use Rattle.xdr.specs.declared.answer.Wrote.TheVariants as wrote
+use Rattle.xdr.specs.Laws.Write.{Ready, sized-done}
 use Rattle.xdr.specs.declared.refusal.Refusal.{Refusal}
 use Rattle.xdr.specs.declared.refusal.Refusal.TheVariants.{NoRoom, PastEnd}
 
@@ -44,15 +42,15 @@ module _ (len at size : ℕ) where
   fits e = fits_by (leb at len) (leb (at + size) len) refl refl e
 
   -- where the answer was taken apart
-  pub room_in : {w : Wrote} {n : ℕ} → view_wrote w ≡ roomed len at size → w ≡ wrote.Done n → Fits n
+  pub room_in : {w : Result ℕ Refusal} {n : ℕ} → view_wrote w ≡ roomed len at size → w ≡ Ok n → Fits n
   room_in e f = fits (sym (ap view_wrote f) ∙ e)
 
 module _ {M S : Type 0} (F : Format M S) (s : List ℕ) (x : S) {n : ℕ} (l : length (output F s x) ≡ n) (r : Ready F s x) (k : n ≤ most) (at : ℕ) (o : List ℕ) where
   -- there was room, and the message was laid
-  module _ (good : F.codec.kind.Good (F.held.mean s x)) {w : Wrote} {m : ℕ} (e : view_wrote w ≡ roomed (length o) at n) (f : w ≡ wrote.Done m) {zs : List ℕ} where
-    pub room-laid : zs ≡ laid (output F s x) (mid_of at (length o - at) o) → Writes F s x at o (view_wrote w) (put_mid at (length o - at) o zs)
+  module _ (good : F.codec.kind.Good (F.held.mean s x)) {w : Result ℕ Refusal} {m : ℕ} (e : view_wrote w ≡ roomed (length o) at n) (f : w ≡ Ok m) {zs : List ℕ} where
+    pub room-laid : zs ≡ laid (output F s x) (mid_of at (length o - at) o) → Writes F s x at o (done m) (put_mid at (length o - at) o zs)
     room-laid g =
         let h = room_in (length o) at n e f in
         let y : at + n ≤ length o = h.room in
-        let z : done (at + n) ≡ view_wrote w = ap done h.next ∙ sym (ap view_wrote f) in
+        let z : done (at + n) ≡ done m = ap done h.next in
         subst (λ w. Writes F s x at o w (put_mid at (length o - at) o zs)) z (sized-done F s x l r at o (omega arith) k good (omega arith) g)

@@ -1,7 +1,7 @@
 -- A public writer of a message whose pieces lie in several sources: its needs in the shape of its goals; that with one source it is a
 -- writer as any other; that its answer is one; and that what it wrote reads back as itself.
 -- Assumes nothing.
-use Rattle.std.specs.Prelude.{◌≡◌, refl, Bool, true, false, ◌&&◌, List, [], ◌++◌, ℕ, ◌+◌, ◌-◌, ◌≤◌, ◌<◌, leb, length, take, drop}
+use Rattle.std.specs.Prelude.{◌≡◌, refl, Bool, true, false, ◌&&◌, List, [], ◌++◌, ℕ, ◌-◌, ◌≤◌, ◌<◌, leb, length, take, drop, Result, Ok, Err}
 use Rattle.std.proofs.Common.{sym, ap, ap₂, subst, ◌∙◌, arith, length-append, length-take-le, le-leb, leb-true, leb-false}
 use Rattle.std.proofs.lemmas.Bool.{lt-leb}
 use borrow.Rule.Slice.PartMut.{mid_of, put_mid}
@@ -17,8 +17,6 @@ use Rattle.xdr.specs.Laws.Public.{opened_in}
 use Rattle.xdr.specs.Laws.Write.{Put, writes-done, wrote-back}
 use Rattle.xdr.specs.Laws.Placing.{placing-done}
 use Rattle.xdr.specs.Laws.Putting.{placed}
-use Rattle.xdr.specs.declared.answer.Wrote.{Wrote}
-use Rattle.xdr.specs.declared.answer.Wrote.TheVariants as W
 use Rattle.xdr.specs.declared.refusal.Refusal.{Refusal}
 
 -- which of two lengths is the longer
@@ -54,20 +52,19 @@ sized source inside n k len at l = go (leb source most) inside refl refl
     go true false ht hu = simp (ht, hu)
     go true true ht hu = rw (l (leb-true source most ht) hu)
 
-module _ {M : Type 0} {C : Codec M} (m : M) (source : ℕ) (inside : Bool) (n at : ℕ) (o : List ℕ) (w : Wrote)
+module _ {M : Type 0} {C : Codec M} (m : M) (source : ℕ) (inside : Bool) (n at : ℕ) (o : List ℕ) (w : Result ℕ Refusal)
     (e : view_wrote w ≡ placing source inside n (length o) at) (l : source ≤ most → inside ≡ true → length (C.kind.write m) ≡ n) where
-  pub from-off : (q : Refusal) → w ≡ W.Refused q → WritesFrom C m source inside at o (view_wrote w) o
+  pub from-off : (q : Refusal) → w ≡ Err q → WritesFrom C m source inside at o (unwritten q) o
   from-off q f =
-      subst (λ z. WritesFrom C m source inside at o z o) (sym (ap view_wrote f))
-      (record { says = sym (ap view_wrote f) ∙ e ∙ sized source inside n (length (C.kind.write m)) (length o) at l; leaves = refl; good = tt })
+      record { says = sym (ap view_wrote f) ∙ e ∙ sized source inside n (length (C.kind.write m)) (length o) at l; leaves = refl; good = tt }
 
-  pub from_on : (k : ℕ) (zs : List ℕ) → w ≡ W.Done k → Put (mid_of at (length o - at) o) zs n (C.kind.write m) → C.kind.Good m
-      → WritesFrom C m source inside at o (view_wrote w) (put_mid at (length o - at) o zs)
+  pub from_on : (k : ℕ) (zs : List ℕ) → w ≡ Ok k → Put (mid_of at (length o - at) o) zs n (C.kind.write m) → C.kind.Good m
+      → WritesFrom C m source inside at o (done k) (put_mid at (length o - at) o zs)
   from_on k zs f p good =
       let d = placed source inside n (length o) at w k e f in
       let z = l d.short d.inside in
       let c = writes-done (exactly C) [] m at o d.starts (omega arith) refl (omega (arith, d.small)) good d.ends p in
-      subst (λ z. WritesFrom C m source inside at o z (put_mid at (length o - at) o zs)) (ap done (sym d.next) ∙ sym (ap view_wrote f))
+      subst (λ z. WritesFrom C m source inside at o z (put_mid at (length o - at) o zs)) (ap done (sym d.next))
       (record { says = ap done (sym d.next) ∙ sym (ap view_wrote f) ∙ e ∙ sized source inside n (length (C.kind.write m)) (length o) at l; leaves = c.leaves; good = c.good })
 
 -- by what the code found: the longer source, whether both pieces lie inside, and the size
@@ -95,7 +92,7 @@ pub from_back : {M S : Type 0} (F : Format M S) (m : M) (longest : ℕ) (inside 
     → WritesFrom F.codec m longest inside at o (done n) o' → Stands F m at n o'
 unfolding writing
 from_back F m longest inside at o n o' c =
-    let d = placed longest inside (length (F.codec.kind.write m)) (length o) at (W.Done n) n c.says refl in
+    let d = placed longest inside (length (F.codec.kind.write m)) (length o) at (Ok n) n c.says refl in
     let e = placing-done 0 true (length (F.codec.kind.write m)) (length o) at d.starts (omega arith) refl d.small (omega (arith, d.ends)) in
     let b = wrote-back (exactly F.codec) [] m at o (record { says = ap done d.next ∙ e; leaves = c.leaves; good = c.good }) in
     let h = means-taken F.held o' at b.reads in

@@ -1,19 +1,22 @@
 -- A union on a status, as proofs cite it: how it is read, its bytes by its arms, and how many there are. Each law is proved once, over the arms.
 -- Assumes nothing.
-use Rattle.std.specs.Prelude.{◌≡◌, refl, Bool, true, false, ◌&&◌, List, [], ◌++◌, ℕ, ◌+◌, ◌≤◌, length, drop}
+use Rattle.std.specs.Prelude.{◌≡◌, refl, Bool, true, false, ◌&&◌, List, [], ◌++◌, ℕ, ◌+◌, ◌≤◌, length, drop, Ok, Err}
+use Rattle.std.specs.Prelude as std
 use Rattle.std.proofs.Common.{sym, ap, ap₂, ◌∙◌, append-nil, arith, length-append}
-use Rattle.std.proofs.Math.Bool.{and-true}
 use Rattle.std.proofs.Math.Option.{Option, none, some}
+use Rattle.std.specs.Result.{result_from_control_flow}
+use Rattle.std.specs.declared.ops.ControlFlow.{ControlFlow}
+use Rattle.std.specs.declared.ops.ControlFlow.TheVariants.{Continue}
 use Rattle.xdr.specs.Meaning.Answer.{Answer, took, refused}
 use Rattle.xdr.specs.Meaning.Kind.{Codec}
 use Rattle.xdr.specs.Meaning.Codecs.{void}
 use Rattle.xdr.specs.Meaning.Format.{Format, exactly, plain, ◌⨟◌, tagged}
 use Rattle.xdr.specs.Meaning.Combinators.{means}
-use Rattle.xdr.specs.Meaning.Held.{look_at, then_first, then_second}
+use Rattle.xdr.specs.Meaning.Held.{look_at, then_second}
 use Rattle.xdr.specs.Meaning.Public.{output, laid}
 use Rattle.xdr.specs.Meaning.Marks.{MarksAre}
-use Rattle.xdr.specs.Meaning.Status.{Status, Result, ok, failed, Arms, arm_of, to_held, from_held, status_of, on_status}
-use Rattle.xdr.specs.Laws.Answers.{on, off}
+use Rattle.xdr.specs.Meaning.Status.{Status, Result, ok, failed, Arms, arm_of, to_held, status_of, on_status}
+use Rattle.xdr.specs.Laws.Answers.{was-ok, on, off}
 use Rattle.xdr.specs.Laws.Fixed.{Fixed}
 use Rattle.xdr.specs.Laws.Unpadded.{no-marks}
 use Rattle.xdr.specs.Laws.Lengths.{Within, chain-within, view-within, mapped-within, no_default}
@@ -21,7 +24,9 @@ use Rattle.xdr.specs.Laws.Plans.{Prog, ask, give, follow, run}
 use Rattle.xdr.specs.Laws.Write.{Ready, put-laid}
 use Rattle.xdr.specs.Laws.Writers.{Writer}
 use Rattle.xdr.specs.Laws.Fields.{Lays}
+use Rattle.xdr.specs.Meaning.Views.{view}
 use Rattle.xdr.specs.declared.refusal.Refusal.{Refusal}
+use Rattle.xdr.specs.declared.answer.Took.{Took}
 
 -- a kind that is such a union: all that is to know of it
 pub record OnStatus {A Fail M N S T R : Type 0} (C : Codec A) (U : Status A Fail) (F : Format M S) (G : Format N T) (W : Arms Fail S T R) (D : Format (Result Fail M N) R) : Type 1 where
@@ -65,19 +70,19 @@ module _ {A Fail M N S T R : Type 0} (C : Codec A) (U : Status A Fail) (F : Form
     status-is (took a n b) e = rw e (arm_is n b (U.of a))
     status-is (refused r) e = rw e
 
--- by the answer of the call that reads the status, which is always plain: what it refuses, and what it says
-module _ {Q A : Type 0} (view : Q → Answer A) {Fail M N S T R : Type 0} {C : Codec A} {U : Status A Fail} {F : Format M S} {G : Format N T} {W : Arms Fail S T R}
-    {D : Format (Result Fail M N) R} (X : OnStatus C U F G W D) (s : List ℕ) (p : ℕ) (r : Q) where
+-- by the answer of the call that reads the status: what it refuses, and what it says
+module _ {A Fail M N S T R : Type 0} {C : Codec A} {U : Status A Fail} {F : Format M S} {G : Format N T} {W : Arms Fail S T R}
+    {D : Format (Result Fail M N) R} (X : OnStatus C U F G W D) (s : List ℕ) (p : ℕ) (r : std.Result (Took A) Refusal) where
   status-read : (a : Answer A) → C.kind.read s p ≡ a → D.held.read s p ≡ follow (λ a n d. run (arm_by C U F G W (U.of a)) s n d) true a
   status-read a e = ap (λ d. d.held.read s p) X.is ∙ status-is C U F G W s p a e
 
-  pub status-lost : (lost : Q → Refusal) (t : Q) (q : Refusal) → q ≡ lost r → view r ≡ C.kind.read s p → r ≡ t → view t ≡ refused (lost t) → refused q ≡ D.held.read s p
-  status-lost lost t q g e f h = sym (status-read (refused q) (off view lost e f g h))
+  pub status-lost : (q : Refusal) → view r ≡ C.kind.read s p → r ≡ Err q → refused q ≡ D.held.read s p
+  status-lost q e f = sym (status-read (refused q) (off e f))
 
-  pub status-took : (t : Q) (a c : A) (n : ℕ) (z : Answer R) → view t ≡ took a n true → view r ≡ C.kind.read s p → r ≡ t → a ≡ c
-      → z ≡ run (arm_by C U F G W (U.of c)) s n true → z ≡ D.held.read s p
-  status-took t a c n z g e f h k =
-      k ∙ ap (λ v. run (arm_by C U F G W (U.of v)) s n true) (sym h) ∙ sym (status-read (took a n true) (on view e f ∙ g))
+  pub status-took : (t : Took A) (c : A) (i : ControlFlow _ (Took A)) (z : Answer R) → view r ≡ C.kind.read s p → r ≡ result_from_control_flow i → i ≡ Continue t → t.value ≡ c
+      → z ≡ run (arm_by C U F G W (U.of c)) s t.next t.plain → z ≡ D.held.read s p
+  status-took t c i z e g f h k =
+      k ∙ ap (λ v. run (arm_by C U F G W (U.of v)) s t.next t.plain) (sym h) ∙ sym (status-read (took t.value t.next t.plain) (on e (was-ok g f)))
 
 -- by its arms: what lies inside, and what a writer lays
 module _ {A Fail M N S T R : Type 0} {C : Codec A} {U : Status A Fail} {F : Format M S} {G : Format N T} {W : Arms Fail S T R} {D : Format (Result Fail M N) R}

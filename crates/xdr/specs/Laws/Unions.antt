@@ -1,7 +1,10 @@
 -- Unions by a tag, where the code matches on the tag: one law for a tag that is declared, and one for the rest, in the shape of a reader's goal.
 -- Assumes nothing.
-use Rattle.std.specs.Prelude.{◌≡◌, refl, Bool, true, false, ◌&&◌, List, [], ◌∷◌, ℕ, zero, suc, ◌+◌, ◌-◌, ◌≤◌}
+use Rattle.std.specs.Prelude.{◌≡◌, refl, Bool, true, false, ◌&&◌, List, [], ◌∷◌, ℕ, zero, suc, ◌+◌, ◌-◌, ◌≤◌, Result, Err}
 use Rattle.std.proofs.Common.{sym, ap, ◌∙◌, arith}
+use Rattle.std.specs.Result.{result_from_control_flow}
+use Rattle.std.specs.declared.ops.ControlFlow.{ControlFlow}
+use Rattle.std.specs.declared.ops.ControlFlow.TheVariants.{Continue}
 use Rattle.xdr.specs.Meaning.Answer.{Answer, took, refused}
 use Rattle.xdr.specs.Meaning.Combinators.{Seen, means, undeclared, first, second, View, meant, look}
 use Rattle.xdr.specs.Meaning.Codecs.{exact_view}
@@ -9,14 +12,13 @@ use Rattle.xdr.specs.Meaning.Items.{word}
 use Rattle.xdr.specs.Meaning.Held.{seen_as, look_at, then_first, then_second}
 use Rattle.xdr.specs.Meaning.Format.{Format, exactly, plain, Branch, branch, tagged, Kept, Back, union}
 use Rattle.xdr.specs.Meaning.Kind.{Kind, Codec}
-use Rattle.xdr.specs.Meaning.Views.{view_u32, lost_u32}
-use Rattle.xdr.specs.Laws.Answers.{on, off}
+use Rattle.xdr.specs.Meaning.Views.{view}
+use Rattle.xdr.specs.Laws.Answers.{was-ok, off, word-on}
 use Rattle.xdr.specs.Laws.Plans.{Prog, ask, give, follow, run}
 use Rattle.xdr.specs.Laws.Keys.{Rest}
 use Rattle.xdr.specs.declared.refusal.Refusal.{Refusal}
 use Rattle.xdr.specs.declared.refusal.Refusal.TheVariants.{Undeclared}
-use Rattle.xdr.specs.declared.answer.U32Read.{U32Read}
-use Rattle.xdr.specs.declared.answer.U32Read.TheVariants as U32
+use Rattle.xdr.specs.declared.answer.Took.{Took}
 
 -- what is to know of a union, once: its tags are those below `tags`, and any other is read as a default
 pub record Union {N T : Type 0} (F : Format N T) (branches : ℕ → Branch) (hold : (tag : ℕ) → (branches tag).Has → Seen T) (tags : ℕ) : Type 0 where
@@ -76,33 +78,33 @@ rest-past : (m v : ℕ) → Rest (Unit {0}) (from 0 m) v → v ≡ past m (v - m
 rest-past m v h = omega (arith, rest_from (Unit {0}) 0 m v (λ t. omega arith) h, past_is m (v - m))
 
 -- by the answer of the call that reads the tag
-module _ {N T : Type 0} {F : Format N T} (branches : ℕ → Branch) (hold : (tag : ℕ) → (branches tag).Has → Seen T) (tags : ℕ) (X : Union F branches hold tags) (s : List ℕ) (p : ℕ) (r : U32Read) where
-  pub union-lost : (u q : Refusal) → q ≡ lost_u32 r → view_u32 r ≡ word.kind.read s p → r ≡ U32.Refused u → refused q ≡ F.held.read s p
-  union-lost u q g e f = rw (union-read branches hold s p X, off view_u32 lost_u32 e f g refl)
+module _ {N T : Type 0} {F : Format N T} (branches : ℕ → Branch) (hold : (tag : ℕ) → (branches tag).Has → Seen T) (tags : ℕ) (X : Union F branches hold tags) (s : List ℕ) (p : ℕ) (r : Result (Took ℕ) Refusal) where
+  pub union-lost : (q : Refusal) → view r ≡ word.kind.read s p → r ≡ Err q → refused q ≡ F.held.read s p
+  union-lost q e f = rw (union-read branches hold s p X, off e f)
 
-  module _ (v n : ℕ) (z : Answer T) where
-    union-took : view_u32 r ≡ word.kind.read s p → r ≡ U32.Took v n → (k : ℕ) → v ≡ k → z ≡ run (behind branches hold p k) s n true → z ≡ F.held.read s p
-    union-took e f k g h = h ∙ ap (λ t. run (behind branches hold p t) s n true) (sym g) ∙ sym (rw (union-read branches hold s p X, on view_u32 e f))
+  module _ (x : Took ℕ) (c : ControlFlow _ (Took ℕ)) (z : Answer T) where
+    union-took : view r ≡ word.kind.read s p → r ≡ result_from_control_flow c → c ≡ Continue x → (k : ℕ) → x.value ≡ k → z ≡ run (behind branches hold p k) s x.next true → z ≡ F.held.read s p
+    union-took e t f k g h = h ∙ ap (λ t. run (behind branches hold p t) s x.next true) (sym g) ∙ sym (rw (union-read branches hold s p X, word-on s p e (was-ok t f)))
 
-    pub union-key : (k : ℕ) → view_u32 r ≡ word.kind.read s p → r ≡ U32.Took v n → v ≡ k → z ≡ run (behind branches hold p k) s n true → z ≡ F.held.read s p
-    union-key k e f g h = union-took e f k g h
+    pub union-key : (k : ℕ) → view r ≡ word.kind.read s p → r ≡ result_from_control_flow c → c ≡ Continue x → x.value ≡ k → z ≡ run (behind branches hold p k) s x.next true → z ≡ F.held.read s p
+    union-key k e t f g h = union-took e t f k g h
 
-    pub union-rest : view_u32 r ≡ word.kind.read s p → r ≡ U32.Took v n → Rest (Unit {0}) (from 0 (tags)) v
-        → z ≡ run (behind branches hold p (past (tags) (v - tags))) s n true → z ≡ F.held.read s p
-    union-rest e f g h = union-took e f (past (tags) (v - tags)) (rest-past (tags) v g) h
+    pub union-rest : view r ≡ word.kind.read s p → r ≡ result_from_control_flow c → c ≡ Continue x → Rest (Unit {0}) (from 0 (tags)) x.value
+        → z ≡ run (behind branches hold p (past (tags) (x.value - tags))) s x.next true → z ≡ F.held.read s p
+    union-rest e t f g h = union-took e t f (past (tags) (x.value - tags)) (rest-past (tags) x.value g) h
 
 -- the same of a codec
-module _ {N : Type 0} {C : Codec N} (branches : ℕ → Branch) (hold : (tag : ℕ) → (branches tag).Has → Seen N) (tags : ℕ) (X : Union (exactly C) branches hold tags) (s : List ℕ) (p : ℕ) (r : U32Read) where
-  pub arm-lost : (u q : Refusal) → q ≡ lost_u32 r → view_u32 r ≡ word.kind.read s p → r ≡ U32.Refused u → refused q ≡ C.kind.read s p
+module _ {N : Type 0} {C : Codec N} (branches : ℕ → Branch) (hold : (tag : ℕ) → (branches tag).Has → Seen N) (tags : ℕ) (X : Union (exactly C) branches hold tags) (s : List ℕ) (p : ℕ) (r : Result (Took ℕ) Refusal) where
+  pub arm-lost : (q : Refusal) → view r ≡ word.kind.read s p → r ≡ Err q → refused q ≡ C.kind.read s p
   arm-lost = union-lost branches hold tags X s p r
 
-  module _ (v n : ℕ) (z : Answer N) where
-    pub arm-key : (k : ℕ) → view_u32 r ≡ word.kind.read s p → r ≡ U32.Took v n → v ≡ k → z ≡ run (behind branches hold p k) s n true → z ≡ C.kind.read s p
-    arm-key = union-key branches hold tags X s p r v n z
+  module _ (x : Took ℕ) (c : ControlFlow _ (Took ℕ)) (z : Answer N) where
+    pub arm-key : (k : ℕ) → view r ≡ word.kind.read s p → r ≡ result_from_control_flow c → c ≡ Continue x → x.value ≡ k → z ≡ run (behind branches hold p k) s x.next true → z ≡ C.kind.read s p
+    arm-key = union-key branches hold tags X s p r x c z
 
-    pub arm-rest : view_u32 r ≡ word.kind.read s p → r ≡ U32.Took v n → Rest (Unit {0}) (from 0 (tags)) v
-        → z ≡ run (behind branches hold p (past (tags) (v - tags))) s n true → z ≡ C.kind.read s p
-    arm-rest = union-rest branches hold tags X s p r v n z
+    pub arm-rest : view r ≡ word.kind.read s p → r ≡ result_from_control_flow c → c ≡ Continue x → Rest (Unit {0}) (from 0 (tags)) x.value
+        → z ≡ run (behind branches hold p (past (tags) (x.value - tags))) s x.next true → z ≡ C.kind.read s p
+    arm-rest = union-rest branches hold tags X s p r x c z
 
 pub ruleset unions = (union-lost, union-key, union-rest, arm-lost, arm-key, arm-rest)
 

@@ -2,10 +2,10 @@
 -- Assumes nothing.
 use Rattle.std.specs.Prelude.{◌≡◌, refl, Bool, true, false, cond, ◌&&◌, List, [], ◌∷◌, ◌++◌, ℕ, zero, suc, eqb, length}
 use Rattle.std.proofs.Common.{ap, ap₂, subst, ◌∙◌}
-use Rattle.xdr.specs.Meaning.Answer.{Way, odd_flag, dirty_pad, stray_tag, Loose, here, shifted}
+use Rattle.xdr.specs.Meaning.Answer.{Loose, here, shifted}
 use Rattle.xdr.specs.Meaning.Kind.{Kind, Codec}
 use Rattle.xdr.specs.Meaning.Combinators.{block_kind, void_kind, chain_kind, Seen, means, undeclared, View, view_kind, among}
-use Rattle.xdr.specs.Meaning.Items.{number, word, hyper, word_pair, hyper_pair, flag, see_flag, int, long, eight, closed, if, option}
+use Rattle.xdr.specs.Meaning.Items.{number, word, hyper, word_pair, hyper_pair, flag, see_flag, int, long, eight, closed}
 use Rattle.xdr.specs.Meaning.Format.{exactly}
 use Rattle.xdr.specs.Meaning.Marks.{no_pad, pads_clean, MarksAre}
 

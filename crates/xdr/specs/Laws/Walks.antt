@@ -1,21 +1,20 @@
 -- Walking along a linked list: what a step finds, and what a loop that reads keeps.
 -- Assumes nothing.
-use Rattle.std.specs.Prelude.{◌≡◌, refl, Bool, true, false, ◌&&◌, List, [], ◌∷◌, ℕ, zero, suc, ◌+◌, ◌-◌, ◌≤◌, ◌<◌, eqb, length, get_or}
-use Rattle.std.proofs.Common.{sym, ap, ap₂, subst, ◌∙◌, add-zero, zero-add, arith, eq-eqb, eqb-true, Fits}
+use Rattle.std.specs.Prelude.{◌≡◌, refl, Bool, true, false, ◌&&◌, List, [], ℕ, zero, suc, ◌+◌, ◌-◌, ◌≤◌, ◌<◌, length}
+use Rattle.std.proofs.Common.{sym, ap, subst, ◌∙◌, add-zero, zero-add, arith}
 use Rattle.std.proofs.Math.Bool.{and-true}
 use Rattle.std.proofs.Math.Option.{Option, none, some}
-use Rattle.std.specs.Int.{w8}
 use Rattle.xdr.specs.Meaning.Bytes.{Bytes}
-use Rattle.xdr.specs.Meaning.Answer.{Answer, took, refused, map_answer, clean}
+use Rattle.xdr.specs.Meaning.Answer.{Answer, took, refused, map_answer}
 use Rattle.xdr.specs.Meaning.Kind.{Found, Sound}
 use Rattle.xdr.specs.Meaning.Combinators.{means}
 use Rattle.xdr.specs.Meaning.Held.{look_at}
 use Rattle.xdr.specs.Meaning.Format.{Format, optional}
 use Rattle.xdr.specs.Meaning.Cases.{Cases, maybe_held}
-use Rattle.xdr.specs.Meaning.Linked.{linked_kind, placed_at, elements_of, has_count}
+use Rattle.xdr.specs.Meaning.Linked.{placed_at}
 use Rattle.xdr.specs.Meaning.Marks.{all_clean}
 use Rattle.xdr.specs.Meaning.Lists.{linked, clean_step, clean_to, clean_list, list_of}
-use Rattle.xdr.specs.Laws.Lists.{room, known_bytes}
+use Rattle.xdr.specs.Laws.Lists.{room}
 use Rattle.xdr.specs.Laws.Held.{taken-means, refused-means}
 use Rattle.xdr.specs.Laws.Linked.{put, follow, linked-step, optional-four, optional-some}
 use Rattle.xdr.specs.Laws.Even.{Even, optional-even}

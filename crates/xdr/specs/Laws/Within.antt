@@ -1,22 +1,21 @@
 -- Writing under a bound: as without it, where the bound is kept; and what it refuses.
 -- Assumes nothing.
-use Rattle.std.specs.Prelude.{◌≡◌, Bool, List, ℕ, ◌+◌, ◌≤◌, length}
+use Rattle.std.specs.Prelude.{◌≡◌, Bool, List, ℕ, ◌+◌, length}
 use Rattle.std.proofs.Math.Path.{refl, sym}
 use Rattle.std.proofs.Common.{ap, subst, ◌∙◌}
 use Rattle.std.proofs.Math.Bool.{true, false}
-use Rattle.std.proofs.Math.Option.{Option, none, some}
+use Rattle.std.proofs.Math.Option.{Option, none}
 use native.Mathlib.Omega.{arith}
 use Rattle.std.proofs.Math.Dec.{leb}
 use Rattle.xdr.specs.Meaning.Answer.{took, most, Written, done, unwritten}
 use Rattle.xdr.specs.Meaning.Order.{placing, bounding}
 use Rattle.xdr.specs.Meaning.Format.{Format}
 use Rattle.xdr.specs.Meaning.Lists.{bounded}
-use Rattle.xdr.specs.Meaning.Public.{output, writing, leaving, InRange, Answers, Writes, Back}
+use Rattle.xdr.specs.Meaning.Public.{output, writing, leaving, InRange, Answers, Writes}
 use Rattle.xdr.specs.Meaning.Within.{is_within, WritesWithin}
 use Rattle.xdr.specs.Laws.Public.{kept}
-use Rattle.xdr.specs.Laws.Write.{wrote-back}
 use Rattle.xdr.specs.declared.refusal.Refusal.{Refusal}
-use Rattle.xdr.specs.declared.refusal.Refusal.TheVariants.{TooLong, Outside, NoRoom, PastEnd, LongPath}
+use Rattle.xdr.specs.declared.refusal.Refusal.TheVariants.{TooLong, Outside, PastEnd, LongPath}
 
 no : {P : Type 0} {n : ℕ} {r : Refusal} → done n ≡ unwritten r → P
 no e = let z : ◌≡◌ {A = ℕ} 0 1 = cc in absurd (omega arith)

@@ -5,7 +5,7 @@ use Rattle.std.proofs.Math.Path.{refl, sym}
 use Rattle.std.proofs.Common.{ap, ap₂, ◌∙◌, add-zero, zero-add, suc-add, length-drop, length-append, length-take-le, drop-drop}
 use Rattle.std.proofs.Math.Bool.{true, false}
 use Rattle.std.proofs.Math.Option.{none, some}
-use Prim.Native.Nat.{ℕ, zero, suc, ◌+◌, ◌*◌, ◌^◌, ◌-◌, ◌≤◌, ◌<◌}
+use Prim.Native.Nat.{ℕ, zero, suc, ◌+◌, ◌*◌, ◌^◌, ◌-◌, ◌/◌, ◌≤◌, ◌<◌}
 use native.Mathlib.Omega.{arith}
 use Rattle.std.proofs.Math.ListN.{length, get_or-append}
 use borrow.Author.Tests.{le-leb, lt-leb, leb-true, leb-false}
@@ -94,6 +94,20 @@ module _ (s : List ℕ) (x : Piece) where
   pub words-le : are_inside s x ≡ true → x.at + x.count * 4 ≤ length s
   unfolding are_inside
   words-le h = leb-true (x.at + x.count * 4) (length s) h
+
+  pub words-past : are_inside s x ≡ false → length s < x.at + x.count * 4
+  unfolding are_inside
+  words-past h = leb-false (x.at + x.count * 4) (length s) h
+
+  -- the code's test, which divides and subtracts so that nothing can overflow
+  pub words-at : x.count ≤ length s / 4 → leb x.at (length s - x.count * 4) ≡ are_inside s x
+  words-at h = at (leb x.at (length s - x.count * 4)) refl where
+    at : (b : Bool) → leb x.at (length s - x.count * 4) ≡ b → b ≡ are_inside s x
+    at true e = let k = leb-true x.at (length s - x.count * 4) e in sym (words-yes (omega (arith, k)))
+    at false e = let k = leb-false x.at (length s - x.count * 4) e in sym (words-no (omega (arith, k)))
+
+  pub words-over : length s / 4 < x.count → leb x.count (length s / 4) ≡ are_inside s x
+  words-over h = lt-leb x.count (length s / 4) h ∙ sym (words-no (omega arith))
 
   -- a part of a slice, as the code takes it
   pub words-part : take (x.at + x.count * 4 - x.at) (drop x.at s) ≡ take (x.count * 4) (drop x.at s)

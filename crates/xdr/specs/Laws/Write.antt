@@ -1,7 +1,7 @@
 -- What a writer leaves in its buffer: fields one after another, each lent the tail; and that what was written reads back as itself.
 -- Assumes nothing.
 use Rattle.std.proofs.Math.Path.{◌≡◌, refl, sym, ap}
-use Rattle.std.proofs.Common.{ap₂, subst, ◌∙◌, length-append, zero-add, drop-drop, take_at, drop_at, length-take-le}
+use Rattle.std.proofs.Common.{ap₂, ◌∙◌, length-append, zero-add, drop-drop, take_at, drop_at, length-take-le}
 use Rattle.std.specs.Prelude.{Bool, true, false, ℕ, ◌+◌, ◌-◌, ◌<◌, ◌≤◌, leb}
 use mathlib.Core.List.{List, [], ◌++◌, append_assoc, append-nil}
 use native.Mathlib.Omega.{arith}

@@ -1,11 +1,11 @@
 -- A public writer's needs in the shape of its goals, so that `search` closes each: the facts are those of the calls of `place`, `X_inside`, `X_size` and `put_X`.
 -- Assumes nothing.
-use Rattle.std.specs.Prelude.{◌≡◌, refl, Bool, true, false, not, List, [], ℕ, ◌-◌, ◌≤◌, ◌<◌, length, get_or}
-use Rattle.std.proofs.Common.{sym, ap, ◌∙◌, Fits, arith}
+use Rattle.std.specs.Prelude.{◌≡◌, refl, Bool, true, false, List, [], ℕ, ◌-◌, ◌≤◌, ◌<◌, length, get_or, Result, Ok, Err}
+use Rattle.std.proofs.Common.{sym, ap, ◌∙◌, Fits, arith, subst}
 use Rattle.std.specs.Int.{w8}
 use borrow.Rule.Slice.PartMut.{mid_of, put_mid}
 use Rattle.xdr.specs.Meaning.Bytes.{Bytes}
-use Rattle.xdr.specs.Meaning.Answer.{most}
+use Rattle.xdr.specs.Meaning.Answer.{most, done, unwritten}
 use Rattle.xdr.specs.Meaning.Kind.{Codec}
 use Rattle.xdr.specs.Meaning.Order.{placing, roomed}
 use Rattle.xdr.specs.Meaning.Format.{Format, exactly}
@@ -21,8 +21,6 @@ use Rattle.xdr.specs.Laws.Padding.{words-within}
 use Rattle.xdr.specs.declared.piece.Piece.{Piece}
 use Rattle.xdr.specs.Laws.Room.{room_in, room-laid}
 use Rattle.xdr.specs.Laws.Placing.{placing-as, refuses, ready, at_place, wrote_of}
-use Rattle.xdr.specs.declared.answer.Wrote.{Wrote}
-use Rattle.xdr.specs.declared.answer.Wrote.TheVariants as wrote
 use Rattle.xdr.specs.declared.refusal.Refusal.{Refusal}
 
 -- what is to know of a kind with pieces, once
@@ -30,41 +28,42 @@ pub record Writer {M S : Type 0} (F : Format M S) : Type 0 where
   pub size : S → ℕ
   pub sized : (s : List ℕ) (x : S) → Ready F s x → length (output F s x) ≡ size x
 
-module _ {M S : Type 0} {F : Format M S} (W : Writer F) (s : List ℕ) (x : S) (at : ℕ) (o : List ℕ) (w : Wrote) (i : Bool) (m : ℕ) where
+module _ {M S : Type 0} {F : Format M S} (W : Writer F) (s : List ℕ) (x : S) (at : ℕ) (o : List ℕ) (w : Result ℕ Refusal) (i : Bool) (m : ℕ) where
   -- it refuses
-  pub write-off : (q : Refusal) → view_wrote w ≡ placing (length s) i m (length o) at → i ≡ F.held.inside s x → m ≡ W.size x → w ≡ wrote.Refused q
-      → Writes F s x at o (view_wrote w) o
-  write-off q e f g h = refuses F s x (W.sized s x) at o (placing-as (length s) (length o) at e f g) (ap view_wrote h)
+  pub write-off : (q : Refusal) → view_wrote w ≡ placing (length s) i m (length o) at → i ≡ F.held.inside s x → m ≡ W.size x → w ≡ Err q
+      → Writes F s x at o (unwritten q) o
+  write-off q e f g h = subst (λ z. Writes F s x at o z o) (ap view_wrote h) (refuses F s x (W.sized s x) at o (placing-as (length s) (length o) at e f g) (ap view_wrote h))
 
   -- the place is in the buffer
-  pub write-place : (k : ℕ) → view_wrote w ≡ placing (length s) i m (length o) at → i ≡ F.held.inside s x → m ≡ W.size x → w ≡ wrote.Done k → at ≤ length o
+  pub write-place : (k : ℕ) → view_wrote w ≡ placing (length s) i m (length o) at → i ≡ F.held.inside s x → m ≡ W.size x → w ≡ Ok k → at ≤ length o
   write-place k e f g h = at_place F s x (W.sized s x) at o (placing-as (length s) (length o) at e f g) (ap view_wrote h)
 
   -- it writes, and what lies inside is in range
-  pub write-in : (k : ℕ) (zs : List ℕ) → view_wrote w ≡ placing (length s) i m (length o) at → i ≡ F.held.inside s x → m ≡ W.size x → w ≡ wrote.Done k
+  pub write-in : (k : ℕ) (zs : List ℕ) → view_wrote w ≡ placing (length s) i m (length o) at → i ≡ F.held.inside s x → m ≡ W.size x → w ≡ Ok k
       → ((j : ℕ) → Fits w8 (get_or s j 0)) → (Bytes s → length s ≤ most → F.held.inside s x ≡ true → F.codec.kind.Good (F.held.mean s x))
-      → zs ≡ laid_of F s x (mid_of at (length o - at) o) → Writes F s x at o (view_wrote w) (put_mid at (length o - at) o zs)
+      → zs ≡ laid_of F s x (mid_of at (length o - at) o) → Writes F s x at o (done k) (put_mid at (length o - at) o zs)
   write-in k zs e f g h given good l =
       let p = placing-as (length s) (length o) at e f g in
       let r = ready F s x (W.sized s x) at o p (ap view_wrote h) in
-      wrote_of F s x (W.sized s x) at o p (ap view_wrote h) (good (known_bytes s given) r.short r.inside) l
+      subst (λ z. Writes F s x at o z (put_mid at (length o - at) o zs)) (ap view_wrote h)
+      (wrote_of F s x (W.sized s x) at o p (ap view_wrote h) (good (known_bytes s given) r.short r.inside) l)
 
   -- the same, where all is in range
-  pub write-on : (k : ℕ) (zs : List ℕ) → view_wrote w ≡ placing (length s) i m (length o) at → i ≡ F.held.inside s x → m ≡ W.size x → w ≡ wrote.Done k
-      → ((j : ℕ) → Fits w8 (get_or s j 0)) → (Bytes s → length s ≤ most → F.codec.kind.Good (F.held.mean s x)) → zs ≡ laid_of F s x (mid_of at (length o - at) o) → Writes F s x at o (view_wrote w) (put_mid at (length o - at) o zs)
+  pub write-on : (k : ℕ) (zs : List ℕ) → view_wrote w ≡ placing (length s) i m (length o) at → i ≡ F.held.inside s x → m ≡ W.size x → w ≡ Ok k
+      → ((j : ℕ) → Fits w8 (get_or s j 0)) → (Bytes s → length s ≤ most → F.codec.kind.Good (F.held.mean s x)) → zs ≡ laid_of F s x (mid_of at (length o - at) o) → Writes F s x at o (done k) (put_mid at (length o - at) o zs)
   write-on k zs e f g h given good l = write-in k zs e f g h given (λ b h i. good b h) l
 
 -- a writer with no pieces: by `room`
-module _ (len at n k : ℕ) (w : Wrote) where
-  pub room-place : view_wrote w ≡ roomed len at n → w ≡ wrote.Done k → at ≤ len
+module _ (len at n k : ℕ) (w : Result ℕ Refusal) where
+  pub room-place : view_wrote w ≡ roomed len at n → w ≡ Ok k → at ≤ len
   room-place e f = omega (arith, room_in len at n e f)
 
-module _ {M : Type 0} (C : Codec M) (small : (x : M) → length (C.kind.write x) ≤ most) (x : M) (at : ℕ) (o : List ℕ) (w : Wrote) (n : ℕ) where
+module _ {M : Type 0} (C : Codec M) (small : (x : M) → length (C.kind.write x) ≤ most) (x : M) (at : ℕ) (o : List ℕ) (w : Result ℕ Refusal) (n : ℕ) where
   plain-small : n ≡ length (C.kind.write x) → n ≤ most
   plain-small e = omega (arith, small x)
 
-  pub plain-on : (k : ℕ) (zs : List ℕ) → n ≡ length (C.kind.write x) → view_wrote w ≡ roomed (length o) at n → w ≡ wrote.Done k → C.kind.Good x
-      → zs ≡ laid (C.kind.write x) (mid_of at (length o - at) o) → Writes (exactly C) [] x at o (view_wrote w) (put_mid at (length o - at) o zs)
+  pub plain-on : (k : ℕ) (zs : List ℕ) → n ≡ length (C.kind.write x) → view_wrote w ≡ roomed (length o) at n → w ≡ Ok k → C.kind.Good x
+      → zs ≡ laid (C.kind.write x) (mid_of at (length o - at) o) → Writes (exactly C) [] x at o (done k) (put_mid at (length o - at) o zs)
   plain-on k zs l e f g z = room-laid (exactly C) [] x (sym l) (no_pieces C x) (plain-small l) at o g e f z
 
 -- what `put_X` leaves of the buffer

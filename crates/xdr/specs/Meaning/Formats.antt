@@ -3,7 +3,7 @@
 use Rattle.std.specs.Prelude.{refl, true, List, [], ◌∷◌, ℕ}
 use Rattle.xdr.specs.Meaning.Bytes.{digits}
 use Rattle.xdr.specs.Meaning.Combinators.{means}
-use Rattle.xdr.specs.Meaning.Items.{word, hyper, eight, opaque, words}
+use Rattle.xdr.specs.Meaning.Items.{hyper, eight, opaque, words}
 use Rattle.xdr.specs.Meaning.Held.{Held}
 use Rattle.xdr.specs.Meaning.Format.{Format, plain, held_view}
 use Rattle.xdr.specs.Meaning.Pieces.{bytes_in, is_inside, piece_at, words_in, are_inside, word_piece_at}

@@ -1,12 +1,12 @@
 -- The items of XDR (RFC 4506, section 4), with the crate's tolerances 1 and 2: each nonzero flag is true, and padding may hold anything.
 -- Assumes nothing.
-use Rattle.std.specs.Prelude.{◌≡◌, refl, Bool, true, false, cond, List, [], ◌∷◌, ℕ, zero, suc, ◌+◌, ◌-◌, ◌*◌, ◌^◌, ◌<◌, ℤ, length, replicate}
+use Rattle.std.specs.Prelude.{◌≡◌, refl, Bool, true, false, cond, List, [], ◌∷◌, ℕ, zero, suc, ◌+◌, ◌*◌, ◌^◌, ◌<◌, ℤ, length, replicate}
 use Rattle.std.proofs.Math.Option.{Option}
 use Rattle.xdr.specs.Meaning.Bytes.{Bytes, value, digits, padding, zeros, signed, unsigned, InHalf}
 use Rattle.xdr.specs.Meaning.Refusal.{Cut}
 use Rattle.xdr.specs.Meaning.Answer.{odd_flag, dirty_pad}
 use Rattle.xdr.specs.Meaning.Kind.{Codec}
-use Rattle.xdr.specs.Meaning.Combinators.{Raw, Seen, means, undeclared, Takes, item_kind}
+use Rattle.xdr.specs.Meaning.Combinators.{Raw, Seen, means, Takes, item_kind}
 use Rattle.xdr.specs.Meaning.Codecs.{block, void, chain, view, run, seen, ◌⨾◌, mapped, times}
 use Rattle.xdr.specs.Meaning.Combinators.{Exact, among}
 use Rattle.xdr.specs.Laws.Exact.{among-exact}

@@ -1,6 +1,6 @@
 -- The contracts of public readers and writers.
 -- Assumes nothing.
-use Rattle.std.specs.Prelude.{◌≡◌, ◌↔◌, ◌⊎◌, Bool, true, cond, List, [], ◌++◌, ℕ, ◌+◌, ◌-◌, ◌≤◌, ◌<◌, leb, length, take, drop}
+use Rattle.std.specs.Prelude.{◌≡◌, ◌↔◌, ◌⊎◌, Bool, true, cond, List, [], ◌++◌, ℕ, ◌-◌, ◌≤◌, ◌<◌, leb, length, take, drop}
 use Rattle.xdr.specs.Meaning.Bytes.{Bytes, part}
 use Rattle.xdr.specs.Meaning.Answer.{Answer, took, refused, map_answer, Came, Loose, most, opened, Written, done, unwritten}
 use Rattle.xdr.specs.Meaning.Order.{placing}
@@ -8,7 +8,7 @@ use Rattle.xdr.specs.Meaning.Promise.{Begins}
 use Rattle.xdr.specs.Meaning.Format.{Format}
 use Rattle.xdr.specs.Meaning.Refusal.{OfReading, wanting_of}
 use Rattle.xdr.specs.declared.refusal.Refusal.{Refusal}
-use Rattle.xdr.specs.declared.refusal.Refusal.TheVariants.{Ended, Undeclared, TooLong, PastEnd}
+use Rattle.xdr.specs.declared.refusal.Refusal.TheVariants.{Ended, TooLong, PastEnd}
 
 module _ {M S : Type 0} (F : Format M S) where
   -- a public reader's answer at a place of a source: the format's reading, once refusals 3 and 9 are tested; and the source is bytes

@@ -1,11 +1,5 @@
-use Rattle.std.proofs.Common.{length, ◌-◌, ◌≤◌, ◌<◌}
+use Rattle.std.proofs.Common.{◌<◌}
 use Rattle.limits.proofs.make.digest.Given as goal
 
-abbrev pub decreases-loop-i : goal.decreases-loop-i
-decreases-loop-i l = length l.bytes - l.i
-
-abbrev pub invariant-loop-i : goal.invariant-loop-i
-invariant-loop-i l = record {
-  within : l.i ≤ length l.bytes;
-  small : l.sum < 4294967291;
-}
+abbrev pub invariant-loop-b : goal.invariant-loop-b
+invariant-loop-b l = l.sum < 4294967291

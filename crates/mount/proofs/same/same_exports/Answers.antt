@@ -1,8 +1,8 @@
 use Rattle.std.proofs.Common.{rules}
-use Rattle.mount.specs.Laws.Same.{left-too-long, right-too-long, is-outside, is-long, left-held, right-held, is_same, is-different}
+use Rattle.mount.specs.Laws.Same.{left-too-long, right-too-long, is-outside, is-long, left-held, right-held, is_compared}
 use Rattle.mount.proofs.same.same_exports.Goals as goal
 
-ruleset compared = (rules, left-too-long, right-too-long, is-outside, is-long, left-held, right-held, is_same, is-different)
+ruleset compared = (rules, left-too-long, right-too-long, is-outside, is-long, left-held, right-held, is_compared)
 
 pub returns-then-a-gt-MOST : goal.returns-then-a-gt-MOST
 returns-then-a-gt-MOST c = search compared
@@ -22,8 +22,5 @@ same_nodes-requires-clause-x_value c = search compared
 pub same_nodes-requires-clause-y_value : goal.same_nodes-requires-clause-y_value
 same_nodes-requires-clause-y_value c = search compared
 
-pub returns-then-same_nodes : goal.returns-then-same_nodes
-returns-then-same_nodes c = search compared
-
-pub returns-else-same_nodes : goal.returns-else-same_nodes
-returns-else-same_nodes c = search compared
+pub returns-in-Within : goal.returns-in-Within
+returns-in-Within c = search compared

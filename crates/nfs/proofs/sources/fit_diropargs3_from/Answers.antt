@@ -1,5 +1,4 @@
-use Rattle.xdr.specs.Laws.Write.{room_at}
-use Rattle.nfs.specs.Laws.Sources.{dir-fit-off, dir-fit-ready, dir-fit-on}
+use Rattle.nfs.specs.Laws.Sources.{dir-fit-ready, dir-fit-on}
 use Rattle.nfs.proofs.SourceRanges.{dir-from-good}
 use Rattle.nfs.proofs.sources.fit_diropargs3_from.Goals as goal
 

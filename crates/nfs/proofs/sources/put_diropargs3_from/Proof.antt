@@ -1,5 +1,4 @@
 use borrow.Author.Rules.{rules}
-use native.Mathlib.Omega.{arith}
 use Rattle.nfs.specs.Laws.Sources.{dir-from-put}
 use Rattle.nfs.proofs.sources.put_diropargs3_from.Statement.{statement}
 use Rattle.nfs.proofs.sources.put_diropargs3_from.Tie as tie

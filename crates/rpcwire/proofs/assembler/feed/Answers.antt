@@ -28,12 +28,10 @@ owed s₀ run d₀ r f d j t e h k z b =
     record { is = sym (turned-out s₀ run d₀ (view_fed r) d j t' (ended r h)) ∙ feed-begun s₀ run d₀ k z; bytes = b }
 
 -- the turn of a header byte
-header : (s₀ : Assembler) (run d₀ d : List ℕ) (s : Assembler) (i b : ℕ) → Going s₀ run d₀ d s i → i < length run
-    → b ≡ get_or run i 0 → Fits w8 (get_or run i 0) → s.left ≡ 0
-    → Turned s₀ run d₀ (header_byte s.capacity s.placed s.header_count (s.header_value * 256 + b) (i + 1)) d (i + 1)
-header s₀ run d₀ d s i b g h e w z =
-    subst (λ (x : ℕ). Turned s₀ run d₀ (header_byte s.capacity s.placed s.header_count (s.header_value * 256 + x) (i + 1)) d (i + 1))
-    (sym e) (header-turned s₀ run d₀ d s i g z h (omega arith))
+header : (s₀ : Assembler) (run d₀ d : List ℕ) (s : Assembler) (i : ℕ) → Going s₀ run d₀ d s i → i < length run
+    → Fits w8 (get_or run i 0) → s.left ≡ 0
+    → Turned s₀ run d₀ (header_byte s.capacity s.placed s.header_count (s.header_value * 256 + get_or run i 0) (i + 1)) d (i + 1)
+header s₀ run d₀ d s i g h w z = header-turned s₀ run d₀ d s i g z h (omega arith)
 
 -- a part of the run copied into the buffer
 stored : (run d f : List ℕ) (i n p : ℕ) → i + n ≤ length run → p + n ≤ length d → f ≡ take (i + n - i) (drop i run)
@@ -81,13 +79,13 @@ overflow_mul-word c = omega (arith, value-bound c.loop-i.s (length c.loop-i.buf)
 
 pub overflow_add-word : goal.overflow_add-word
 overflow_add-word c =
-    omega (arith, value-bound c.loop-i.s (length c.loop-i.buf) c.loop-i.invariant.fits, c.wide.ensures, c.type_inv.run c.loop-i.i)
+    omega (arith, value-bound c.loop-i.s (length c.loop-i.buf) c.loop-i.invariant.fits, c.type_inv.run c.loop-i.i)
 
 pub returns-in_default : goal.returns-in_default
 returns-in_default c =
     let l = c.loop-i in
     let run = c.args.run.now in
-    let t = header c.args.state run c.args.buf.now l.buf l.s l.i c.wide.result l.invariant c.loop-i-test.true c.wide.ensures (c.type_inv.run l.i) c.if-left-eq0.true in
+    let t = header c.args.state run c.args.buf.now l.buf l.s l.i l.invariant c.loop-i-test.true (c.type_inv.run l.i) c.if-left-eq0.true in
     owed c.args.state run c.args.buf.now c.header_byte-step.result _ l.buf (l.i + 1) t c.header_byte-step.ensures c.in_default.not-More
     (sym c.fits.ensures ∙ c.if-not-fits.false) c.if-state.false (known_bytes run c.type_inv.run)
 
@@ -95,22 +93,22 @@ pub loop-i-smaller-then-left-eq0 : goal.loop-i-smaller-then-left-eq0
 loop-i-smaller-then-left-eq0 c =
     let l = c.loop-i in
     let run = c.args.run.now in
-    let t = header c.args.state run c.args.buf.now l.buf l.s l.i c.wide.result l.invariant c.loop-i-test.true c.wide.ensures (c.type_inv.run l.i) c.if-left-eq0.true in
+    let t = header c.args.state run c.args.buf.now l.buf l.s l.i l.invariant c.loop-i-test.true (c.type_inv.run l.i) c.if-left-eq0.true in
     omega (arith, turned-used c.args.state run c.args.buf.now _ l.buf (l.i + 1) t c.in-More.next c.in-More.used (sym c.in-More.ensures))
 
 pub loop-i-preserved-then-left-eq0 : goal.loop-i-preserved-then-left-eq0
 loop-i-preserved-then-left-eq0 c =
     let l = c.loop-i in
     let run = c.args.run.now in
-    let t = header c.args.state run c.args.buf.now l.buf l.s l.i c.wide.result l.invariant c.loop-i-test.true c.wide.ensures (c.type_inv.run l.i) c.if-left-eq0.true in
+    let t = header c.args.state run c.args.buf.now l.buf l.s l.i l.invariant c.loop-i-test.true (c.type_inv.run l.i) c.if-left-eq0.true in
     turned_on c.args.state run c.args.buf.now _ l.buf (l.i + 1) t c.in-More.next c.in-More.used (sym c.in-More.ensures)
 
 pub returns-in_default-step : goal.returns-in_default-step
 returns-in_default-step c =
     let l = c.loop-i in
     let run = c.args.run.now in
-    let n = c.least-n.result in
-    let t = piece c.args.state run c.args.buf.now l.buf l.s l.i n c.copy_from_slice.new.self l.invariant c.loop-i-test.true c.least-n.ensures c.if-left-eq0.false c.copy_from_slice.ensures.after in
+    let n = c.min-n.result in
+    let t = piece c.args.state run c.args.buf.now l.buf l.s l.i n c.copy_from_slice.new.self l.invariant c.loop-i-test.true c.min-n.ensures c.if-left-eq0.false c.copy_from_slice.ensures.after in
     owed c.args.state run c.args.buf.now c.settle-step.result _ _ (l.i + n) t c.settle-step.ensures c.in_default-step.not-More
     (sym c.fits.ensures ∙ c.if-not-fits.false) c.if-state.false (known_bytes run c.type_inv.run)
 
@@ -118,17 +116,17 @@ pub loop-i-smaller : goal.loop-i-smaller
 loop-i-smaller c =
     let l = c.loop-i in
     let run = c.args.run.now in
-    let n = c.least-n.result in
-    let t = piece c.args.state run c.args.buf.now l.buf l.s l.i n c.copy_from_slice.new.self l.invariant c.loop-i-test.true c.least-n.ensures c.if-left-eq0.false c.copy_from_slice.ensures.after in
-    moved_on (length run) l.i n l.s.left c.in-More-step.used c.least-n.ensures c.if-left-eq0.false c.loop-i-test.true
+    let n = c.min-n.result in
+    let t = piece c.args.state run c.args.buf.now l.buf l.s l.i n c.copy_from_slice.new.self l.invariant c.loop-i-test.true c.min-n.ensures c.if-left-eq0.false c.copy_from_slice.ensures.after in
+    moved_on (length run) l.i n l.s.left c.in-More-step.used c.min-n.ensures c.if-left-eq0.false c.loop-i-test.true
     (turned-used c.args.state run c.args.buf.now _ _ (l.i + n) t c.in-More-step.next c.in-More-step.used (sym c.in-More-step.ensures))
 
 pub loop-i-preserved : goal.loop-i-preserved
 loop-i-preserved c =
     let l = c.loop-i in
     let run = c.args.run.now in
-    let n = c.least-n.result in
-    let t = piece c.args.state run c.args.buf.now l.buf l.s l.i n c.copy_from_slice.new.self l.invariant c.loop-i-test.true c.least-n.ensures c.if-left-eq0.false c.copy_from_slice.ensures.after in
+    let n = c.min-n.result in
+    let t = piece c.args.state run c.args.buf.now l.buf l.s l.i n c.copy_from_slice.new.self l.invariant c.loop-i-test.true c.min-n.ensures c.if-left-eq0.false c.copy_from_slice.ensures.after in
     turned_on c.args.state run c.args.buf.now _ _ (l.i + n) t c.in-More-step.next c.in-More-step.used (sym c.in-More-step.ensures)
 
 pub returns : goal.returns

@@ -1,4 +1,3 @@
-use borrow.Author.Rules.{rules}
 use Rattle.xdr.specs.Laws.Padding.{if_none, if_some}
 use Rattle.xdr.proofs.inner.if_none.Statement.{statement}
 use Rattle.xdr.proofs.inner.if_none.Tie as tie

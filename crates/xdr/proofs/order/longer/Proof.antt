@@ -1,5 +1,4 @@
 use borrow.Author.Rules.{rules}
-use borrow.Author.Tests.{not-true, not-false}
 use Rattle.xdr.specs.Laws.Sources.{longer-first, longer-second}
 use Rattle.xdr.proofs.order.longer.Statement.{statement}
 use Rattle.xdr.proofs.order.longer.Tie as tie

@@ -1,4 +1,0 @@
-use Rattle.answers.proofs.answer_all.Given as goal
-
-abbrev pub decreases-loop-turns : goal.decreases-loop-turns
-decreases-loop-turns l = l.turns

@@ -1,8 +1,0 @@
-use borrow.Author.Rules.{rules}
-use Rattle.door.specs.Laws.Figures.{shows-case}
-use Rattle.rpcwire.specs.Meaning.Views.{view_caller}
-use Rattle.door.proofs.exports.tell_hand_over.Statement.{statement}
-use Rattle.door.proofs.exports.tell_hand_over.Tie as tie
-
-pub tell_hand_over_spec : {M : Type 1} → statement M
-tell_hand_over_spec = tie.close (tie.spec (search rules) (search rules) (search rules) (search rules) (search rules) (search rules) (search rules) (search rules) (search rules) (search rules) (λ c. search (shows-case view_caller)) (search rules) (λ c. search (shows-case view_caller)))

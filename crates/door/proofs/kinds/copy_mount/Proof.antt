@@ -1,8 +1,0 @@
--- made by tools/generate from kinds.txt
-use borrow.Author.Rules.{rules}
-use Rattle.door.specs.Laws.Copy.{of-kind, no_kind}
-use Rattle.door.proofs.kinds.copy_mount.Statement.{statement}
-use Rattle.door.proofs.kinds.copy_mount.Tie as tie
-
-pub copy_mount_spec : {M : Type 1} → statement M
-copy_mount_spec = tie.close (tie.spec (search rules) (search rules) (search rules) (search rules) (search rules) (search rules) (λ c. search of-kind) (search rules) (λ c. search of-kind) (search rules) (λ c. search of-kind) (search rules) (λ c. search of-kind) (search rules) (λ c. search of-kind) (λ c. search no_kind))

@@ -1,8 +1,0 @@
--- made by tools/generate from kinds.txt
-use borrow.Author.Rules.{rules}
-use Rattle.door.specs.Laws.Exports.{rewrite-short, rewrite-told}
-use Rattle.door.proofs.rewrite.yugerzat_rewrite_lookup3res.Statement.{statement}
-use Rattle.door.proofs.rewrite.yugerzat_rewrite_lookup3res.Tie as tie
-
-pub yugerzat_rewrite_lookup3res_spec : {M : Type 1} → statement M
-yugerzat_rewrite_lookup3res_spec = tie.close (tie.spec (λ c. search (rewrite-short, rules)) (search rules) (search rules) (search rules) (search rules) (λ c. search (rewrite-told 54, rules)))

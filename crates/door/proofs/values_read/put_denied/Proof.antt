@@ -1,7 +1,0 @@
-use borrow.Author.Rules.{rules}
-use Rattle.door.specs.Laws.Figures.{shows-at, listed}
-use Rattle.door.proofs.values_read.put_denied.Statement.{statement}
-use Rattle.door.proofs.values_read.put_denied.Tie as tie
-
-pub put_denied_spec : {M : Type 1} → statement M
-put_denied_spec = tie.close (tie.spec (search rules) (search rules) (search rules) (search rules) (search rules) (search rules) (search rules) (search rules) (search rules) (search rules) (search rules) (search rules) (search rules) (λ c. search (shows-at, listed) depth 8) (search rules) (λ c. search (shows-at, listed) depth 8))

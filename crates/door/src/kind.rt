@@ -1,0 +1,58 @@
+// A kind of message, as copying it needs: how it is read, written anew and marked. What copying, judging and rewriting mean is proved once, for
+// every kind.
+ghost use Rattle.std.specs.Prelude.{ℕ, List};
+ghost use Rattle.xdr.specs.Meaning.Public.{Answers, Writes};
+ghost use Rattle.xdr.specs.Meaning.Marks.{MarksAre};
+ghost use Rattle.xdr.specs.Meaning.Views.{view, view_marks, view_wrote};
+ghost use Rattle.door.specs.Meaning.Copy as copies;
+ghost use Rattle.door.specs.Meaning.Copy.{view_copied, Copies};
+ghost use Rattle.door.specs.Meaning.Kinds.{kinds, CopiesOf};
+ghost use Rattle.door.specs.Laws.Copy.{Was};
+
+use crate::copy::{Copied, copied_to, write_span};
+use xdr::{Marks, Refusal, Took};
+
+pub(crate) trait Kind {
+    // What the code holds of a message.
+    type Value: Copy;
+
+    ghost number: { ℕ };
+
+    ghost held: { copies.Holding Self.Value };
+
+    fn read(src: &[u8], at: usize) -> Result<Took<Self::Value>, Refusal>
+        ensures { Answers held.format src.now at (view result) };
+
+    // Writes what was read of the same source.
+    fn write(src: &[u8], x: Self::Value, out: &mut [u8], at: usize) -> Result<usize, Refusal>
+        requires { Was held.format src.now x }
+        ensures { Writes held.format src.now x at out.old (view_wrote result) out.new };
+
+    fn marks(x: Self::Value) -> Marks
+        ensures { MarksAre held.format x (view_marks result) };
+
+    // It stands in the list of kinds under its number.
+    ghost listed: { (s : List ℕ) (at start : ℕ) (o : List ℕ) (c : copies.Copy) (o' : List ℕ) → Copies held.format s at start o c o' → CopiesOf kinds number s at start o c o' };
+}
+
+// Reads a message from a place of one buffer and writes it, in published form, from a place of another. What came in that form is copied as it
+// stands.
+pub(crate) fn copy<K: Kind>(src: &[u8], at: usize, out: &mut [u8], start: usize) -> Copied
+    ensures { Copies K.held.format src.now at start out.old (view_copied result) out.new }
+{
+    match K::read(src, at) {
+        Err(r) => Copied::Unread(r),
+        Ok(x) => {
+            let marks = K::marks(x.value);
+            if x.plain {
+                return copied_to(
+                    x.next,
+                    x.plain,
+                    marks,
+                    write_span(src, at, x.next, out, start),
+                );
+            }
+            copied_to(x.next, x.plain, marks, K::write(src, x.value, out, start))
+        }
+    }
+}

@@ -1,0 +1,10 @@
+-- made by tools/generate from crates/nfs/rfc/change.x
+use Rattle.xdr.specs.Laws.Plans.{reads}
+use Rattle.xdr.specs.Laws.Answers.{tries, exit}
+use Rattle.nfs.proofs.change.read_set_mode3.Goals as goal
+
+pub returns-in_err-open_at : goal.returns-in_err-open_at
+returns-in_err-open_at c = search (reads, tries, exit c.from_residual.ensures.1)
+
+pub returns : goal.returns
+returns c = search (reads, tries)

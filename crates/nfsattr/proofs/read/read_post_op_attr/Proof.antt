@@ -1,6 +1,0 @@
-use Rattle.xdr.specs.Laws.Plans.{reads}
-use Rattle.nfsattr.proofs.read.read_post_op_attr.Statement.{statement}
-use Rattle.nfsattr.proofs.read.read_post_op_attr.Tie as tie
-
-pub read_post_op_attr_spec : {M : Type 1} → statement M
-read_post_op_attr_spec = tie.close (tie.spec (search reads) (search reads) (search reads) (search reads) (λ c. search reads) (λ c. search reads))

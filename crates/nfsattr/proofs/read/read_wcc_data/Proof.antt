@@ -1,6 +1,0 @@
-use Rattle.xdr.specs.Laws.Plans.{reads}
-use Rattle.nfsattr.proofs.read.read_wcc_data.Statement.{statement}
-use Rattle.nfsattr.proofs.read.read_wcc_data.Tie as tie
-
-pub read_wcc_data_spec : {M : Type 1} → statement M
-read_wcc_data_spec = tie.close (tie.spec (search reads) (search reads) (search reads) (search reads) (λ c. search reads) (λ c. search reads))

@@ -1,7 +1,0 @@
--- made by tools/generate from crates/nfsdata/rfc/write.x
-use Rattle.xdr.specs.Laws.Plans.{reads}
-use Rattle.nfsdata.proofs.write.read_write3args.Statement.{statement}
-use Rattle.nfsdata.proofs.write.read_write3args.Tie as tie
-
-pub read_write3args_spec : {M : Type 1} → statement M
-read_write3args_spec = tie.close (tie.spec (search reads) (search reads) (search reads) (search reads) (λ c. search reads) (λ c. search reads))

@@ -1,0 +1,19 @@
+-- made by tools/generate from crates/nfsfile/rfc/getattr.x
+use Rattle.xdr.specs.Laws.Plans.{asks}
+use Rattle.xdr.specs.Laws.Records.{still}
+use Rattle.xdr.specs.Laws.Status.{status-lost, status-took}
+use Rattle.xdr.specs.Laws.Answers.{tries, exit, exits}
+use Rattle.nfsfile.specs.Laws.Getattr.{getattr-res-status}
+use Rattle.nfsfile.proofs.getattr.getattr3res_at.Goals as goal
+
+pub returns-in_err-status : goal.returns-in_err-status
+returns-in_err-status c = search (status-lost getattr-res-status, tries, exit c.from_residual.ensures.1)
+
+pub returns-in_err-v-in-NFS3_OK : goal.returns-in_err-v-in-NFS3_OK
+returns-in_err-v-in-NFS3_OK c = exits _ c.from_residual-in_err-v-in-NFS3_OK.ensures.1 (search (status-took getattr-res-status, asks, c.in_err-v-in-NFS3_OK.ensures) depth 20)
+
+pub returns-in_ok-v-in-NFS3_OK : goal.returns-in_ok-v-in-NFS3_OK
+returns-in_ok-v-in-NFS3_OK c = search (status-took getattr-res-status, asks, c.in_ok-v-in-NFS3_OK.ensures) depth 20
+
+pub returns-in-Failed : goal.returns-in-Failed
+returns-in-Failed c = search (status-took getattr-res-status, asks, still) depth 20

@@ -1,7 +1,0 @@
--- made by tools/generate from crates/nfsfile/rfc/getattr.x
-use Rattle.xdr.specs.Laws.Plans.{reads}
-use Rattle.nfsfile.proofs.getattr.read_getattr3res.Statement.{statement}
-use Rattle.nfsfile.proofs.getattr.read_getattr3res.Tie as tie
-
-pub read_getattr3res_spec : {M : Type 1} → statement M
-read_getattr3res_spec = tie.close (tie.spec (search reads) (search reads) (search reads) (search reads) (λ c. search reads) (λ c. search reads))

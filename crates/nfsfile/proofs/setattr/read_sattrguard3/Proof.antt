@@ -1,7 +1,0 @@
--- made by tools/generate from crates/nfsfile/rfc/setattr.x
-use Rattle.xdr.specs.Laws.Plans.{reads}
-use Rattle.nfsfile.proofs.setattr.read_sattrguard3.Statement.{statement}
-use Rattle.nfsfile.proofs.setattr.read_sattrguard3.Tie as tie
-
-pub read_sattrguard3_spec : {M : Type 1} → statement M
-read_sattrguard3_spec = tie.close (tie.spec (search reads) (search reads) (search reads) (search reads) (λ c. search reads) (λ c. search reads))

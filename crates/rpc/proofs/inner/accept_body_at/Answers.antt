@@ -1,0 +1,28 @@
+use borrow.Author.Rules.{rules}
+use Rattle.rpc.specs.Laws.Plans.{inner}
+use Rattle.xdr.specs.Laws.Answers.{tries, exit, exits}
+use Rattle.rpc.proofs.inner.accept_body_at.Goals as goal
+
+pub returns-in_err-tag : goal.returns-in_err-tag
+returns-in_err-tag c = search (inner, rules, tries, exit c.from_residual.ensures.1) depth 20
+
+pub returns-in_err-m-in-2 : goal.returns-in_err-m-in-2
+returns-in_err-m-in-2 c = exits _ c.from_residual-in_err-m-in-2.ensures.1 (search (inner, rules, tries, c.in_err-m-in-2.ensures) depth 20)
+
+pub returns-in-2 : goal.returns-in-2
+returns-in-2 c = search (inner, rules, tries, c.in_ok-m-in-2.ensures) depth 20
+
+pub returns-in_default : goal.returns-in_default
+returns-in_default c = search (inner, rules, tries) depth 20
+
+pub returns-in-0 : goal.returns-in-0
+returns-in-0 c = search (inner, rules, tries) depth 20
+
+pub returns-in-1 : goal.returns-in-1
+returns-in-1 c = search (inner, rules, tries) depth 20
+
+pub returns-in-3 : goal.returns-in-3
+returns-in-3 c = search (inner, rules, tries) depth 20
+
+pub returns-in-4 : goal.returns-in-4
+returns-in-4 c = search (inner, rules, tries) depth 20

@@ -1,6 +1,0 @@
-use Rattle.xdr.specs.Laws.Plans.{reads}
-use Rattle.rpc.proofs.read.read_accept_stat.Statement.{statement}
-use Rattle.rpc.proofs.read.read_accept_stat.Tie as tie
-
-pub read_accept_stat_spec : {M : Type 1} → statement M
-read_accept_stat_spec = tie.close (tie.spec (search reads) (search reads) (search reads) (search reads) (λ c. search reads) (λ c. search reads))

@@ -1,6 +1,0 @@
-use Rattle.xdr.specs.Laws.Plans.{reads}
-use Rattle.rpc.proofs.read.read_rpc_body.Statement.{statement}
-use Rattle.rpc.proofs.read.read_rpc_body.Tie as tie
-
-pub read_rpc_body_spec : {M : Type 1} → statement M
-read_rpc_body_spec = tie.close (tie.spec (search reads) (search reads) (search reads) (search reads) (λ c. search reads) (λ c. search reads))

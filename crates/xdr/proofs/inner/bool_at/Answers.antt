@@ -1,0 +1,11 @@
+use borrow.Author.Rules.{rules}
+use Rattle.xdr.specs.Laws.Answers.{flag-refused}
+use Rattle.xdr.specs.Laws.ByNumber.{passed, by_flag}
+use Rattle.xdr.specs.Laws.Answers.{tries, exit}
+use Rattle.xdr.proofs.inner.bool_at.Goals as goal
+
+pub returns-in_err-word : goal.returns-in_err-word
+returns-in_err-word c = search (passed flag-refused, by_flag, rules, tries, exit c.from_residual.ensures.1)
+
+pub returns : goal.returns
+returns c = search (passed flag-refused, by_flag, rules, tries)
