@@ -8,7 +8,7 @@ use Rattle.xdr.specs.Meaning.Format.{Format, Branch}
 use Rattle.xdr.specs.Meaning.Public.{Answers, Took, rewritten}
 use Rattle.xdr.specs.Meaning.Views.{view}
 use Rattle.xdr.specs.Laws.Lengths.{Within, weaken, answer-no-longer}
-use Rattle.xdr.specs.Laws.One.{one-read}
+use Rattle.xdr.specs.Laws.One.{one-read, told}
 use Rattle.xdr.specs.Laws.Owed.{Owed, owed}
 use Rattle.xdr.specs.declared.answer.Took as code
 use Rattle.xdr.specs.declared.refusal.Refusal.{Refusal}
@@ -53,7 +53,7 @@ EachOne (b ∷ l) =
 
 each_one : (l : List Branch) → EachOne l
 each_one [] = tt
-each_one (b ∷ l) = (one-read b.format, each_one l)
+each_one (b ∷ l) = (one-read told b.format, each_one l)
 
 pub every_answer : EachOne kinds
 every_answer = each_one kinds

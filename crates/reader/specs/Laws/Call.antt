@@ -9,7 +9,7 @@ use Rattle.xdr.specs.Meaning.Public.{Answers, Kept}
 use Rattle.xdr.specs.Laws.Promise.{keeps}
 use Rattle.xdr.specs.Laws.Public.{kept}
 use Rattle.xdr.specs.Meaning.Views.{view}
-use Rattle.xdr.specs.Laws.One.{Told}
+use Rattle.xdr.specs.Laws.One.{Told, one-read}
 use Rattle.rpc.specs.Meaning.Crate.{rpc-msg}
 use Rattle.rpc.specs.declared.message.rpc_msg.{rpc_msg}
 use Rattle.nfs.specs.Meaning.Dir.{diropargs}
@@ -80,4 +80,4 @@ mkdir-told (Err r) (Ok x) e = cc
 mkdir-told (Err r) (Err q) e = cc
 
 pub read-mkdir-one : (s : List ℕ) (p : ℕ) (r r' : Result (Took Mkdir) Refusal) → Answers mkdir s p (view_mkdir r) → Answers mkdir s p (view_mkdir r') → r ≡ r'
-read-mkdir-one s p r r' c d = mkdir-told r r' ((kept mkdir).one s p c d)
+read-mkdir-one = one-read mkdir-told mkdir

@@ -1,6 +1,6 @@
 -- Steps in order are one reading of what stands in order; a step stays in its message; and what it says, it says of one answer and one reader alone.
 -- Assumes nothing.
-use Rattle.std.specs.Prelude.{◌≡◌, Bool, List, ℕ, ◌≤◌, leb, length, Result}
+use Rattle.std.specs.Prelude.{◌≡◌, Bool, List, ℕ, ◌≤◌, leb, length}
 use Rattle.std.proofs.Math.Path.{refl}
 use Rattle.std.proofs.Common.{sym, ap, subst, ◌∙◌, arith}
 use Rattle.std.proofs.Math.Bool.{true, false, cond}
@@ -9,12 +9,10 @@ use Rattle.xdr.specs.Meaning.Answer.{Answer, took, refused, opened, most}
 use Rattle.xdr.specs.Meaning.Held.{then_first, then_second}
 use Rattle.xdr.specs.Meaning.Format.{Format, ◌⨟◌}
 use Rattle.xdr.specs.Meaning.Public.{Answers, Took}
-use Rattle.xdr.specs.Laws.One.{told}
+use Rattle.xdr.specs.Laws.One.{Told}
 use Rattle.xdr.specs.Laws.Public.{opened_in, kept}
 use Rattle.reader.specs.Meaning.Step.{onward, Stepped, joined}
 use Rattle.reader.specs.declared.Reader.{Reader}
-use Rattle.xdr.specs.Meaning.Views.{view}
-use Rattle.xdr.specs.declared.answer.Took as Took·
 use Rattle.xdr.specs.declared.refusal.Refusal.{Refusal}
 use Rattle.xdr.specs.declared.refusal.Refusal.TheVariants.{TooLong, PastEnd}
 
@@ -77,6 +75,6 @@ module _ {M S : Type 0} (F : Format M S) (r r' : Reader) where
       (g, λ i. record { src = (e.same ∙ sym f.same) i; at = at i })
 
 -- the same in the code's own types
-pub step-told : {M S : Type 0} (F : Format M S) {r r' r'' : Reader} (x y : Result (Took·.Took S) Refusal) → Stepped F r (view x) r' → Stepped F r (view y) r''
+pub step-told : {M S R : Type 0} {view : R → Answer S} → Told view → (F : Format M S) {r r' r'' : Reader} (x y : R) → Stepped F r (view x) r' → Stepped F r (view y) r''
     → (x ≡ y) × (r' ≡ r'')
-step-told F {r} {r'} x y e f = let o = step-one F r r' e f in (told x y o.0, o.1)
+step-told told F {r} {r'} x y e f = let o = step-one F r r' e f in (told x y o.0, o.1)

@@ -2,7 +2,7 @@
 -- Assumes nothing.
 use Rattle.std.specs.Prelude.{◌≡◌, Bool, List, ℕ, Result, Ok, Err}
 use Rattle.std.proofs.Common.{ap}
-use Rattle.xdr.specs.Meaning.Answer.{took}
+use Rattle.xdr.specs.Meaning.Answer.{Answer, took}
 use Rattle.xdr.specs.Meaning.Format.{Format}
 use Rattle.xdr.specs.Meaning.Public.{Answers, Writes}
 use Rattle.xdr.specs.Meaning.Views.{view, view_wrote}
@@ -32,9 +32,9 @@ wrote-told (Err r) (Ok k) e = cc
 wrote-told (Err r) (Err q) e = cc
 
 -- of every reader: two answers that its contract permits are one
-pub one-read : {M S : Type 0} (F : Format M S) (s : List ℕ) (p : ℕ) (r r' : Result (Took S) Refusal)
-    → Answers F s p (view r) → Answers F s p (view r') → r ≡ r'
-one-read F s p r r' c d = told r r' ((kept F).one s p c d)
+pub one-read : {M S R : Type 0} {see : R → Answer S} → Told see → (F : Format M S) (s : List ℕ) (p : ℕ) (r r' : R)
+    → Answers F s p (see r) → Answers F s p (see r') → r ≡ r'
+one-read whole F s p r r' c d = whole r r' ((kept F).one s p c d)
 
 -- of every writer: two answers that its contract permits are one, and so are the two buffers
 pub one-wrote : {M S : Type 0} (F : Format M S) (s : List ℕ) (x : S) (at : ℕ) (o : List ℕ) (a b : Result ℕ Refusal) {p q : List ℕ}
