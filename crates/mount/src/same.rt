@@ -62,13 +62,25 @@ fn both(u: Standing, v: Standing) -> Standing
     }
 }
 
-// Two pieces of bytes. The slices' comparison tests their lengths too: a piece that is the front of another is not the same.
+// Two pieces of bytes. Lengths first: a piece that is the front of another is not the same. The bytes are compared here, one by one: comparing two
+// slices would be a call in the archive for C.
 fn same_bytes(a: &[u8], p: Piece, b: &[u8], q: Piece) -> bool
     requires p_value { bytes.held.inside a.now p ≡ true }
     requires q_value { bytes.held.inside b.now q ≡ true }
     ensures { Alike bytes a.now p b.now q result }
 {
-    a[p.at..p.at + p.count] == b[q.at..q.at + q.count]
+    let n = p.count;
+    if n != q.count {
+        return false;
+    }
+    let i = p.at;
+    let j = q.at;
+    for k in 0..n {
+        if a[i + k] != b[j + k] {
+            return false;
+        }
+    }
+    true
 }
 
 fn same_next_group(a: &[u8], u: Option<Piece>, b: &[u8], v: Option<Piece>) -> bool

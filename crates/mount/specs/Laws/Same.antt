@@ -1,20 +1,17 @@
 -- How two export lists are compared: bytes, lists of any elements, and what follows from the answer.
 -- Assumes nothing.
-use Rattle.std.specs.Prelude.{◌≡◌, ◌↔◌, ◌⊎◌, Bool, cond, ◌&&◌, ℕ, suc, ◌+◌, ◌-◌, ◌≤◌, ◌<◌, eqb, drop, Result, Ok, Err}
+use Rattle.std.specs.Prelude.{◌≡◌, ◌↔◌, ◌⊎◌, Bool, cond, ◌&&◌, ℕ, suc, ◌+◌, ◌≤◌, ◌<◌, eqb, drop, Result, Ok, Err}
 use Rattle.std.proofs.Math.Path.{refl, ap, ap₂, subst₂}
-use Rattle.std.proofs.Common.{sym, subst, ◌∙◌, inl, inr, Fits}
+use Rattle.std.proofs.Common.{sym, subst, ◌∙◌, inl, inr, add-one, length-drop, take-suc, Fits}
 use Rattle.std.proofs.Math.Bool.{true, false}
 use Rattle.std.proofs.Math.Option.{Option, none, some}
-use mathlib.Core.List.{List}
+use mathlib.Core.List.{List, [], ◌∷◌, ◌++◌}
 use native.Mathlib.Omega.{arith}
 use Rattle.std.proofs.Math.Dec.{leb}
 use Rattle.std.proofs.Math.ListN.{length, get_or, take}
+use Rattle.std.proofs.Math.Seq.{get_or-take, get_or-drop}
 use borrow.Author.Tests.{le-leb, lt-leb, eq-eqb, ne_eqb}
-use Rattle.std.proofs.lemmas.Bool.Decides.{Decides-eqb}
-use Rattle.std.proofs.lemmas.Slice.Eq.{slice_eq-Decides}
-use Rattle.std.specs.Bool.{Decides}
-use Rattle.std.specs.Cmp.Lexicographic.{pointwise}
-use Rattle.std.specs.Int.{w8, w64}
+use Rattle.std.specs.Int.{w8}
 use Rattle.xdr.specs.Meaning.Answer.{Answer, took, refused, most}
 use Rattle.xdr.specs.Meaning.Bytes.{Bytes}
 use Rattle.xdr.specs.Meaning.Format.{optional}
@@ -22,6 +19,7 @@ use Rattle.xdr.specs.Meaning.Formats.{bytes, piece_held}
 use Rattle.xdr.specs.Meaning.Kind.{Found, Sound}
 use Rattle.xdr.specs.Meaning.Linked.{elements_of, has_count}
 use Rattle.xdr.specs.Meaning.Lists.{linked, clean_list}
+use Rattle.xdr.specs.Meaning.Pieces.{bytes_in}
 use Rattle.xdr.specs.Meaning.Promise.{Reading}
 use Rattle.xdr.specs.Meaning.Public.{output}
 use Rattle.xdr.specs.Meaning.Within.{is_within}
@@ -34,7 +32,8 @@ use Rattle.xdr.specs.declared.refusal.Refusal.{Refusal}
 use Rattle.xdr.specs.declared.refusal.Refusal.TheVariants.{TooLong, Outside, LongPath}
 use Rattle.mount.specs.Meaning.Group.{groups}
 use Rattle.mount.specs.Meaning.Export.{Exportnode, node, nodes, long_list, finished, long_at, walked, walk_of}
-use Rattle.mount.specs.Meaning.Same.{Tells, Alike, with_count, standing_by, standing_of, worse, is_held, is_short, objection, Says, Compares}
+use Rattle.mount.specs.Meaning.Same.{Alike, with_count, standing_by, standing_of, worse, is_held, is_short, objection, Says, Compares}
+use Rattle.mount.specs.Laws.Path.{piece-length}
 use Rattle.mount.specs.Laws.Pairs.{is_took, untrue, counted}
 use Rattle.mount.specs.declared.export.exportnode.{exportnode}
 use Rattle.mount.specs.declared.export.Walked.{Walked}
@@ -42,27 +41,53 @@ use Rattle.mount.specs.declared.export.Walked.TheVariants as walked·
 use Rattle.mount.specs.declared.same.Standing.{Standing}
 use Rattle.mount.specs.declared.same.Standing.TheVariants as standing
 
--- two pieces of bytes, as slices
-module _ (s : List ℕ) (x : Piece) (h : bytes.held.inside s x ≡ true) where
-  pub piece-ends : x.at + x.count ≤ length s
+-- what the loop over the bytes keeps: the first k of n bytes that lie inside either source are the same
+pub record Agree (s : List ℕ) (i : ℕ) (t : List ℕ) (j n k : ℕ) : Type 0 where
+  pub same : take k (drop i s) ≡ take k (drop j t)
+  pub left : i + n ≤ length s
+  pub right : j + n ≤ length t
+  pub most : k ≤ n
+
+pub agree_on : {s t : List ℕ} {i j n k : ℕ} → Agree s i t j n k → k < n → get_or s (i + k) 0 ≡ get_or t (j + k) 0 → Agree s i t j n (k + 1)
+agree_on {s} {t} {i} {j} {n} {k} a l f =
+    record {
+      same = rw add-one (more s i a.left ∙ ap₂ (λ l (b : ℕ). l ++ (b ∷ [])) a.same f ∙ sym (more t j a.right));
+      left = a.left;
+      right = a.right;
+      most = omega arith;
+    }
+  where
+    more : (u : List ℕ) (q : ℕ) → q + n ≤ length u → take (suc k) (drop q u) ≡ take k (drop q u) ++ (get_or u (q + k) 0 ∷ [])
+    more u q h =
+        take-suc (drop q u) k 0 (omega (arith, length-drop q u)) ∙ ap (λ (b : ℕ). take k (drop q u) ++ (b ∷ [])) (get_or-drop q u k 0)
+
+-- two pieces of bytes
+module _ (s : List ℕ) (x : Piece) (t : List ℕ) (y : Piece) (h : bytes.held.inside s x ≡ true) (g : bytes.held.inside t y ≡ true) where
+  -- of other lengths
+  pub lengths_differ : ¬ (x.count ≡ y.count) → Alike bytes s x t y false
   unfolding piece_held
-  piece-ends = inside-le s x h
+  lengths_differ d = record { tells = λ e. d (sym (piece-length s x h) ∙ ap length e ∙ piece-length t y g) }
 
-  pub piece-fits : Fits w64 (length s) → Fits w64 (x.at + x.count)
-  piece-fits f = omega (arith, piece-ends)
+  module _ (m : x.count ≡ y.count) where
+    pub agree-starts : Agree s x.at t y.at x.count 0
+    unfolding piece_held
+    agree-starts = record { same = refl; left = inside-le s x h; right = omega (arith, inside-le t y g); most = omega arith }
 
-tells-by : {P : Type 0} (r : Bool) → Decides r P → Tells P r
-tells-by true d = d.0 refl
-tells-by false d = λ p. untrue (d.1 p)
+    module _ (k : ℕ) (a : Agree s x.at t y.at x.count k) where
+      -- all bytes are the same
+      pub bytes_same : x.count ≤ k → Alike bytes s x t y true
+      unfolding piece_held
+      bytes_same l =
+          let f : x.count ≡ k = omega arith in
+          record { tells = ap (λ n. take n (drop x.at s)) f ∙ a.same ∙ ap (λ n. take n (drop y.at t)) (sym f ∙ m) }
 
-pub bytes-alike : (s : List ℕ) (x : Piece) (t : List ℕ) (y : Piece) (r : Bool)
-    → r ≡ pointwise eqb (take (x.at + x.count - x.at) (drop x.at s)) (take (y.at + y.count - y.at) (drop y.at t)) → Alike bytes s x t y r
-unfolding piece_held
-bytes-alike s x t y r e =
-    let k : x.at + x.count - x.at ≡ x.count = omega arith in
-    let l : y.at + y.count - y.at ≡ y.count = omega arith in
-    let f = e ∙ ap₂ (λ i j. pointwise eqb (take i (drop x.at s)) (take j (drop y.at t))) k l in
-    record { tells = tells-by r (slice_eq-Decides Decides-eqb _ _ r f) }
+      -- one is another
+      pub byte-differs : k < x.count → ¬ (get_or s (x.at + k) 0 ≡ get_or t (y.at + k) 0) → Alike bytes s x t y false
+      unfolding piece_held
+      byte-differs l d = record { tells = λ e. d (sym (at s x l) ∙ ap (λ z. get_or z k 0) e ∙ at t y (omega arith)) }
+        where
+          at : (u : List ℕ) (z : Piece) → k < z.count → get_or (bytes_in u z) k 0 ≡ get_or u (z.at + k) 0
+          at u z l = get_or-take z.count (drop z.at u) k 0 l ∙ get_or-drop z.at u k 0
 
 -- an entry: its path, and then its groups
 and_both : (a b : Bool) → (a && b) ≡ true → (a ≡ true) × (b ≡ true)

@@ -1,18 +1,20 @@
 use Rattle.std.proofs.Common.{rules}
-use Rattle.mount.specs.Laws.Same.{piece-ends, piece-fits, bytes-alike}
+use Rattle.mount.specs.Laws.Same.{lengths_differ, agree-starts, agree_on, bytes_same, byte-differs}
 use Rattle.mount.proofs.same.same_bytes.Goals as goal
 
-pub overflow_add-p : goal.overflow_add-p
-overflow_add-p c = search (rules, piece-fits)
+ruleset same = (rules, lengths_differ, agree-starts, agree_on, bytes_same, byte-differs)
 
-pub slice_bounds-eq-end : goal.slice_bounds-eq-end
-slice_bounds-eq-end c = search (rules, piece-ends)
+pub returns-then-n-q : goal.returns-then-n-q
+returns-then-n-q c = search same
 
-pub overflow_add-q : goal.overflow_add-q
-overflow_add-q c = search (rules, piece-fits)
+pub loop-k-init : goal.loop-k-init
+loop-k-init c = search same
 
-pub slice_bounds-eq-end-2 : goal.slice_bounds-eq-end-2
-slice_bounds-eq-end-2 c = search (rules, piece-ends)
+pub returns-then-a-i : goal.returns-then-a-i
+returns-then-a-i c = search same
+
+pub loop-k-preserved : goal.loop-k-preserved
+loop-k-preserved c = search same
 
 pub returns : goal.returns
-returns c = search (rules, bytes-alike)
+returns c = search same
