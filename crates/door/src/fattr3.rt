@@ -12,8 +12,8 @@ ghost use Rattle.door.specs.Laws.TakenFattr.{ids_figures, sizes_figures, times_f
 use crate::figures::{put_three, put_two};
 use crate::sattr3::Step;
 use nfs::fattr3;
-use nfsattr::inner::attr::ids_at;
-use xdr::inner::{u32_pair_at, u64_pair_at};
+use nfsattr::inner::attr::ftype3_at;
+use xdr::inner::{u32_at, u64_pair_at};
 use xdr::order::open_at;
 
 // Six figures from the k-th on.
@@ -30,20 +30,38 @@ fn take_ids(src: &[u8], at: usize, info: &mut [u64]) -> Option<Step>
     requires { 19 ≤ length info.old }
     ensures { Takes ids ids_figures src.now at 2 info.old result info.new }
 {
-    let Ok(ids) = ids_at(src, at) else {
+    let Ok(ftype) = ftype3_at(src, at) else {
         return None;
     };
-    let v = ids.value;
-    let ftype = v.ftype;
-    put_two(ftype.number() as u64, v.mode as u64, info, 2);
-    put_three(v.nlink as u64, v.uid as u64, v.gid as u64, info, 4);
+    let Ok(mode) = u32_at(src, ftype.next) else {
+        return None;
+    };
+    let Ok(nlink) = u32_at(src, mode.next) else {
+        return None;
+    };
+    let Ok(uid) = u32_at(src, nlink.next) else {
+        return None;
+    };
+    let Ok(gid) = u32_at(src, uid.next) else {
+        return None;
+    };
+    let kind = ftype.value;
+    put_two(kind.number() as u64, mode.value as u64, info, 2);
+    put_three(
+        nlink.value as u64,
+        uid.value as u64,
+        gid.value as u64,
+        info,
+        4,
+    );
     Some(Step {
-        next: ids.next,
-        plain: ids.plain,
+        next: gid.next,
+        plain: ftype.plain & (mode.plain & nlink.plain) & (uid.plain & gid.plain),
     })
 }
 
-// The words of rdev and of the times are read as pairs: the compiler packs a specdata3 or an nfstime3 into one word, and takes it apart again.
+// Each word is read by itself, here and in the other groups: two words that one answer holds, or one value, the compiler packs into one, and
+// takes it apart again.
 fn take_sizes(src: &[u8], at: usize, info: &mut [u64]) -> Option<Step>
     requires { 19 ≤ length info.old }
     ensures { Takes sizes sizes_figures src.now at 7 info.old result info.new }
@@ -51,17 +69,20 @@ fn take_sizes(src: &[u8], at: usize, info: &mut [u64]) -> Option<Step>
     let Ok(sizes) = u64_pair_at(src, at) else {
         return None;
     };
-    let Ok(rdev) = u32_pair_at(src, sizes.next) else {
+    let Ok(specdata1) = u32_at(src, sizes.next) else {
         return None;
     };
-    let Ok(file) = u64_pair_at(src, rdev.next) else {
+    let Ok(specdata2) = u32_at(src, specdata1.next) else {
+        return None;
+    };
+    let Ok(file) = u64_pair_at(src, specdata2.next) else {
         return None;
     };
     put_six(
         sizes.value.0,
         sizes.value.1,
-        rdev.value.0 as u64,
-        rdev.value.1 as u64,
+        specdata1.value as u64,
+        specdata2.value as u64,
         file.value.0,
         file.value.1,
         info,
@@ -69,7 +90,7 @@ fn take_sizes(src: &[u8], at: usize, info: &mut [u64]) -> Option<Step>
     );
     Some(Step {
         next: file.next,
-        plain: sizes.plain & rdev.plain & file.plain,
+        plain: sizes.plain & (specdata1.plain & specdata2.plain) & file.plain,
     })
 }
 
@@ -77,28 +98,39 @@ fn take_times(src: &[u8], at: usize, info: &mut [u64]) -> Option<Step>
     requires { 19 ≤ length info.old }
     ensures { Takes times times_figures src.now at 13 info.old result info.new }
 {
-    let Ok(atime) = u32_pair_at(src, at) else {
+    let Ok(atime_s) = u32_at(src, at) else {
         return None;
     };
-    let Ok(mtime) = u32_pair_at(src, atime.next) else {
+    let Ok(atime_ns) = u32_at(src, atime_s.next) else {
         return None;
     };
-    let Ok(ctime) = u32_pair_at(src, mtime.next) else {
+    let Ok(mtime_s) = u32_at(src, atime_ns.next) else {
+        return None;
+    };
+    let Ok(mtime_ns) = u32_at(src, mtime_s.next) else {
+        return None;
+    };
+    let Ok(ctime_s) = u32_at(src, mtime_ns.next) else {
+        return None;
+    };
+    let Ok(ctime_ns) = u32_at(src, ctime_s.next) else {
         return None;
     };
     put_six(
-        atime.value.0 as u64,
-        atime.value.1 as u64,
-        mtime.value.0 as u64,
-        mtime.value.1 as u64,
-        ctime.value.0 as u64,
-        ctime.value.1 as u64,
+        atime_s.value as u64,
+        atime_ns.value as u64,
+        mtime_s.value as u64,
+        mtime_ns.value as u64,
+        ctime_s.value as u64,
+        ctime_ns.value as u64,
         info,
         13,
     );
     Some(Step {
-        next: ctime.next,
-        plain: atime.plain & mtime.plain & ctime.plain,
+        next: ctime_ns.next,
+        plain: (atime_s.plain & atime_ns.plain)
+            & (mtime_s.plain & mtime_ns.plain)
+            & (ctime_s.plain & ctime_ns.plain),
     })
 }
 

@@ -6,15 +6,16 @@ use Rattle.std.proofs.Math.Path.{ap}
 use Rattle.std.proofs.Common.{◌∙◌, arith}
 use Rattle.std.proofs.Math.Seq.{sets}
 use Rattle.xdr.specs.Meaning.Answer.{took}
-use Rattle.xdr.specs.Meaning.Items.{word_pair, hyper_pair}
+use Rattle.xdr.specs.Meaning.Items.{word, word_pair, hyper_pair}
 use Rattle.xdr.specs.Meaning.Views.{view}
 use Rattle.xdr.specs.Laws.Answers.{on}
 use Rattle.xdr.specs.declared.answer.Took.{Took}
 use Rattle.xdr.specs.declared.refusal.Refusal.{Refusal}
-use Rattle.nfsattr.specs.Meaning.Attr.{ftype_number, specdata, nfstime, fattr}
+use Rattle.nfsattr.specs.Meaning.Attr.{ftype, ftype_number, specdata, nfstime, fattr}
 use Rattle.nfsattr.specs.Laws.Groups.{ids, sizes, times}
-use Rattle.nfsattr.specs.Laws.Plans.{specdata-plan, nfstime-plan, sizes-plan, times-plan, fattr-plan}
+use Rattle.nfsattr.specs.Laws.Plans.{specdata-plan, nfstime-plan, ids-plan, sizes-plan, times-plan, fattr-plan}
 use Rattle.nfsattr.specs.declared.attr.fattr3.{fattr3}
+use Rattle.nfsattr.specs.declared.attr.ftype3.{ftype3}
 use Rattle.nfsattr.specs.declared.inner.attr.Ids.{Ids}
 use Rattle.nfsattr.specs.declared.inner.attr.Sizes.{Sizes}
 use Rattle.nfsattr.specs.declared.inner.attr.Times.{Times}
@@ -35,51 +36,83 @@ times_figures v = v.atime.seconds ∷ v.atime.nseconds ∷ v.mtime.seconds ∷ v
 pub fattr3-long : (x : fattr3) → length (fattr3_figures x) ≡ 17
 fattr3-long x = refl
 
--- the others by their pairs
-module _ (s : List ℕ) (p : ℕ) {x : ℕ × ℕ} {n : ℕ} {b : Bool} (e : word_pair.kind.read s p ≡ took x n b) where
-  read-specdata : specdata.kind.read s p ≡ took (record { specdata1 = x.0; specdata2 = x.1 }) n b
+-- words that are read by themselves
+module _ (s : List ℕ) (p : ℕ) {x y n m : ℕ} {b c : Bool} (e : word.kind.read s p ≡ took x n b) (f : word.kind.read s n ≡ took y m c) where
+  read-pair : word_pair.kind.read s p ≡ took (x, y) m (b && c)
+  unfolding word_pair
+  read-pair = rw (e, f)
+
+  read-specdata : specdata.kind.read s p ≡ took (record { specdata1 = x; specdata2 = y }) m (b && c)
   unfolding specdata
-  read-specdata = specdata-plan.is s p ∙ rw e
+  read-specdata = specdata-plan.is s p ∙ rw read-pair
 
-  read-nfstime : nfstime.kind.read s p ≡ took (record { seconds = x.0; nseconds = x.1 }) n b
+  read-nfstime : nfstime.kind.read s p ≡ took (record { seconds = x; nseconds = y }) m (b && c)
   unfolding nfstime
-  read-nfstime = nfstime-plan.is s p ∙ rw e
+  read-nfstime = nfstime-plan.is s p ∙ rw read-pair
 
-module _ {s : List ℕ} {p : ℕ} {i i' : List ℕ} (a b c : Took (ℕ × ℕ)) (r₁ r₂ r₃ : Result (Took (ℕ × ℕ)) Refusal) (f₁ : r₁ ≡ Ok a) (f₂ : r₂ ≡ Ok b) (f₃ : r₃ ≡ Ok c) where
-  pub sizes-put : i' ≡ sets i 7 (a.value.0 ∷ a.value.1 ∷ b.value.0 ∷ b.value.1 ∷ c.value.0 ∷ c.value.1 ∷ []) → view r₁ ≡ hyper_pair.kind.read s p
-      → view r₂ ≡ word_pair.kind.read s a.next → view r₃ ≡ hyper_pair.kind.read s b.next
-      → Takes sizes sizes_figures s p 7 i (Some (record { next = c.next; plain = (a.plain && b.plain) && c.plain })) i'
+module _ {s : List ℕ} {p k : ℕ} {i i₁ i' : List ℕ} (t : Took ftype3) (a b c d : Took ℕ) (r : Result (Took ftype3) Refusal) (r₁ r₂ r₃ r₄ : Result (Took ℕ) Refusal)
+    (f : r ≡ Ok t) (f₁ : r₁ ≡ Ok a) (f₂ : r₂ ≡ Ok b) (f₃ : r₃ ≡ Ok c) (f₄ : r₄ ≡ Ok d) where
+  pub ids-put : k ≡ ftype_number t.value → i₁ ≡ sets i 2 (k ∷ a.value ∷ []) → i' ≡ sets i₁ 4 (b.value ∷ c.value ∷ d.value ∷ []) → view r ≡ ftype.kind.read s p
+      → view r₁ ≡ word.kind.read s t.next → view r₂ ≡ word.kind.read s a.next → view r₃ ≡ word.kind.read s b.next → view r₄ ≡ word.kind.read s c.next
+      → Takes ids ids_figures s p 2 i (Some (record { next = d.next; plain = (t.plain && (a.plain && b.plain)) && (c.plain && d.plain) })) i'
+  unfolding ids
+  ids-put g h h₁ e e₁ e₂ e₃ e₄ =
+      record {
+        by = record {
+          value =
+              record {
+                ftype = t.value;
+                mode = a.value;
+                nlink = b.value;
+                uid = c.value;
+                gid = d.value;
+              };
+          reads = ids-plan.is s p ∙ rw (on e f, read-pair s t.next (on e₁ f₁) (on e₂ f₂), read-pair s b.next (on e₃ f₃) (on e₄ f₄));
+          list = h₁ ∙ ap (λ l. sets l 4 (b.value ∷ c.value ∷ d.value ∷ [])) (h ∙ ap (λ n. sets i 2 (n ∷ a.value ∷ [])) g);
+        };
+      }
+
+module _ {s : List ℕ} {p : ℕ} {i i' : List ℕ} (a d : Took (ℕ × ℕ)) (b c : Took ℕ) (r₁ r₄ : Result (Took (ℕ × ℕ)) Refusal) (r₂ r₃ : Result (Took ℕ) Refusal)
+    (f₁ : r₁ ≡ Ok a) (f₂ : r₂ ≡ Ok b) (f₃ : r₃ ≡ Ok c) (f₄ : r₄ ≡ Ok d) where
+  pub sizes-put : i' ≡ sets i 7 (a.value.0 ∷ a.value.1 ∷ b.value ∷ c.value ∷ d.value.0 ∷ d.value.1 ∷ []) → view r₁ ≡ hyper_pair.kind.read s p
+      → view r₂ ≡ word.kind.read s a.next → view r₃ ≡ word.kind.read s b.next → view r₄ ≡ hyper_pair.kind.read s c.next
+      → Takes sizes sizes_figures s p 7 i (Some (record { next = d.next; plain = (a.plain && (b.plain && c.plain)) && d.plain })) i'
   unfolding sizes
-  sizes-put h e₁ e₂ e₃ =
+  sizes-put h e₁ e₂ e₃ e₄ =
       record {
         by = record {
           value =
               record {
                 size = a.value.0;
                 used = a.value.1;
-                rdev = record { specdata1 = b.value.0; specdata2 = b.value.1 };
-                fsid = c.value.0;
-                fileid = c.value.1;
+                rdev = record { specdata1 = b.value; specdata2 = c.value };
+                fsid = d.value.0;
+                fileid = d.value.1;
               };
-          reads = sizes-plan.is s p ∙ rw (on e₁ f₁, read-specdata s a.next (on e₂ f₂), on e₃ f₃);
+          reads = sizes-plan.is s p ∙ rw (on e₁ f₁, read-specdata s a.next (on e₂ f₂) (on e₃ f₃), on e₄ f₄);
           list = h;
         };
       }
 
-  pub times-put : i' ≡ sets i 13 (a.value.0 ∷ a.value.1 ∷ b.value.0 ∷ b.value.1 ∷ c.value.0 ∷ c.value.1 ∷ []) → view r₁ ≡ word_pair.kind.read s p
-      → view r₂ ≡ word_pair.kind.read s a.next → view r₃ ≡ word_pair.kind.read s b.next
-      → Takes times times_figures s p 13 i (Some (record { next = c.next; plain = (a.plain && b.plain) && c.plain })) i'
+module _ {s : List ℕ} {p : ℕ} {i i' : List ℕ} (a b c d u v : Took ℕ) (r₁ r₂ r₃ r₄ r₅ r₆ : Result (Took ℕ) Refusal)
+    (f₁ : r₁ ≡ Ok a) (f₂ : r₂ ≡ Ok b) (f₃ : r₃ ≡ Ok c) (f₄ : r₄ ≡ Ok d) (f₅ : r₅ ≡ Ok u) (f₆ : r₆ ≡ Ok v) where
+  pub times-put : i' ≡ sets i 13 (a.value ∷ b.value ∷ c.value ∷ d.value ∷ u.value ∷ v.value ∷ []) → view r₁ ≡ word.kind.read s p
+      → view r₂ ≡ word.kind.read s a.next → view r₃ ≡ word.kind.read s b.next → view r₄ ≡ word.kind.read s c.next
+      → view r₅ ≡ word.kind.read s d.next → view r₆ ≡ word.kind.read s u.next
+      → Takes times times_figures s p 13 i (Some (record { next = v.next; plain = ((a.plain && b.plain) && (c.plain && d.plain)) && (u.plain && v.plain) })) i'
   unfolding times
-  times-put h e₁ e₂ e₃ =
+  times-put h e₁ e₂ e₃ e₄ e₅ e₆ =
       record {
         by = record {
           value =
               record {
-                atime = record { seconds = a.value.0; nseconds = a.value.1 };
-                mtime = record { seconds = b.value.0; nseconds = b.value.1 };
-                ctime = record { seconds = c.value.0; nseconds = c.value.1 };
+                atime = record { seconds = a.value; nseconds = b.value };
+                mtime = record { seconds = c.value; nseconds = d.value };
+                ctime = record { seconds = u.value; nseconds = v.value };
               };
-          reads = times-plan.is s p ∙ rw (read-nfstime s p (on e₁ f₁), read-nfstime s a.next (on e₂ f₂), read-nfstime s b.next (on e₃ f₃));
+          reads =
+              times-plan.is s p
+              ∙ rw (read-nfstime s p (on e₁ f₁) (on e₂ f₂), read-nfstime s b.next (on e₃ f₃) (on e₄ f₄), read-nfstime s d.next (on e₅ f₅) (on e₆ f₆));
           list = h;
         };
       }
