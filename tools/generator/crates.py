@@ -42,6 +42,7 @@ class Facts:
     bounded: Name | None  # the law that the kind is another one under a bound that is refused
     marked: Name  # what its marks tell, or that it has no padding
     marks: Name | None  # if it is held as a piece: which mark it has
+    still: Name | None  # the law of the door that it has no loose forms
     unfoldable: tuple  # what can be unfolded in the module of the meaning: names
 
 
@@ -57,6 +58,7 @@ class Index:
         self.bounded = defaultdict(list)
         self.marked = defaultdict(list)
         self.marks = defaultdict(list)
+        self.still = defaultdict(list)
         self.unfoldable = defaultdict(list)
         self.used = defaultdict(list)
         self.codecs = {}
@@ -90,6 +92,8 @@ class Index:
                 self.marks[type.split()[-3]].append(found)
             elif type.startswith("Bounded "):
                 self.bounded[type.split()[-1]].append(found)
+            elif type.startswith("Still "):
+                self.still[type.split(" ", 1)[1]].append(found)
         self.unfoldable[module] = [Name(self.crate, module, name, type) for name, type in UNFOLDABLE.findall(text)]
         self.used[module] = [f"Rattle.{crate}.{used}" for crate, used in USED.findall(text) if crate == self.crate]
         self.codecs.update(CODEC.findall(text))
@@ -179,5 +183,6 @@ class Crates:
             bounded=self.find(crate, "bounded", kind.meaning),
             marked=self.mark_law(kind),
             marks=self.find(crate, "marks", kind.meaning),
+            still=self.find("door", "still", kind.meaning if kind.exact else f"{kind.meaning}.codec"),
             unfoldable=self.index(meaning.crate).unfolded(meaning.module),
         )

@@ -7,7 +7,7 @@ Not made here: the oracle's lists, which must not come from the same hand as wha
 import re
 import textwrap
 
-from generator.crates import Crates
+from generator.crates import Crates, Name
 from generator.known import stem
 from generator.language import read_topic
 from generator.layout import in_order, signature, use_lines
@@ -51,6 +51,9 @@ EXACTLY = "Rattle.xdr.specs.Meaning.Format.{exactly}"
 RULES = "borrow.Author.Rules.{rules}"
 COPY_LAWS = "Rattle.door.specs.Laws.Copy"
 
+# What is read of a kind without loose forms is plain.
+STILL = Name("door", "Rattle.door.specs.Laws.Still", "still-plain", "")
+
 # Eight fixed bytes are no codec, and have no pieces.
 EIGHT = "eight_bytes"
 
@@ -64,16 +67,17 @@ def outputs(root):
     crates = Crates(root)
     facts = [crates.facts(kind) for kind in kinds]
     order = list(crates.uses)
+    plain = {fact.kind.name for fact in facts if fact.still}
     made = []
     for file, comment, of in FILES:
         own = [fact for fact in facts if fact.kind.crate in of]
         made.append((f"crates/door/src/{file}.rt", kinds_of_file(comment, own, order)))
         made += [answer for fact in own for answer in kind_answers(file, fact)]
-    made += [(f"crates/door/src/{export.name}.rt", export_file(export, kinds)) for export in EXPORTS]
+    made += [(f"crates/door/src/{export.name}.rt", export_file(export, kinds, plain)) for export in EXPORTS]
     made += [(f"crates/door_c/src/{export.name}.rt", c_file(export, kinds)) for export in EXPORTS]
-    made += [(f"crates/door/proofs/{export.name}/{export.name}/Answers.antt", export_answers(export)) for export in EXPORTS]
+    made += [answer for export in EXPORTS for answer in export_answers(export)]
     made.append(("crates/door/src/lib.rt", "kinds", modules()))
-    made.append(("crates/door/src/kinds.rt", kinds_file(kinds, groups)))
+    made.append(("crates/door/src/kinds.rt", kinds_file(kinds, groups, plain)))
     made.append(("crates/door/proofs/kinds/copy_kind/Answers.antt", chooser_answers(groups)))
     made += door_meanings(facts, groups, order)
     made += worked_answers(facts, order)
@@ -144,7 +148,11 @@ def kinds_of_file(comment, facts, order):
     ghosts = [EXACTLY] if any(fact.kind.exact for fact in facts) else []
     ghosts += uses([fact.meaning for fact in facts], order)
     ghosts.append("Rattle.door.specs.Meaning.Copy.{held_as}")
+    still = [fact.still for fact in facts if fact.still]
+    ghosts += uses([STILL, *still], order) if still else []
     items = ["crate::kind::Kind", "xdr::Marks", "xdr::Refusal", "xdr::Took"]
+    items += ["crate::kind::Plain"] if still else []
+    items += ["crate::kind::Loose"] if len(still) < len(facts) else []
     items += ["xdr::Piece"] if any(fact.value == "Piece" for fact in facts) else []
     return lines(
         f"// {HEADER}",
@@ -156,8 +164,8 @@ def kinds_of_file(comment, facts, order):
 
 
 def kind_code(fact):
+    """What the code says of a kind, and behind it how the kind is written anew, or that it has no loose forms."""
     kind, value, name = fact.kind, fact.value, struct_of(fact.kind)
-    source, given = ("src", "src, ") if fact.source else ("_src", "")
     x, marks = ("x", "x.marks()") if has_pieces(fact) else ("_x", "Marks::None")
     return lines(
         f"pub(crate) struct {name};",
@@ -175,47 +183,63 @@ def kind_code(fact):
         f"        {fact.called}::read_{kind.name}(src, at)",
         "    }",
         "",
-        *signature("    fn write", (f"{source}: &[u8]", f"x: {value}", "out: &mut [u8]", "at: usize"), " -> Result<usize, Refusal> {"),
-        f"        {fact.called}::write_{kind.name}({given}x, out, at)",
-        "    }",
-        "",
         *signature("    fn marks", (f"{x}: {value}",), " -> Marks {"),
         f"        {marks}",
         "    }",
         "}",
+        "",
+        *(plain_code(fact) if fact.still else loose_code(fact)),
     )
+
+
+def plain_code(fact):
+    return [
+        f"impl Plain for {struct_of(fact.kind)} {{",
+        f"    ghost plain = {{ {STILL.name} {fact.kind.format} {fact.still.name} }};",
+        "}",
+    ]
+
+
+def loose_code(fact):
+    source, given = ("src", "src, ") if fact.source else ("_src", "")
+    return [
+        f"impl Loose for {struct_of(fact.kind)} {{",
+        *signature("    fn write", (f"{source}: &[u8]", f"x: {fact.value}", "out: &mut [u8]", "at: usize"), " -> Result<usize, Refusal> {"),
+        f"        {fact.called}::write_{fact.kind.name}({given}x, out, at)",
+        "    }",
+        "}",
+    ]
 
 
 def kind_answers(file, fact):
     """The files of answers of a kind's functions that are not proved by themselves: (path, text)."""
     found = {}
     written = f"c.requires c.write_{fact.kind.name}.ensures"
-    if fact.bounded:
+    if fact.still:
+        pass
+    elif fact.bounded:
         imports = [f"{fact.bounded.module}.{{{fact.bounded.name}}}", f"{COPY_LAWS}.{{bounded}}"]
-        found["write"] = imports, f"bounded {fact.bounded.name} _ _ _ {written}", ""
-    elif fact.kind.meaning == EIGHT:
-        imports = [RULES, f"{fact.meaning.module}.{{{EIGHT}, eight_held}}", "Rattle.std.proofs.Common.{refl}", f"{COPY_LAWS}.{{unsourced-free}}"]
-        found["write"] = imports, f"unsourced-free {EIGHT} _ _ _ (λ t. (refl, refl)) {written} (search rules)", "eight_held"
-        found["marks"] = [RULES, "Rattle.door.specs.Laws.Span.{eight-marks}"], "search (rules, eight-marks)", ""
+        found["Loose", "write"] = imports, f"bounded {fact.bounded.name} _ _ _ {written}"
     elif not fact.source:
         # A writer that takes no source writes alike with any.
-        found["write"] = [RULES, f"{COPY_LAWS}.{{unsourced}}"], f"unsourced _ _ _ _ {written} (search rules)", ""
+        found["Loose", "write"] = [RULES, f"{COPY_LAWS}.{{unsourced}}"], f"unsourced _ _ _ _ {written} (search rules)"
+    if fact.kind.meaning == EIGHT:
+        found["Kind", "marks"] = [RULES, "Rattle.door.specs.Laws.Span.{eight-marks}"], "search (rules, eight-marks)"
     if fact.marks:
-        found["marks"] = [RULES, f"{fact.marks.module}.{{{fact.marks.name}}}"], f"search (rules, {fact.marks.name})", ""
-    name = f"{struct_of(fact.kind)}Kind"
-    for function, (imports, term, unfolding) in found.items():
-        text = answers(f"{file}.{name}.{function}", imports, {"returns": ("c", term)}, unfolding)
+        found["Kind", "marks"] = [RULES, f"{fact.marks.module}.{{{fact.marks.name}}}"], f"search (rules, {fact.marks.name})"
+    for (trait, function), (imports, term) in found.items():
+        name = f"{struct_of(fact.kind)}{trait}"
+        text = answers(f"{file}.{name}.{function}", imports, {"returns": ("c", term)})
         yield f"crates/door/proofs/{file}/{name}/{function}/Answers.antt", text
 
 
-def answers(function, imports, terms, unfolding=""):
-    """A file of answers: its imports, what each goal takes and is answered by, and what is unfolded."""
-    unfolded = [f"unfolding {unfolding}"] if unfolding else []
+def answers(function, imports, terms):
+    """A file of answers: its imports, what each goal takes and is answered by."""
     return lines(
         f"-- {HEADER}",
         *(f"use {name}" for name in imports),
         f"use Rattle.door.proofs.{function}.Goals as goal",
-        *(line for goal, (taken, term) in terms.items() for line in ("", f"pub {goal} : goal.{goal}", *unfolded, f"{goal} {taken} = {term}")),
+        *(line for goal, (taken, term) in terms.items() for line in ("", f"pub {goal} : goal.{goal}", f"{goal} {taken} = {term}")),
     )
 
 
@@ -280,36 +304,47 @@ EXPORTS = (
 BY_HAND = {("rewrite", "sattr3"): "settle"}
 
 
-def export_file(export, kinds):
+# How a kind is copied: what copies it, and what it is for that.
+LOOSE, PLAIN = ("", "Loose"), ("_plain", "Plain")
+
+
+def way_of(kind, plain):
+    """How a kind is copied, given the names of those without loose forms."""
+    return PLAIN if kind.name in plain else LOOSE
+
+
+def export_file(export, kinds, plain):
     by_hand = {name: file for (what, name), file in BY_HAND.items() if what == export.name}
     called = {path_of(kind) for kind in kinds if kind.name not in by_hand}
     called |= {f"crate::{file}::{export.name}_{name}" for name, file in by_hand.items()}
     called |= {f"crate::exports::{name}" for name in ("SHORT_LIST", f"{export.name}_any", export.tell)}
-    items = called | {"crate::kind::Kind", "crate::kind::copy"}
+    items = called | {f"crate::kind::{name}" for way, trait in (LOOSE, PLAIN) for name in (trait, f"copy{way}")}
     return lines(
         f"// {HEADER}",
         f"// {export.comment}",
         f"ghost use Rattle.door.specs.Meaning.Exports.{{{export.called}}};",
         "",
         *use_lines(items),
-        *export_of_any(export),
+        *export_of_any(export, LOOSE, export.of_each),
+        *export_of_any(export, PLAIN, "The same of a kind without loose forms."),
         *export_by_number(export, kinds),
-        *(line for kind in kinds for line in export_function(export, kind)),
+        *(line for kind in kinds for line in export_function(export, kind, plain)),
     )
 
 
-def export_of_any(export):
+def export_of_any(export, way, comment):
     """What each function of a kind calls."""
+    suffix, trait = way
     return [
         "",
-        f"// {export.of_each}",
-        *signature(f"fn {export.name}<K: Kind>", export.parameters, " -> u32"),
+        f"// {comment}",
+        *signature(f"fn {export.name}{suffix}<K: {trait}>", export.parameters, " -> u32"),
         f"    ensures {{ {export.promise('K.number')} }}",
         "{",
         "    if info.len() < 3 {",
         "        return SHORT_LIST;",
         "    }",
-        f"    let c = copy::<K>(src, at, {'out' if export.out else '&mut []'}, 0);",
+        f"    let c = copy{suffix}::<K>(src, at, {'out' if export.out else '&mut []'}, 0);",
         f"    {export.tell}(c, info)",
         "}",
     ]
@@ -370,8 +405,9 @@ def c_function(export, name, number, parameters, given):
     ]
 
 
-def export_function(export, kind):
-    called = f"_{kind.name}" if (export.name, kind.name) in BY_HAND else f"::<{struct_of(kind)}>"
+def export_function(export, kind, plain):
+    suffix, _ = way_of(kind, plain)
+    called = f"_{kind.name}" if (export.name, kind.name) in BY_HAND else f"{suffix}::<{struct_of(kind)}>"
     return [
         "",
         *signature(f"pub fn {export.function(kind)}", export.parameters, " -> u32"),
@@ -383,22 +419,24 @@ def export_function(export, kind):
 
 
 def export_answers(export):
-    """That of what each function of a kind calls: the kind stands in the list under its number."""
+    """Those of what each function of a kind calls: the kind stands in the list under its number."""
     short, told = f"{export.name}-short", f"{export.name}-told"
-    return answers(
-        f"{export.name}.{export.name}",
-        [RULES, f"Rattle.door.specs.Laws.Exports.{{{short}, {told}}}"],
-        {
-            "returns-then-info-lt3": ("g c", f"search ({short}, rules)"),
-            "returns": ("g c", f"search ({told}, rules, g.met.K.Kind.listed)"),
-        },
-    )
+    for suffix, _ in (LOOSE, PLAIN):
+        text = answers(
+            f"{export.name}.{export.name}{suffix}",
+            [RULES, f"Rattle.door.specs.Laws.Exports.{{{short}, {told}}}"],
+            {
+                "returns-then-info-lt3": ("g c", f"search ({short}, rules)"),
+                "returns": ("g c", f"search ({told}, rules, g.met.K.Kind.listed)"),
+            },
+        )
+        yield f"crates/door/proofs/{export.name}/{export.name}{suffix}/Answers.antt", text
 
 
 # ---------------------------------------------------------------- the kinds by their numbers
 
 
-def kinds_file(kinds, groups):
+def kinds_file(kinds, groups, plain):
     lists = ", ".join(group.list for group in groups)
     return lines(
         f"// {HEADER}",
@@ -406,15 +444,15 @@ def kinds_file(kinds, groups):
         "ghost use Rattle.door.specs.Meaning.Copy.{view_copied};",
         f"ghost use Rattle.door.specs.Meaning.Kinds.{{{lists}, kinds, CopiesOf, CopiesIn}};",
         "",
-        *use_lines({"crate::copy::Copied", "crate::kind::copy", *map(path_of, kinds)}),
-        *(line for group in groups for line in group_function(group)),
+        *use_lines({"crate::copy::Copied", *(f"crate::kind::copy{suffix}" for suffix, _ in (LOOSE, PLAIN)), *map(path_of, kinds)}),
+        *(line for group in groups for line in group_function(group, plain)),
         "",
         *chooser(groups),
     )
 
 
-def group_function(group):
-    arms = [f"        {at} => copy::<{struct_of(kind)}>(src, at, out, start)," for at, kind in enumerate(group.kinds)]
+def group_function(group, plain):
+    arms = [f"        {at} => copy{way_of(kind, plain)[0]}::<{struct_of(kind)}>(src, at, out, start)," for at, kind in enumerate(group.kinds)]
     return [
         "",
         f"// {group.comment[:1].upper()}{group.comment[1:]}.",

@@ -8,6 +8,7 @@ pub mod Parts
 pub mod Taken
 pub mod TakenFattr
 pub mod Walked
+pub mod Still
 pub mod Settled
 pub mod Recast
 pub mod Laid

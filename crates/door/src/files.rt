@@ -8,8 +8,9 @@ ghost use Rattle.nfs.specs.Meaning.Set.{time_how, set-atime, set-mtime, sattr};
 ghost use Rattle.nfs.specs.Meaning.Dir.{nfs_fh, post_op_fh, diropargs, symlinkdata};
 ghost use Rattle.nfs.specs.Meaning.Change.{set_mode, set_uid, set_gid, set_size};
 ghost use Rattle.door.specs.Meaning.Copy.{held_as};
+ghost use Rattle.door.specs.Laws.Still.{still-plain, still-time-how, still-nfsstat, still-ftype, still-specdata, still-nfstime, still-fattr, still-wcc-attr, still-atime, still-mtime};
 
-use crate::kind::Kind;
+use crate::kind::{Kind, Loose, Plain};
 use xdr::{Marks, Refusal, Took};
 
 pub(crate) struct Nfsstring;
@@ -27,12 +28,14 @@ impl Kind for Nfsstring {
         nfs::read_nfsstring(src, at)
     }
 
-    fn write(src: &[u8], x: nfs::nfsstring, out: &mut [u8], at: usize) -> Result<usize, Refusal> {
-        nfs::write_nfsstring(src, x, out, at)
-    }
-
     fn marks(x: nfs::nfsstring) -> Marks {
         x.marks()
+    }
+}
+
+impl Loose for Nfsstring {
+    fn write(src: &[u8], x: nfs::nfsstring, out: &mut [u8], at: usize) -> Result<usize, Refusal> {
+        nfs::write_nfsstring(src, x, out, at)
     }
 }
 
@@ -51,13 +54,13 @@ impl Kind for TimeHow {
         nfs::read_time_how(src, at)
     }
 
-    fn write(_src: &[u8], x: nfs::_time_how, out: &mut [u8], at: usize) -> Result<usize, Refusal> {
-        nfs::write_time_how(x, out, at)
-    }
-
     fn marks(_x: nfs::_time_how) -> Marks {
         Marks::None
     }
+}
+
+impl Plain for TimeHow {
+    ghost plain = { still-plain (exactly time_how) still-time-how };
 }
 
 pub(crate) struct Nfsstat3;
@@ -75,13 +78,13 @@ impl Kind for Nfsstat3 {
         nfs::read_nfsstat3(src, at)
     }
 
-    fn write(_src: &[u8], x: nfs::nfsstat3, out: &mut [u8], at: usize) -> Result<usize, Refusal> {
-        nfs::write_nfsstat3(x, out, at)
-    }
-
     fn marks(_x: nfs::nfsstat3) -> Marks {
         Marks::None
     }
+}
+
+impl Plain for Nfsstat3 {
+    ghost plain = { still-plain (exactly nfsstat) still-nfsstat };
 }
 
 pub(crate) struct Ftype3;
@@ -99,13 +102,13 @@ impl Kind for Ftype3 {
         nfs::read_ftype3(src, at)
     }
 
-    fn write(_src: &[u8], x: nfs::ftype3, out: &mut [u8], at: usize) -> Result<usize, Refusal> {
-        nfs::write_ftype3(x, out, at)
-    }
-
     fn marks(_x: nfs::ftype3) -> Marks {
         Marks::None
     }
+}
+
+impl Plain for Ftype3 {
+    ghost plain = { still-plain (exactly ftype) still-ftype };
 }
 
 pub(crate) struct Specdata3;
@@ -123,13 +126,13 @@ impl Kind for Specdata3 {
         nfs::read_specdata3(src, at)
     }
 
-    fn write(_src: &[u8], x: nfs::specdata3, out: &mut [u8], at: usize) -> Result<usize, Refusal> {
-        nfs::write_specdata3(x, out, at)
-    }
-
     fn marks(_x: nfs::specdata3) -> Marks {
         Marks::None
     }
+}
+
+impl Plain for Specdata3 {
+    ghost plain = { still-plain (exactly specdata) still-specdata };
 }
 
 pub(crate) struct NfsFh3;
@@ -147,12 +150,14 @@ impl Kind for NfsFh3 {
         nfs::read_nfs_fh3(src, at)
     }
 
-    fn write(src: &[u8], x: nfs::nfs_fh3, out: &mut [u8], at: usize) -> Result<usize, Refusal> {
-        nfs::write_nfs_fh3(src, x, out, at)
-    }
-
     fn marks(x: nfs::nfs_fh3) -> Marks {
         x.marks()
+    }
+}
+
+impl Loose for NfsFh3 {
+    fn write(src: &[u8], x: nfs::nfs_fh3, out: &mut [u8], at: usize) -> Result<usize, Refusal> {
+        nfs::write_nfs_fh3(src, x, out, at)
     }
 }
 
@@ -171,13 +176,13 @@ impl Kind for Nfstime3 {
         nfs::read_nfstime3(src, at)
     }
 
-    fn write(_src: &[u8], x: nfs::nfstime3, out: &mut [u8], at: usize) -> Result<usize, Refusal> {
-        nfs::write_nfstime3(x, out, at)
-    }
-
     fn marks(_x: nfs::nfstime3) -> Marks {
         Marks::None
     }
+}
+
+impl Plain for Nfstime3 {
+    ghost plain = { still-plain (exactly nfstime) still-nfstime };
 }
 
 pub(crate) struct Fattr3;
@@ -195,13 +200,13 @@ impl Kind for Fattr3 {
         nfs::read_fattr3(src, at)
     }
 
-    fn write(_src: &[u8], x: nfs::fattr3, out: &mut [u8], at: usize) -> Result<usize, Refusal> {
-        nfs::write_fattr3(x, out, at)
-    }
-
     fn marks(_x: nfs::fattr3) -> Marks {
         Marks::None
     }
+}
+
+impl Plain for Fattr3 {
+    ghost plain = { still-plain (exactly fattr) still-fattr };
 }
 
 pub(crate) struct Fsinfo3;
@@ -219,12 +224,14 @@ impl Kind for Fsinfo3 {
         nfs::read_fsinfo3(src, at)
     }
 
-    fn write(_src: &[u8], x: nfs::fsinfo3, out: &mut [u8], at: usize) -> Result<usize, Refusal> {
-        nfs::write_fsinfo3(x, out, at)
-    }
-
     fn marks(_x: nfs::fsinfo3) -> Marks {
         Marks::None
+    }
+}
+
+impl Loose for Fsinfo3 {
+    fn write(_src: &[u8], x: nfs::fsinfo3, out: &mut [u8], at: usize) -> Result<usize, Refusal> {
+        nfs::write_fsinfo3(x, out, at)
     }
 }
 
@@ -243,13 +250,13 @@ impl Kind for WccAttr {
         nfs::read_wcc_attr(src, at)
     }
 
-    fn write(_src: &[u8], x: nfs::wcc_attr, out: &mut [u8], at: usize) -> Result<usize, Refusal> {
-        nfs::write_wcc_attr(x, out, at)
-    }
-
     fn marks(_x: nfs::wcc_attr) -> Marks {
         Marks::None
     }
+}
+
+impl Plain for WccAttr {
+    ghost plain = { still-plain (exactly wcc-attr) still-wcc-attr };
 }
 
 pub(crate) struct PreOpAttr;
@@ -267,6 +274,12 @@ impl Kind for PreOpAttr {
         nfs::read_pre_op_attr(src, at)
     }
 
+    fn marks(_x: nfs::pre_op_attr) -> Marks {
+        Marks::None
+    }
+}
+
+impl Loose for PreOpAttr {
     fn write(
         _src: &[u8],
         x: nfs::pre_op_attr,
@@ -274,10 +287,6 @@ impl Kind for PreOpAttr {
         at: usize,
     ) -> Result<usize, Refusal> {
         nfs::write_pre_op_attr(x, out, at)
-    }
-
-    fn marks(_x: nfs::pre_op_attr) -> Marks {
-        Marks::None
     }
 }
 
@@ -296,6 +305,12 @@ impl Kind for PostOpAttr {
         nfs::read_post_op_attr(src, at)
     }
 
+    fn marks(_x: nfs::post_op_attr) -> Marks {
+        Marks::None
+    }
+}
+
+impl Loose for PostOpAttr {
     fn write(
         _src: &[u8],
         x: nfs::post_op_attr,
@@ -303,10 +318,6 @@ impl Kind for PostOpAttr {
         at: usize,
     ) -> Result<usize, Refusal> {
         nfs::write_post_op_attr(x, out, at)
-    }
-
-    fn marks(_x: nfs::post_op_attr) -> Marks {
-        Marks::None
     }
 }
 
@@ -325,12 +336,14 @@ impl Kind for WccData {
         nfs::read_wcc_data(src, at)
     }
 
-    fn write(_src: &[u8], x: nfs::wcc_data, out: &mut [u8], at: usize) -> Result<usize, Refusal> {
-        nfs::write_wcc_data(x, out, at)
-    }
-
     fn marks(_x: nfs::wcc_data) -> Marks {
         Marks::None
+    }
+}
+
+impl Loose for WccData {
+    fn write(_src: &[u8], x: nfs::wcc_data, out: &mut [u8], at: usize) -> Result<usize, Refusal> {
+        nfs::write_wcc_data(x, out, at)
     }
 }
 
@@ -349,12 +362,14 @@ impl Kind for PostOpFh3 {
         nfs::read_post_op_fh3(src, at)
     }
 
-    fn write(src: &[u8], x: nfs::post_op_fh3, out: &mut [u8], at: usize) -> Result<usize, Refusal> {
-        nfs::write_post_op_fh3(src, x, out, at)
-    }
-
     fn marks(x: nfs::post_op_fh3) -> Marks {
         x.marks()
+    }
+}
+
+impl Loose for PostOpFh3 {
+    fn write(src: &[u8], x: nfs::post_op_fh3, out: &mut [u8], at: usize) -> Result<usize, Refusal> {
+        nfs::write_post_op_fh3(src, x, out, at)
     }
 }
 
@@ -373,12 +388,14 @@ impl Kind for SetMode3 {
         nfs::read_set_mode3(src, at)
     }
 
-    fn write(_src: &[u8], x: nfs::set_mode3, out: &mut [u8], at: usize) -> Result<usize, Refusal> {
-        nfs::write_set_mode3(x, out, at)
-    }
-
     fn marks(_x: nfs::set_mode3) -> Marks {
         Marks::None
+    }
+}
+
+impl Loose for SetMode3 {
+    fn write(_src: &[u8], x: nfs::set_mode3, out: &mut [u8], at: usize) -> Result<usize, Refusal> {
+        nfs::write_set_mode3(x, out, at)
     }
 }
 
@@ -397,12 +414,14 @@ impl Kind for SetUid3 {
         nfs::read_set_uid3(src, at)
     }
 
-    fn write(_src: &[u8], x: nfs::set_uid3, out: &mut [u8], at: usize) -> Result<usize, Refusal> {
-        nfs::write_set_uid3(x, out, at)
-    }
-
     fn marks(_x: nfs::set_uid3) -> Marks {
         Marks::None
+    }
+}
+
+impl Loose for SetUid3 {
+    fn write(_src: &[u8], x: nfs::set_uid3, out: &mut [u8], at: usize) -> Result<usize, Refusal> {
+        nfs::write_set_uid3(x, out, at)
     }
 }
 
@@ -421,12 +440,14 @@ impl Kind for SetGid3 {
         nfs::read_set_gid3(src, at)
     }
 
-    fn write(_src: &[u8], x: nfs::set_gid3, out: &mut [u8], at: usize) -> Result<usize, Refusal> {
-        nfs::write_set_gid3(x, out, at)
-    }
-
     fn marks(_x: nfs::set_gid3) -> Marks {
         Marks::None
+    }
+}
+
+impl Loose for SetGid3 {
+    fn write(_src: &[u8], x: nfs::set_gid3, out: &mut [u8], at: usize) -> Result<usize, Refusal> {
+        nfs::write_set_gid3(x, out, at)
     }
 }
 
@@ -445,12 +466,14 @@ impl Kind for SetSize3 {
         nfs::read_set_size3(src, at)
     }
 
-    fn write(_src: &[u8], x: nfs::set_size3, out: &mut [u8], at: usize) -> Result<usize, Refusal> {
-        nfs::write_set_size3(x, out, at)
-    }
-
     fn marks(_x: nfs::set_size3) -> Marks {
         Marks::None
+    }
+}
+
+impl Loose for SetSize3 {
+    fn write(_src: &[u8], x: nfs::set_size3, out: &mut [u8], at: usize) -> Result<usize, Refusal> {
+        nfs::write_set_size3(x, out, at)
     }
 }
 
@@ -469,13 +492,13 @@ impl Kind for SetAtime {
         nfs::read_set_atime(src, at)
     }
 
-    fn write(_src: &[u8], x: nfs::set_atime, out: &mut [u8], at: usize) -> Result<usize, Refusal> {
-        nfs::write_set_atime(x, out, at)
-    }
-
     fn marks(_x: nfs::set_atime) -> Marks {
         Marks::None
     }
+}
+
+impl Plain for SetAtime {
+    ghost plain = { still-plain (exactly set-atime) still-atime };
 }
 
 pub(crate) struct SetMtime;
@@ -493,13 +516,13 @@ impl Kind for SetMtime {
         nfs::read_set_mtime(src, at)
     }
 
-    fn write(_src: &[u8], x: nfs::set_mtime, out: &mut [u8], at: usize) -> Result<usize, Refusal> {
-        nfs::write_set_mtime(x, out, at)
-    }
-
     fn marks(_x: nfs::set_mtime) -> Marks {
         Marks::None
     }
+}
+
+impl Plain for SetMtime {
+    ghost plain = { still-plain (exactly set-mtime) still-mtime };
 }
 
 pub(crate) struct Sattr3;
@@ -517,12 +540,14 @@ impl Kind for Sattr3 {
         nfs::read_sattr3(src, at)
     }
 
-    fn write(_src: &[u8], x: nfs::sattr3, out: &mut [u8], at: usize) -> Result<usize, Refusal> {
-        nfs::write_sattr3(x, out, at)
-    }
-
     fn marks(_x: nfs::sattr3) -> Marks {
         Marks::None
+    }
+}
+
+impl Loose for Sattr3 {
+    fn write(_src: &[u8], x: nfs::sattr3, out: &mut [u8], at: usize) -> Result<usize, Refusal> {
+        nfs::write_sattr3(x, out, at)
     }
 }
 
@@ -541,12 +566,14 @@ impl Kind for Diropargs3 {
         nfs::read_diropargs3(src, at)
     }
 
-    fn write(src: &[u8], x: nfs::diropargs3, out: &mut [u8], at: usize) -> Result<usize, Refusal> {
-        nfs::write_diropargs3(src, x, out, at)
-    }
-
     fn marks(x: nfs::diropargs3) -> Marks {
         x.marks()
+    }
+}
+
+impl Loose for Diropargs3 {
+    fn write(src: &[u8], x: nfs::diropargs3, out: &mut [u8], at: usize) -> Result<usize, Refusal> {
+        nfs::write_diropargs3(src, x, out, at)
     }
 }
 
@@ -565,6 +592,12 @@ impl Kind for Symlinkdata3 {
         nfs::read_symlinkdata3(src, at)
     }
 
+    fn marks(x: nfs::symlinkdata3) -> Marks {
+        x.marks()
+    }
+}
+
+impl Loose for Symlinkdata3 {
     fn write(
         src: &[u8],
         x: nfs::symlinkdata3,
@@ -572,9 +605,5 @@ impl Kind for Symlinkdata3 {
         at: usize,
     ) -> Result<usize, Refusal> {
         nfs::write_symlinkdata3(src, x, out, at)
-    }
-
-    fn marks(x: nfs::symlinkdata3) -> Marks {
-        x.marks()
     }
 }

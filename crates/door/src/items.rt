@@ -4,8 +4,9 @@ ghost use Rattle.xdr.specs.Meaning.Format.{exactly};
 ghost use Rattle.xdr.specs.Meaning.Items.{flag, int, long, word, hyper};
 ghost use Rattle.xdr.specs.Meaning.Formats.{eight_bytes, bytes, word_list};
 ghost use Rattle.door.specs.Meaning.Copy.{held_as};
+ghost use Rattle.door.specs.Laws.Still.{still-plain, still-int, still-long, still-word, still-hyper, still-eight};
 
-use crate::kind::Kind;
+use crate::kind::{Kind, Loose, Plain};
 use xdr::{Marks, Piece, Refusal, Took};
 
 pub(crate) struct Bool;
@@ -23,12 +24,14 @@ impl Kind for Bool {
         xdr::read_bool(src, at)
     }
 
-    fn write(_src: &[u8], x: bool, out: &mut [u8], at: usize) -> Result<usize, Refusal> {
-        xdr::write_bool(x, out, at)
-    }
-
     fn marks(_x: bool) -> Marks {
         Marks::None
+    }
+}
+
+impl Loose for Bool {
+    fn write(_src: &[u8], x: bool, out: &mut [u8], at: usize) -> Result<usize, Refusal> {
+        xdr::write_bool(x, out, at)
     }
 }
 
@@ -47,13 +50,13 @@ impl Kind for I32 {
         xdr::read_i32(src, at)
     }
 
-    fn write(_src: &[u8], x: i32, out: &mut [u8], at: usize) -> Result<usize, Refusal> {
-        xdr::write_i32(x, out, at)
-    }
-
     fn marks(_x: i32) -> Marks {
         Marks::None
     }
+}
+
+impl Plain for I32 {
+    ghost plain = { still-plain (exactly int) still-int };
 }
 
 pub(crate) struct I64;
@@ -71,13 +74,13 @@ impl Kind for I64 {
         xdr::read_i64(src, at)
     }
 
-    fn write(_src: &[u8], x: i64, out: &mut [u8], at: usize) -> Result<usize, Refusal> {
-        xdr::write_i64(x, out, at)
-    }
-
     fn marks(_x: i64) -> Marks {
         Marks::None
     }
+}
+
+impl Plain for I64 {
+    ghost plain = { still-plain (exactly long) still-long };
 }
 
 pub(crate) struct U32;
@@ -95,13 +98,13 @@ impl Kind for U32 {
         xdr::read_u32(src, at)
     }
 
-    fn write(_src: &[u8], x: u32, out: &mut [u8], at: usize) -> Result<usize, Refusal> {
-        xdr::write_u32(x, out, at)
-    }
-
     fn marks(_x: u32) -> Marks {
         Marks::None
     }
+}
+
+impl Plain for U32 {
+    ghost plain = { still-plain (exactly word) still-word };
 }
 
 pub(crate) struct U64;
@@ -119,13 +122,13 @@ impl Kind for U64 {
         xdr::read_u64(src, at)
     }
 
-    fn write(_src: &[u8], x: u64, out: &mut [u8], at: usize) -> Result<usize, Refusal> {
-        xdr::write_u64(x, out, at)
-    }
-
     fn marks(_x: u64) -> Marks {
         Marks::None
     }
+}
+
+impl Plain for U64 {
+    ghost plain = { still-plain (exactly hyper) still-hyper };
 }
 
 pub(crate) struct Eight;
@@ -143,13 +146,13 @@ impl Kind for Eight {
         xdr::read_eight(src, at)
     }
 
-    fn write(_src: &[u8], x: u64, out: &mut [u8], at: usize) -> Result<usize, Refusal> {
-        xdr::write_eight(x, out, at)
-    }
-
     fn marks(_x: u64) -> Marks {
         Marks::None
     }
+}
+
+impl Plain for Eight {
+    ghost plain = { still-plain eight_bytes still-eight };
 }
 
 pub(crate) struct Opaque;
@@ -167,12 +170,14 @@ impl Kind for Opaque {
         xdr::read_opaque(src, at)
     }
 
-    fn write(src: &[u8], x: Piece, out: &mut [u8], at: usize) -> Result<usize, Refusal> {
-        xdr::write_opaque(src, x, out, at)
-    }
-
     fn marks(x: Piece) -> Marks {
         x.marks()
+    }
+}
+
+impl Loose for Opaque {
+    fn write(src: &[u8], x: Piece, out: &mut [u8], at: usize) -> Result<usize, Refusal> {
+        xdr::write_opaque(src, x, out, at)
     }
 }
 
@@ -191,11 +196,13 @@ impl Kind for Words {
         xdr::read_words(src, at)
     }
 
-    fn write(src: &[u8], x: Piece, out: &mut [u8], at: usize) -> Result<usize, Refusal> {
-        xdr::write_words(src, x, out, at)
-    }
-
     fn marks(x: Piece) -> Marks {
         x.marks()
+    }
+}
+
+impl Loose for Words {
+    fn write(src: &[u8], x: Piece, out: &mut [u8], at: usize) -> Result<usize, Refusal> {
+        xdr::write_words(src, x, out, at)
     }
 }

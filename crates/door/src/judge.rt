@@ -9,7 +9,7 @@ use crate::files::{
     Specdata3, Symlinkdata3, TimeHow, WccAttr, WccData,
 };
 use crate::items::{Bool, Eight, I32, I64, Opaque, U32, U64, Words};
-use crate::kind::{Kind, copy};
+use crate::kind::{Loose, Plain, copy, copy_plain};
 use crate::messages::{
     AcceptBody, AcceptStat, AcceptedReply, AuthFlavor, AuthStat, AuthUnix, CallBody,
     CurrentAcceptBody, CurrentAcceptStat, CurrentAcceptedReply, CurrentAuthStat,
@@ -23,13 +23,24 @@ use crate::procedures::{
 };
 
 // What is read of a kind, and nothing written.
-fn judge<K: Kind>(src: &[u8], at: usize, info: &mut [u64]) -> u32
+fn judge<K: Loose>(src: &[u8], at: usize, info: &mut [u64]) -> u32
     ensures { JudgeCalled K.number src.now at info.old result info.new }
 {
     if info.len() < 3 {
         return SHORT_LIST;
     }
     let c = copy::<K>(src, at, &mut [], 0);
+    tell_judged(c, info)
+}
+
+// The same of a kind without loose forms.
+fn judge_plain<K: Plain>(src: &[u8], at: usize, info: &mut [u64]) -> u32
+    ensures { JudgeCalled K.number src.now at info.old result info.new }
+{
+    if info.len() < 3 {
+        return SHORT_LIST;
+    }
+    let c = copy_plain::<K>(src, at, &mut [], 0);
     tell_judged(c, info)
 }
 
@@ -140,31 +151,31 @@ pub fn yugerzat_judge_bool(src: &[u8], at: usize, info: &mut [u64]) -> u32
 pub fn yugerzat_judge_i32(src: &[u8], at: usize, info: &mut [u64]) -> u32
     ensures { JudgeCalled 1 src.now at info.old result info.new }
 {
-    judge::<I32>(src, at, info)
+    judge_plain::<I32>(src, at, info)
 }
 
 pub fn yugerzat_judge_i64(src: &[u8], at: usize, info: &mut [u64]) -> u32
     ensures { JudgeCalled 2 src.now at info.old result info.new }
 {
-    judge::<I64>(src, at, info)
+    judge_plain::<I64>(src, at, info)
 }
 
 pub fn yugerzat_judge_u32(src: &[u8], at: usize, info: &mut [u64]) -> u32
     ensures { JudgeCalled 3 src.now at info.old result info.new }
 {
-    judge::<U32>(src, at, info)
+    judge_plain::<U32>(src, at, info)
 }
 
 pub fn yugerzat_judge_u64(src: &[u8], at: usize, info: &mut [u64]) -> u32
     ensures { JudgeCalled 4 src.now at info.old result info.new }
 {
-    judge::<U64>(src, at, info)
+    judge_plain::<U64>(src, at, info)
 }
 
 pub fn yugerzat_judge_eight(src: &[u8], at: usize, info: &mut [u64]) -> u32
     ensures { JudgeCalled 5 src.now at info.old result info.new }
 {
-    judge::<Eight>(src, at, info)
+    judge_plain::<Eight>(src, at, info)
 }
 
 pub fn yugerzat_judge_opaque(src: &[u8], at: usize, info: &mut [u64]) -> u32
@@ -188,55 +199,55 @@ pub fn yugerzat_judge_words(src: &[u8], at: usize, info: &mut [u64]) -> u32
 pub fn yugerzat_judge_msg_type(src: &[u8], at: usize, info: &mut [u64]) -> u32
     ensures { JudgeCalled 9 src.now at info.old result info.new }
 {
-    judge::<MsgType>(src, at, info)
+    judge_plain::<MsgType>(src, at, info)
 }
 
 pub fn yugerzat_judge_reply_stat(src: &[u8], at: usize, info: &mut [u64]) -> u32
     ensures { JudgeCalled 10 src.now at info.old result info.new }
 {
-    judge::<ReplyStat>(src, at, info)
+    judge_plain::<ReplyStat>(src, at, info)
 }
 
 pub fn yugerzat_judge_accept_stat(src: &[u8], at: usize, info: &mut [u64]) -> u32
     ensures { JudgeCalled 11 src.now at info.old result info.new }
 {
-    judge::<AcceptStat>(src, at, info)
+    judge_plain::<AcceptStat>(src, at, info)
 }
 
 pub fn yugerzat_judge_reject_stat(src: &[u8], at: usize, info: &mut [u64]) -> u32
     ensures { JudgeCalled 12 src.now at info.old result info.new }
 {
-    judge::<RejectStat>(src, at, info)
+    judge_plain::<RejectStat>(src, at, info)
 }
 
 pub fn yugerzat_judge_auth_stat(src: &[u8], at: usize, info: &mut [u64]) -> u32
     ensures { JudgeCalled 13 src.now at info.old result info.new }
 {
-    judge::<AuthStat>(src, at, info)
+    judge_plain::<AuthStat>(src, at, info)
 }
 
 pub fn yugerzat_judge_auth_flavor(src: &[u8], at: usize, info: &mut [u64]) -> u32
     ensures { JudgeCalled 14 src.now at info.old result info.new }
 {
-    judge::<AuthFlavor>(src, at, info)
+    judge_plain::<AuthFlavor>(src, at, info)
 }
 
 pub fn yugerzat_judge_time_how(src: &[u8], at: usize, info: &mut [u64]) -> u32
     ensures { JudgeCalled 15 src.now at info.old result info.new }
 {
-    judge::<TimeHow>(src, at, info)
+    judge_plain::<TimeHow>(src, at, info)
 }
 
 pub fn yugerzat_judge_nfsstat3(src: &[u8], at: usize, info: &mut [u64]) -> u32
     ensures { JudgeCalled 16 src.now at info.old result info.new }
 {
-    judge::<Nfsstat3>(src, at, info)
+    judge_plain::<Nfsstat3>(src, at, info)
 }
 
 pub fn yugerzat_judge_ftype3(src: &[u8], at: usize, info: &mut [u64]) -> u32
     ensures { JudgeCalled 17 src.now at info.old result info.new }
 {
-    judge::<Ftype3>(src, at, info)
+    judge_plain::<Ftype3>(src, at, info)
 }
 
 pub fn yugerzat_judge_auth_unix(src: &[u8], at: usize, info: &mut [u64]) -> u32
@@ -296,13 +307,13 @@ pub fn yugerzat_judge_rejected_reply(src: &[u8], at: usize, info: &mut [u64]) ->
 pub fn yugerzat_judge_mismatch_info(src: &[u8], at: usize, info: &mut [u64]) -> u32
     ensures { JudgeCalled 27 src.now at info.old result info.new }
 {
-    judge::<MismatchInfo>(src, at, info)
+    judge_plain::<MismatchInfo>(src, at, info)
 }
 
 pub fn yugerzat_judge_specdata3(src: &[u8], at: usize, info: &mut [u64]) -> u32
     ensures { JudgeCalled 28 src.now at info.old result info.new }
 {
-    judge::<Specdata3>(src, at, info)
+    judge_plain::<Specdata3>(src, at, info)
 }
 
 pub fn yugerzat_judge_nfs_fh3(src: &[u8], at: usize, info: &mut [u64]) -> u32
@@ -314,13 +325,13 @@ pub fn yugerzat_judge_nfs_fh3(src: &[u8], at: usize, info: &mut [u64]) -> u32
 pub fn yugerzat_judge_nfstime3(src: &[u8], at: usize, info: &mut [u64]) -> u32
     ensures { JudgeCalled 30 src.now at info.old result info.new }
 {
-    judge::<Nfstime3>(src, at, info)
+    judge_plain::<Nfstime3>(src, at, info)
 }
 
 pub fn yugerzat_judge_fattr3(src: &[u8], at: usize, info: &mut [u64]) -> u32
     ensures { JudgeCalled 31 src.now at info.old result info.new }
 {
-    judge::<Fattr3>(src, at, info)
+    judge_plain::<Fattr3>(src, at, info)
 }
 
 pub fn yugerzat_judge_fsinfo3(src: &[u8], at: usize, info: &mut [u64]) -> u32
@@ -332,7 +343,7 @@ pub fn yugerzat_judge_fsinfo3(src: &[u8], at: usize, info: &mut [u64]) -> u32
 pub fn yugerzat_judge_wcc_attr(src: &[u8], at: usize, info: &mut [u64]) -> u32
     ensures { JudgeCalled 33 src.now at info.old result info.new }
 {
-    judge::<WccAttr>(src, at, info)
+    judge_plain::<WccAttr>(src, at, info)
 }
 
 pub fn yugerzat_judge_pre_op_attr(src: &[u8], at: usize, info: &mut [u64]) -> u32
@@ -386,13 +397,13 @@ pub fn yugerzat_judge_set_size3(src: &[u8], at: usize, info: &mut [u64]) -> u32
 pub fn yugerzat_judge_set_atime(src: &[u8], at: usize, info: &mut [u64]) -> u32
     ensures { JudgeCalled 42 src.now at info.old result info.new }
 {
-    judge::<SetAtime>(src, at, info)
+    judge_plain::<SetAtime>(src, at, info)
 }
 
 pub fn yugerzat_judge_set_mtime(src: &[u8], at: usize, info: &mut [u64]) -> u32
     ensures { JudgeCalled 43 src.now at info.old result info.new }
 {
-    judge::<SetMtime>(src, at, info)
+    judge_plain::<SetMtime>(src, at, info)
 }
 
 pub fn yugerzat_judge_sattr3(src: &[u8], at: usize, info: &mut [u64]) -> u32
@@ -416,7 +427,7 @@ pub fn yugerzat_judge_symlinkdata3(src: &[u8], at: usize, info: &mut [u64]) -> u
 pub fn yugerzat_judge_stable_how(src: &[u8], at: usize, info: &mut [u64]) -> u32
     ensures { JudgeCalled 47 src.now at info.old result info.new }
 {
-    judge::<StableHow>(src, at, info)
+    judge_plain::<StableHow>(src, at, info)
 }
 
 pub fn yugerzat_judge_sattrguard3(src: &[u8], at: usize, info: &mut [u64]) -> u32
@@ -434,7 +445,7 @@ pub fn yugerzat_judge_getattr3args(src: &[u8], at: usize, info: &mut [u64]) -> u
 pub fn yugerzat_judge_getattr3res(src: &[u8], at: usize, info: &mut [u64]) -> u32
     ensures { JudgeCalled 50 src.now at info.old result info.new }
 {
-    judge::<Getattr3res>(src, at, info)
+    judge_plain::<Getattr3res>(src, at, info)
 }
 
 pub fn yugerzat_judge_setattr3args(src: &[u8], at: usize, info: &mut [u64]) -> u32
@@ -488,13 +499,13 @@ pub fn yugerzat_judge_write3res(src: &[u8], at: usize, info: &mut [u64]) -> u32
 pub fn yugerzat_judge_current_accept_stat(src: &[u8], at: usize, info: &mut [u64]) -> u32
     ensures { JudgeCalled 59 src.now at info.old result info.new }
 {
-    judge::<CurrentAcceptStat>(src, at, info)
+    judge_plain::<CurrentAcceptStat>(src, at, info)
 }
 
 pub fn yugerzat_judge_current_auth_stat(src: &[u8], at: usize, info: &mut [u64]) -> u32
     ensures { JudgeCalled 60 src.now at info.old result info.new }
 {
-    judge::<CurrentAuthStat>(src, at, info)
+    judge_plain::<CurrentAuthStat>(src, at, info)
 }
 
 pub fn yugerzat_judge_current_accept_body(src: &[u8], at: usize, info: &mut [u64]) -> u32
@@ -542,7 +553,7 @@ pub fn yugerzat_judge_dirpath(src: &[u8], at: usize, info: &mut [u64]) -> u32
 pub fn yugerzat_judge_mountstat3(src: &[u8], at: usize, info: &mut [u64]) -> u32
     ensures { JudgeCalled 68 src.now at info.old result info.new }
 {
-    judge::<Mountstat3>(src, at, info)
+    judge_plain::<Mountstat3>(src, at, info)
 }
 
 pub fn yugerzat_judge_mountres3(src: &[u8], at: usize, info: &mut [u64]) -> u32
@@ -560,5 +571,5 @@ pub fn yugerzat_judge_exports(src: &[u8], at: usize, info: &mut [u64]) -> u32
 pub fn yugerzat_judge_mapping(src: &[u8], at: usize, info: &mut [u64]) -> u32
     ensures { JudgeCalled 71 src.now at info.old result info.new }
 {
-    judge::<Mapping>(src, at, info)
+    judge_plain::<Mapping>(src, at, info)
 }

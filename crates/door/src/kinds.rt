@@ -10,7 +10,7 @@ use crate::files::{
     Specdata3, Symlinkdata3, TimeHow, WccAttr, WccData,
 };
 use crate::items::{Bool, Eight, I32, I64, Opaque, U32, U64, Words};
-use crate::kind::copy;
+use crate::kind::{copy, copy_plain};
 use crate::messages::{
     AcceptBody, AcceptStat, AcceptedReply, AuthFlavor, AuthStat, AuthUnix, CallBody,
     CurrentAcceptBody, CurrentAcceptStat, CurrentAcceptedReply, CurrentAuthStat,
@@ -29,11 +29,11 @@ fn copy_item(kind: u32, src: &[u8], at: usize, out: &mut [u8], start: usize) -> 
 {
     match kind {
         0 => copy::<Bool>(src, at, out, start),
-        1 => copy::<I32>(src, at, out, start),
-        2 => copy::<I64>(src, at, out, start),
-        3 => copy::<U32>(src, at, out, start),
-        4 => copy::<U64>(src, at, out, start),
-        5 => copy::<Eight>(src, at, out, start),
+        1 => copy_plain::<I32>(src, at, out, start),
+        2 => copy_plain::<I64>(src, at, out, start),
+        3 => copy_plain::<U32>(src, at, out, start),
+        4 => copy_plain::<U64>(src, at, out, start),
+        5 => copy_plain::<Eight>(src, at, out, start),
         6 => copy::<Opaque>(src, at, out, start),
         7 => copy::<Nfsstring>(src, at, out, start),
         8 => copy::<Words>(src, at, out, start),
@@ -46,15 +46,15 @@ fn copy_closed(kind: u32, src: &[u8], at: usize, out: &mut [u8], start: usize) -
     ensures { CopiesIn closed_kinds kind src.now at start out.old (view_copied result) out.new }
 {
     match kind {
-        0 => copy::<MsgType>(src, at, out, start),
-        1 => copy::<ReplyStat>(src, at, out, start),
-        2 => copy::<AcceptStat>(src, at, out, start),
-        3 => copy::<RejectStat>(src, at, out, start),
-        4 => copy::<AuthStat>(src, at, out, start),
-        5 => copy::<AuthFlavor>(src, at, out, start),
-        6 => copy::<TimeHow>(src, at, out, start),
-        7 => copy::<Nfsstat3>(src, at, out, start),
-        8 => copy::<Ftype3>(src, at, out, start),
+        0 => copy_plain::<MsgType>(src, at, out, start),
+        1 => copy_plain::<ReplyStat>(src, at, out, start),
+        2 => copy_plain::<AcceptStat>(src, at, out, start),
+        3 => copy_plain::<RejectStat>(src, at, out, start),
+        4 => copy_plain::<AuthStat>(src, at, out, start),
+        5 => copy_plain::<AuthFlavor>(src, at, out, start),
+        6 => copy_plain::<TimeHow>(src, at, out, start),
+        7 => copy_plain::<Nfsstat3>(src, at, out, start),
+        8 => copy_plain::<Ftype3>(src, at, out, start),
         _ => Copied::Unknown,
     }
 }
@@ -73,7 +73,7 @@ fn copy_message(kind: u32, src: &[u8], at: usize, out: &mut [u8], start: usize) 
         6 => copy::<AcceptedReply>(src, at, out, start),
         7 => copy::<AcceptBody>(src, at, out, start),
         8 => copy::<RejectedReply>(src, at, out, start),
-        9 => copy::<MismatchInfo>(src, at, out, start),
+        9 => copy_plain::<MismatchInfo>(src, at, out, start),
         _ => Copied::Unknown,
     }
 }
@@ -83,12 +83,12 @@ fn copy_attributes(kind: u32, src: &[u8], at: usize, out: &mut [u8], start: usiz
     ensures { CopiesIn attribute_kinds kind src.now at start out.old (view_copied result) out.new }
 {
     match kind {
-        0 => copy::<Specdata3>(src, at, out, start),
+        0 => copy_plain::<Specdata3>(src, at, out, start),
         1 => copy::<NfsFh3>(src, at, out, start),
-        2 => copy::<Nfstime3>(src, at, out, start),
-        3 => copy::<Fattr3>(src, at, out, start),
+        2 => copy_plain::<Nfstime3>(src, at, out, start),
+        3 => copy_plain::<Fattr3>(src, at, out, start),
         4 => copy::<Fsinfo3>(src, at, out, start),
-        5 => copy::<WccAttr>(src, at, out, start),
+        5 => copy_plain::<WccAttr>(src, at, out, start),
         6 => copy::<PreOpAttr>(src, at, out, start),
         7 => copy::<PostOpAttr>(src, at, out, start),
         8 => copy::<WccData>(src, at, out, start),
@@ -106,8 +106,8 @@ fn copy_change(kind: u32, src: &[u8], at: usize, out: &mut [u8], start: usize) -
         1 => copy::<SetUid3>(src, at, out, start),
         2 => copy::<SetGid3>(src, at, out, start),
         3 => copy::<SetSize3>(src, at, out, start),
-        4 => copy::<SetAtime>(src, at, out, start),
-        5 => copy::<SetMtime>(src, at, out, start),
+        4 => copy_plain::<SetAtime>(src, at, out, start),
+        5 => copy_plain::<SetMtime>(src, at, out, start),
         6 => copy::<Sattr3>(src, at, out, start),
         7 => copy::<Diropargs3>(src, at, out, start),
         8 => copy::<Symlinkdata3>(src, at, out, start),
@@ -120,10 +120,10 @@ fn copy_procedure(kind: u32, src: &[u8], at: usize, out: &mut [u8], start: usize
     ensures { CopiesIn procedure_kinds kind src.now at start out.old (view_copied result) out.new }
 {
     match kind {
-        0 => copy::<StableHow>(src, at, out, start),
+        0 => copy_plain::<StableHow>(src, at, out, start),
         1 => copy::<Sattrguard3>(src, at, out, start),
         2 => copy::<Getattr3args>(src, at, out, start),
-        3 => copy::<Getattr3res>(src, at, out, start),
+        3 => copy_plain::<Getattr3res>(src, at, out, start),
         4 => copy::<Setattr3args>(src, at, out, start),
         5 => copy::<Setattr3res>(src, at, out, start),
         6 => copy::<Lookup3args>(src, at, out, start),
@@ -141,8 +141,8 @@ fn copy_current(kind: u32, src: &[u8], at: usize, out: &mut [u8], start: usize) 
     ensures { CopiesIn current_kinds kind src.now at start out.old (view_copied result) out.new }
 {
     match kind {
-        0 => copy::<CurrentAcceptStat>(src, at, out, start),
-        1 => copy::<CurrentAuthStat>(src, at, out, start),
+        0 => copy_plain::<CurrentAcceptStat>(src, at, out, start),
+        1 => copy_plain::<CurrentAuthStat>(src, at, out, start),
         2 => copy::<CurrentAcceptBody>(src, at, out, start),
         3 => copy::<CurrentAcceptedReply>(src, at, out, start),
         4 => copy::<CurrentRejectedReply>(src, at, out, start),
@@ -159,10 +159,10 @@ fn copy_mount(kind: u32, src: &[u8], at: usize, out: &mut [u8], start: usize) ->
 {
     match kind {
         0 => copy::<Dirpath>(src, at, out, start),
-        1 => copy::<Mountstat3>(src, at, out, start),
+        1 => copy_plain::<Mountstat3>(src, at, out, start),
         2 => copy::<Mountres3>(src, at, out, start),
         3 => copy::<Exports>(src, at, out, start),
-        4 => copy::<Mapping>(src, at, out, start),
+        4 => copy_plain::<Mapping>(src, at, out, start),
         _ => Copied::Unknown,
     }
 }

@@ -8,8 +8,9 @@ ghost use Rattle.rpc.specs.Meaning.Message.{call-body};
 ghost use Rattle.rpc.specs.Meaning.Reading.{mismatch-info};
 ghost use Rattle.rpc.specs.Meaning.Current.{current_accept_stat, current_auth_stat, current_accept_body, current_accepted_reply, current_rejected_reply, current_reply_body, current_rpc_body, current_rpc_msg};
 ghost use Rattle.door.specs.Meaning.Copy.{held_as};
+ghost use Rattle.door.specs.Laws.Still.{still-plain, still-msg-type, still-reply-stat, still-accept-stat, still-reject-stat, still-auth-stat, still-auth-flavor, still-mismatch-info, still-current-accept-stat, still-current-auth-stat};
 
-use crate::kind::Kind;
+use crate::kind::{Kind, Loose, Plain};
 use xdr::{Marks, Refusal, Took};
 
 pub(crate) struct MsgType;
@@ -27,13 +28,13 @@ impl Kind for MsgType {
         rpc::read_msg_type(src, at)
     }
 
-    fn write(_src: &[u8], x: rpc::msg_type, out: &mut [u8], at: usize) -> Result<usize, Refusal> {
-        rpc::write_msg_type(x, out, at)
-    }
-
     fn marks(_x: rpc::msg_type) -> Marks {
         Marks::None
     }
+}
+
+impl Plain for MsgType {
+    ghost plain = { still-plain (exactly msg-type) still-msg-type };
 }
 
 pub(crate) struct ReplyStat;
@@ -51,13 +52,13 @@ impl Kind for ReplyStat {
         rpc::read_reply_stat(src, at)
     }
 
-    fn write(_src: &[u8], x: rpc::reply_stat, out: &mut [u8], at: usize) -> Result<usize, Refusal> {
-        rpc::write_reply_stat(x, out, at)
-    }
-
     fn marks(_x: rpc::reply_stat) -> Marks {
         Marks::None
     }
+}
+
+impl Plain for ReplyStat {
+    ghost plain = { still-plain (exactly reply-stat) still-reply-stat };
 }
 
 pub(crate) struct AcceptStat;
@@ -75,18 +76,13 @@ impl Kind for AcceptStat {
         rpc::read_accept_stat(src, at)
     }
 
-    fn write(
-        _src: &[u8],
-        x: rpc::accept_stat,
-        out: &mut [u8],
-        at: usize,
-    ) -> Result<usize, Refusal> {
-        rpc::write_accept_stat(x, out, at)
-    }
-
     fn marks(_x: rpc::accept_stat) -> Marks {
         Marks::None
     }
+}
+
+impl Plain for AcceptStat {
+    ghost plain = { still-plain (exactly accept-stat) still-accept-stat };
 }
 
 pub(crate) struct RejectStat;
@@ -104,18 +100,13 @@ impl Kind for RejectStat {
         rpc::read_reject_stat(src, at)
     }
 
-    fn write(
-        _src: &[u8],
-        x: rpc::reject_stat,
-        out: &mut [u8],
-        at: usize,
-    ) -> Result<usize, Refusal> {
-        rpc::write_reject_stat(x, out, at)
-    }
-
     fn marks(_x: rpc::reject_stat) -> Marks {
         Marks::None
     }
+}
+
+impl Plain for RejectStat {
+    ghost plain = { still-plain (exactly reject-stat) still-reject-stat };
 }
 
 pub(crate) struct AuthStat;
@@ -133,13 +124,13 @@ impl Kind for AuthStat {
         rpc::read_auth_stat(src, at)
     }
 
-    fn write(_src: &[u8], x: rpc::auth_stat, out: &mut [u8], at: usize) -> Result<usize, Refusal> {
-        rpc::write_auth_stat(x, out, at)
-    }
-
     fn marks(_x: rpc::auth_stat) -> Marks {
         Marks::None
     }
+}
+
+impl Plain for AuthStat {
+    ghost plain = { still-plain (exactly auth-stat) still-auth-stat };
 }
 
 pub(crate) struct AuthFlavor;
@@ -157,18 +148,13 @@ impl Kind for AuthFlavor {
         rpc::read_auth_flavor(src, at)
     }
 
-    fn write(
-        _src: &[u8],
-        x: rpc::auth_flavor,
-        out: &mut [u8],
-        at: usize,
-    ) -> Result<usize, Refusal> {
-        rpc::write_auth_flavor(x, out, at)
-    }
-
     fn marks(_x: rpc::auth_flavor) -> Marks {
         Marks::None
     }
+}
+
+impl Plain for AuthFlavor {
+    ghost plain = { still-plain (exactly auth-flavor) still-auth-flavor };
 }
 
 pub(crate) struct AuthUnix;
@@ -186,12 +172,14 @@ impl Kind for AuthUnix {
         rpc::read_auth_unix(src, at)
     }
 
-    fn write(src: &[u8], x: rpc::auth_unix, out: &mut [u8], at: usize) -> Result<usize, Refusal> {
-        rpc::write_auth_unix(src, x, out, at)
-    }
-
     fn marks(x: rpc::auth_unix) -> Marks {
         x.marks()
+    }
+}
+
+impl Loose for AuthUnix {
+    fn write(src: &[u8], x: rpc::auth_unix, out: &mut [u8], at: usize) -> Result<usize, Refusal> {
+        rpc::write_auth_unix(src, x, out, at)
     }
 }
 
@@ -210,12 +198,14 @@ impl Kind for OpaqueAuth {
         rpc::read_opaque_auth(src, at)
     }
 
-    fn write(src: &[u8], x: rpc::opaque_auth, out: &mut [u8], at: usize) -> Result<usize, Refusal> {
-        rpc::write_opaque_auth(src, x, out, at)
-    }
-
     fn marks(x: rpc::opaque_auth) -> Marks {
         x.marks()
+    }
+}
+
+impl Loose for OpaqueAuth {
+    fn write(src: &[u8], x: rpc::opaque_auth, out: &mut [u8], at: usize) -> Result<usize, Refusal> {
+        rpc::write_opaque_auth(src, x, out, at)
     }
 }
 
@@ -234,12 +224,14 @@ impl Kind for RpcMsg {
         rpc::read_rpc_msg(src, at)
     }
 
-    fn write(src: &[u8], x: rpc::rpc_msg, out: &mut [u8], at: usize) -> Result<usize, Refusal> {
-        rpc::write_rpc_msg(src, x, out, at)
-    }
-
     fn marks(x: rpc::rpc_msg) -> Marks {
         x.marks()
+    }
+}
+
+impl Loose for RpcMsg {
+    fn write(src: &[u8], x: rpc::rpc_msg, out: &mut [u8], at: usize) -> Result<usize, Refusal> {
+        rpc::write_rpc_msg(src, x, out, at)
     }
 }
 
@@ -258,12 +250,14 @@ impl Kind for RpcBody {
         rpc::read_rpc_body(src, at)
     }
 
-    fn write(src: &[u8], x: rpc::rpc_body, out: &mut [u8], at: usize) -> Result<usize, Refusal> {
-        rpc::write_rpc_body(src, x, out, at)
-    }
-
     fn marks(x: rpc::rpc_body) -> Marks {
         x.marks()
+    }
+}
+
+impl Loose for RpcBody {
+    fn write(src: &[u8], x: rpc::rpc_body, out: &mut [u8], at: usize) -> Result<usize, Refusal> {
+        rpc::write_rpc_body(src, x, out, at)
     }
 }
 
@@ -282,12 +276,14 @@ impl Kind for CallBody {
         rpc::read_call_body(src, at)
     }
 
-    fn write(src: &[u8], x: rpc::call_body, out: &mut [u8], at: usize) -> Result<usize, Refusal> {
-        rpc::write_call_body(src, x, out, at)
-    }
-
     fn marks(x: rpc::call_body) -> Marks {
         x.marks()
+    }
+}
+
+impl Loose for CallBody {
+    fn write(src: &[u8], x: rpc::call_body, out: &mut [u8], at: usize) -> Result<usize, Refusal> {
+        rpc::write_call_body(src, x, out, at)
     }
 }
 
@@ -306,12 +302,14 @@ impl Kind for ReplyBody {
         rpc::read_reply_body(src, at)
     }
 
-    fn write(src: &[u8], x: rpc::reply_body, out: &mut [u8], at: usize) -> Result<usize, Refusal> {
-        rpc::write_reply_body(src, x, out, at)
-    }
-
     fn marks(x: rpc::reply_body) -> Marks {
         x.marks()
+    }
+}
+
+impl Loose for ReplyBody {
+    fn write(src: &[u8], x: rpc::reply_body, out: &mut [u8], at: usize) -> Result<usize, Refusal> {
+        rpc::write_reply_body(src, x, out, at)
     }
 }
 
@@ -330,6 +328,12 @@ impl Kind for AcceptedReply {
         rpc::read_accepted_reply(src, at)
     }
 
+    fn marks(x: rpc::accepted_reply) -> Marks {
+        x.marks()
+    }
+}
+
+impl Loose for AcceptedReply {
     fn write(
         src: &[u8],
         x: rpc::accepted_reply,
@@ -337,10 +341,6 @@ impl Kind for AcceptedReply {
         at: usize,
     ) -> Result<usize, Refusal> {
         rpc::write_accepted_reply(src, x, out, at)
-    }
-
-    fn marks(x: rpc::accepted_reply) -> Marks {
-        x.marks()
     }
 }
 
@@ -359,6 +359,12 @@ impl Kind for AcceptBody {
         rpc::read_accept_body(src, at)
     }
 
+    fn marks(_x: rpc::accept_body) -> Marks {
+        Marks::None
+    }
+}
+
+impl Loose for AcceptBody {
     fn write(
         _src: &[u8],
         x: rpc::accept_body,
@@ -366,10 +372,6 @@ impl Kind for AcceptBody {
         at: usize,
     ) -> Result<usize, Refusal> {
         rpc::write_accept_body(x, out, at)
-    }
-
-    fn marks(_x: rpc::accept_body) -> Marks {
-        Marks::None
     }
 }
 
@@ -388,6 +390,12 @@ impl Kind for RejectedReply {
         rpc::read_rejected_reply(src, at)
     }
 
+    fn marks(_x: rpc::rejected_reply) -> Marks {
+        Marks::None
+    }
+}
+
+impl Loose for RejectedReply {
     fn write(
         _src: &[u8],
         x: rpc::rejected_reply,
@@ -395,10 +403,6 @@ impl Kind for RejectedReply {
         at: usize,
     ) -> Result<usize, Refusal> {
         rpc::write_rejected_reply(x, out, at)
-    }
-
-    fn marks(_x: rpc::rejected_reply) -> Marks {
-        Marks::None
     }
 }
 
@@ -417,18 +421,13 @@ impl Kind for MismatchInfo {
         rpc::read_mismatch_info(src, at)
     }
 
-    fn write(
-        _src: &[u8],
-        x: rpc::mismatch_info,
-        out: &mut [u8],
-        at: usize,
-    ) -> Result<usize, Refusal> {
-        rpc::write_mismatch_info(x, out, at)
-    }
-
     fn marks(_x: rpc::mismatch_info) -> Marks {
         Marks::None
     }
+}
+
+impl Plain for MismatchInfo {
+    ghost plain = { still-plain (exactly mismatch-info) still-mismatch-info };
 }
 
 pub(crate) struct CurrentAcceptStat;
@@ -446,18 +445,13 @@ impl Kind for CurrentAcceptStat {
         rpc::read_current_accept_stat(src, at)
     }
 
-    fn write(
-        _src: &[u8],
-        x: rpc::current::accept_stat,
-        out: &mut [u8],
-        at: usize,
-    ) -> Result<usize, Refusal> {
-        rpc::write_current_accept_stat(x, out, at)
-    }
-
     fn marks(_x: rpc::current::accept_stat) -> Marks {
         Marks::None
     }
+}
+
+impl Plain for CurrentAcceptStat {
+    ghost plain = { still-plain (exactly current_accept_stat) still-current-accept-stat };
 }
 
 pub(crate) struct CurrentAuthStat;
@@ -475,18 +469,13 @@ impl Kind for CurrentAuthStat {
         rpc::read_current_auth_stat(src, at)
     }
 
-    fn write(
-        _src: &[u8],
-        x: rpc::current::auth_stat,
-        out: &mut [u8],
-        at: usize,
-    ) -> Result<usize, Refusal> {
-        rpc::write_current_auth_stat(x, out, at)
-    }
-
     fn marks(_x: rpc::current::auth_stat) -> Marks {
         Marks::None
     }
+}
+
+impl Plain for CurrentAuthStat {
+    ghost plain = { still-plain (exactly current_auth_stat) still-current-auth-stat };
 }
 
 pub(crate) struct CurrentAcceptBody;
@@ -504,6 +493,12 @@ impl Kind for CurrentAcceptBody {
         rpc::read_current_accept_body(src, at)
     }
 
+    fn marks(_x: rpc::current::accept_body) -> Marks {
+        Marks::None
+    }
+}
+
+impl Loose for CurrentAcceptBody {
     fn write(
         _src: &[u8],
         x: rpc::current::accept_body,
@@ -511,10 +506,6 @@ impl Kind for CurrentAcceptBody {
         at: usize,
     ) -> Result<usize, Refusal> {
         rpc::write_current_accept_body(x, out, at)
-    }
-
-    fn marks(_x: rpc::current::accept_body) -> Marks {
-        Marks::None
     }
 }
 
@@ -533,6 +524,12 @@ impl Kind for CurrentAcceptedReply {
         rpc::read_current_accepted_reply(src, at)
     }
 
+    fn marks(x: rpc::current::accepted_reply) -> Marks {
+        x.marks()
+    }
+}
+
+impl Loose for CurrentAcceptedReply {
     fn write(
         src: &[u8],
         x: rpc::current::accepted_reply,
@@ -540,10 +537,6 @@ impl Kind for CurrentAcceptedReply {
         at: usize,
     ) -> Result<usize, Refusal> {
         rpc::write_current_accepted_reply(src, x, out, at)
-    }
-
-    fn marks(x: rpc::current::accepted_reply) -> Marks {
-        x.marks()
     }
 }
 
@@ -562,6 +555,12 @@ impl Kind for CurrentRejectedReply {
         rpc::read_current_rejected_reply(src, at)
     }
 
+    fn marks(_x: rpc::current::rejected_reply) -> Marks {
+        Marks::None
+    }
+}
+
+impl Loose for CurrentRejectedReply {
     fn write(
         _src: &[u8],
         x: rpc::current::rejected_reply,
@@ -569,10 +568,6 @@ impl Kind for CurrentRejectedReply {
         at: usize,
     ) -> Result<usize, Refusal> {
         rpc::write_current_rejected_reply(x, out, at)
-    }
-
-    fn marks(_x: rpc::current::rejected_reply) -> Marks {
-        Marks::None
     }
 }
 
@@ -591,6 +586,12 @@ impl Kind for CurrentReplyBody {
         rpc::read_current_reply_body(src, at)
     }
 
+    fn marks(x: rpc::current::reply_body) -> Marks {
+        x.marks()
+    }
+}
+
+impl Loose for CurrentReplyBody {
     fn write(
         src: &[u8],
         x: rpc::current::reply_body,
@@ -598,10 +599,6 @@ impl Kind for CurrentReplyBody {
         at: usize,
     ) -> Result<usize, Refusal> {
         rpc::write_current_reply_body(src, x, out, at)
-    }
-
-    fn marks(x: rpc::current::reply_body) -> Marks {
-        x.marks()
     }
 }
 
@@ -620,6 +617,12 @@ impl Kind for CurrentRpcBody {
         rpc::read_current_rpc_body(src, at)
     }
 
+    fn marks(x: rpc::current::rpc_body) -> Marks {
+        x.marks()
+    }
+}
+
+impl Loose for CurrentRpcBody {
     fn write(
         src: &[u8],
         x: rpc::current::rpc_body,
@@ -627,10 +630,6 @@ impl Kind for CurrentRpcBody {
         at: usize,
     ) -> Result<usize, Refusal> {
         rpc::write_current_rpc_body(src, x, out, at)
-    }
-
-    fn marks(x: rpc::current::rpc_body) -> Marks {
-        x.marks()
     }
 }
 
@@ -649,6 +648,12 @@ impl Kind for CurrentRpcMsg {
         rpc::read_current_rpc_msg(src, at)
     }
 
+    fn marks(x: rpc::current::rpc_msg) -> Marks {
+        x.marks()
+    }
+}
+
+impl Loose for CurrentRpcMsg {
     fn write(
         src: &[u8],
         x: rpc::current::rpc_msg,
@@ -656,9 +661,5 @@ impl Kind for CurrentRpcMsg {
         at: usize,
     ) -> Result<usize, Refusal> {
         rpc::write_current_rpc_msg(src, x, out, at)
-    }
-
-    fn marks(x: rpc::current::rpc_msg) -> Marks {
-        x.marks()
     }
 }

@@ -6,8 +6,9 @@ ghost use Rattle.mount.specs.Meaning.Mnt.{mountstat, mountres};
 ghost use Rattle.mount.specs.Meaning.Export.{exports};
 ghost use Rattle.mount.specs.Meaning.Portmap.{port_mapping};
 ghost use Rattle.door.specs.Meaning.Copy.{held_as};
+ghost use Rattle.door.specs.Laws.Still.{still-plain, still-mountstat, still-mapping};
 
-use crate::kind::Kind;
+use crate::kind::{Kind, Loose, Plain};
 use xdr::{Marks, Piece, Refusal, Took};
 
 pub(crate) struct Dirpath;
@@ -25,12 +26,14 @@ impl Kind for Dirpath {
         mount::read_dirpath(src, at)
     }
 
-    fn write(src: &[u8], x: Piece, out: &mut [u8], at: usize) -> Result<usize, Refusal> {
-        mount::write_dirpath(src, x, out, at)
-    }
-
     fn marks(x: Piece) -> Marks {
         x.marks()
+    }
+}
+
+impl Loose for Dirpath {
+    fn write(src: &[u8], x: Piece, out: &mut [u8], at: usize) -> Result<usize, Refusal> {
+        mount::write_dirpath(src, x, out, at)
     }
 }
 
@@ -49,18 +52,13 @@ impl Kind for Mountstat3 {
         mount::read_mountstat3(src, at)
     }
 
-    fn write(
-        _src: &[u8],
-        x: mount::mountstat3,
-        out: &mut [u8],
-        at: usize,
-    ) -> Result<usize, Refusal> {
-        mount::write_mountstat3(x, out, at)
-    }
-
     fn marks(_x: mount::mountstat3) -> Marks {
         Marks::None
     }
+}
+
+impl Plain for Mountstat3 {
+    ghost plain = { still-plain (exactly mountstat) still-mountstat };
 }
 
 pub(crate) struct Mountres3;
@@ -78,12 +76,14 @@ impl Kind for Mountres3 {
         mount::read_mountres3(src, at)
     }
 
-    fn write(src: &[u8], x: mount::mountres3, out: &mut [u8], at: usize) -> Result<usize, Refusal> {
-        mount::write_mountres3(src, x, out, at)
-    }
-
     fn marks(x: mount::mountres3) -> Marks {
         x.marks()
+    }
+}
+
+impl Loose for Mountres3 {
+    fn write(src: &[u8], x: mount::mountres3, out: &mut [u8], at: usize) -> Result<usize, Refusal> {
+        mount::write_mountres3(src, x, out, at)
     }
 }
 
@@ -102,12 +102,14 @@ impl Kind for Exports {
         mount::read_exports(src, at)
     }
 
-    fn write(src: &[u8], x: Piece, out: &mut [u8], at: usize) -> Result<usize, Refusal> {
-        mount::write_exports(src, x, out, at)
-    }
-
     fn marks(x: Piece) -> Marks {
         x.marks()
+    }
+}
+
+impl Loose for Exports {
+    fn write(src: &[u8], x: Piece, out: &mut [u8], at: usize) -> Result<usize, Refusal> {
+        mount::write_exports(src, x, out, at)
     }
 }
 
@@ -126,11 +128,11 @@ impl Kind for Mapping {
         mount::read_mapping(src, at)
     }
 
-    fn write(_src: &[u8], x: mount::mapping, out: &mut [u8], at: usize) -> Result<usize, Refusal> {
-        mount::write_mapping(x, out, at)
-    }
-
     fn marks(_x: mount::mapping) -> Marks {
         Marks::None
     }
+}
+
+impl Plain for Mapping {
+    ghost plain = { still-plain (exactly port_mapping) still-mapping };
 }

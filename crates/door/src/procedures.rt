@@ -7,8 +7,9 @@ ghost use Rattle.nfsfile.specs.Meaning.Lookup.{lookup_args, lookup_res};
 ghost use Rattle.nfsdata.specs.Meaning.Write.{stable-how, write_args, write_res};
 ghost use Rattle.nfsdata.specs.Meaning.Read.{read_args, read_res};
 ghost use Rattle.door.specs.Meaning.Copy.{held_as};
+ghost use Rattle.door.specs.Laws.Still.{still-plain, still-stable-how, still-getattr-res};
 
-use crate::kind::Kind;
+use crate::kind::{Kind, Loose, Plain};
 use xdr::{Marks, Refusal, Took};
 
 pub(crate) struct StableHow;
@@ -26,18 +27,13 @@ impl Kind for StableHow {
         nfsdata::read_stable_how(src, at)
     }
 
-    fn write(
-        _src: &[u8],
-        x: nfsdata::stable_how,
-        out: &mut [u8],
-        at: usize,
-    ) -> Result<usize, Refusal> {
-        nfsdata::write_stable_how(x, out, at)
-    }
-
     fn marks(_x: nfsdata::stable_how) -> Marks {
         Marks::None
     }
+}
+
+impl Plain for StableHow {
+    ghost plain = { still-plain (exactly stable-how) still-stable-how };
 }
 
 pub(crate) struct Sattrguard3;
@@ -55,6 +51,12 @@ impl Kind for Sattrguard3 {
         nfsfile::read_sattrguard3(src, at)
     }
 
+    fn marks(_x: nfsfile::sattrguard3) -> Marks {
+        Marks::None
+    }
+}
+
+impl Loose for Sattrguard3 {
     fn write(
         _src: &[u8],
         x: nfsfile::sattrguard3,
@@ -62,10 +64,6 @@ impl Kind for Sattrguard3 {
         at: usize,
     ) -> Result<usize, Refusal> {
         nfsfile::write_sattrguard3(x, out, at)
-    }
-
-    fn marks(_x: nfsfile::sattrguard3) -> Marks {
-        Marks::None
     }
 }
 
@@ -84,6 +82,12 @@ impl Kind for Getattr3args {
         nfsfile::read_getattr3args(src, at)
     }
 
+    fn marks(x: nfsfile::GETATTR3args) -> Marks {
+        x.marks()
+    }
+}
+
+impl Loose for Getattr3args {
     fn write(
         src: &[u8],
         x: nfsfile::GETATTR3args,
@@ -91,10 +95,6 @@ impl Kind for Getattr3args {
         at: usize,
     ) -> Result<usize, Refusal> {
         nfsfile::write_getattr3args(src, x, out, at)
-    }
-
-    fn marks(x: nfsfile::GETATTR3args) -> Marks {
-        x.marks()
     }
 }
 
@@ -113,18 +113,13 @@ impl Kind for Getattr3res {
         nfsfile::read_getattr3res(src, at)
     }
 
-    fn write(
-        src: &[u8],
-        x: nfsfile::GETATTR3res,
-        out: &mut [u8],
-        at: usize,
-    ) -> Result<usize, Refusal> {
-        nfsfile::write_getattr3res(src, x, out, at)
-    }
-
     fn marks(x: nfsfile::GETATTR3res) -> Marks {
         x.marks()
     }
+}
+
+impl Plain for Getattr3res {
+    ghost plain = { still-plain getattr_res still-getattr-res };
 }
 
 pub(crate) struct Setattr3args;
@@ -142,6 +137,12 @@ impl Kind for Setattr3args {
         nfsfile::read_setattr3args(src, at)
     }
 
+    fn marks(x: nfsfile::SETATTR3args) -> Marks {
+        x.marks()
+    }
+}
+
+impl Loose for Setattr3args {
     fn write(
         src: &[u8],
         x: nfsfile::SETATTR3args,
@@ -149,10 +150,6 @@ impl Kind for Setattr3args {
         at: usize,
     ) -> Result<usize, Refusal> {
         nfsfile::write_setattr3args(src, x, out, at)
-    }
-
-    fn marks(x: nfsfile::SETATTR3args) -> Marks {
-        x.marks()
     }
 }
 
@@ -171,6 +168,12 @@ impl Kind for Setattr3res {
         nfsfile::read_setattr3res(src, at)
     }
 
+    fn marks(x: nfsfile::SETATTR3res) -> Marks {
+        x.marks()
+    }
+}
+
+impl Loose for Setattr3res {
     fn write(
         src: &[u8],
         x: nfsfile::SETATTR3res,
@@ -178,10 +181,6 @@ impl Kind for Setattr3res {
         at: usize,
     ) -> Result<usize, Refusal> {
         nfsfile::write_setattr3res(src, x, out, at)
-    }
-
-    fn marks(x: nfsfile::SETATTR3res) -> Marks {
-        x.marks()
     }
 }
 
@@ -200,6 +199,12 @@ impl Kind for Lookup3args {
         nfsfile::read_lookup3args(src, at)
     }
 
+    fn marks(x: nfsfile::LOOKUP3args) -> Marks {
+        x.marks()
+    }
+}
+
+impl Loose for Lookup3args {
     fn write(
         src: &[u8],
         x: nfsfile::LOOKUP3args,
@@ -207,10 +212,6 @@ impl Kind for Lookup3args {
         at: usize,
     ) -> Result<usize, Refusal> {
         nfsfile::write_lookup3args(src, x, out, at)
-    }
-
-    fn marks(x: nfsfile::LOOKUP3args) -> Marks {
-        x.marks()
     }
 }
 
@@ -229,6 +230,12 @@ impl Kind for Lookup3res {
         nfsfile::read_lookup3res(src, at)
     }
 
+    fn marks(x: nfsfile::LOOKUP3res) -> Marks {
+        x.marks()
+    }
+}
+
+impl Loose for Lookup3res {
     fn write(
         src: &[u8],
         x: nfsfile::LOOKUP3res,
@@ -236,10 +243,6 @@ impl Kind for Lookup3res {
         at: usize,
     ) -> Result<usize, Refusal> {
         nfsfile::write_lookup3res(src, x, out, at)
-    }
-
-    fn marks(x: nfsfile::LOOKUP3res) -> Marks {
-        x.marks()
     }
 }
 
@@ -258,6 +261,12 @@ impl Kind for Read3args {
         nfsdata::read_read3args(src, at)
     }
 
+    fn marks(x: nfsdata::READ3args) -> Marks {
+        x.marks()
+    }
+}
+
+impl Loose for Read3args {
     fn write(
         src: &[u8],
         x: nfsdata::READ3args,
@@ -265,10 +274,6 @@ impl Kind for Read3args {
         at: usize,
     ) -> Result<usize, Refusal> {
         nfsdata::write_read3args(src, x, out, at)
-    }
-
-    fn marks(x: nfsdata::READ3args) -> Marks {
-        x.marks()
     }
 }
 
@@ -287,6 +292,12 @@ impl Kind for Read3res {
         nfsdata::read_read3res(src, at)
     }
 
+    fn marks(x: nfsdata::READ3res) -> Marks {
+        x.marks()
+    }
+}
+
+impl Loose for Read3res {
     fn write(
         src: &[u8],
         x: nfsdata::READ3res,
@@ -294,10 +305,6 @@ impl Kind for Read3res {
         at: usize,
     ) -> Result<usize, Refusal> {
         nfsdata::write_read3res(src, x, out, at)
-    }
-
-    fn marks(x: nfsdata::READ3res) -> Marks {
-        x.marks()
     }
 }
 
@@ -316,6 +323,12 @@ impl Kind for Write3args {
         nfsdata::read_write3args(src, at)
     }
 
+    fn marks(x: nfsdata::WRITE3args) -> Marks {
+        x.marks()
+    }
+}
+
+impl Loose for Write3args {
     fn write(
         src: &[u8],
         x: nfsdata::WRITE3args,
@@ -323,10 +336,6 @@ impl Kind for Write3args {
         at: usize,
     ) -> Result<usize, Refusal> {
         nfsdata::write_write3args(src, x, out, at)
-    }
-
-    fn marks(x: nfsdata::WRITE3args) -> Marks {
-        x.marks()
     }
 }
 
@@ -345,6 +354,12 @@ impl Kind for Write3res {
         nfsdata::read_write3res(src, at)
     }
 
+    fn marks(x: nfsdata::WRITE3res) -> Marks {
+        x.marks()
+    }
+}
+
+impl Loose for Write3res {
     fn write(
         src: &[u8],
         x: nfsdata::WRITE3res,
@@ -352,9 +367,5 @@ impl Kind for Write3res {
         at: usize,
     ) -> Result<usize, Refusal> {
         nfsdata::write_write3res(src, x, out, at)
-    }
-
-    fn marks(x: nfsdata::WRITE3res) -> Marks {
-        x.marks()
     }
 }

@@ -9,7 +9,7 @@ use crate::files::{
     Symlinkdata3, TimeHow, WccAttr, WccData,
 };
 use crate::items::{Bool, Eight, I32, I64, Opaque, U32, U64, Words};
-use crate::kind::{Kind, copy};
+use crate::kind::{Loose, Plain, copy, copy_plain};
 use crate::messages::{
     AcceptBody, AcceptStat, AcceptedReply, AuthFlavor, AuthStat, AuthUnix, CallBody,
     CurrentAcceptBody, CurrentAcceptStat, CurrentAcceptedReply, CurrentAuthStat,
@@ -24,13 +24,24 @@ use crate::procedures::{
 use crate::settle::rewrite_sattr3;
 
 // What is read of a kind, written anew from the start of a buffer.
-fn rewrite<K: Kind>(src: &[u8], at: usize, out: &mut [u8], info: &mut [u64]) -> u32
+fn rewrite<K: Loose>(src: &[u8], at: usize, out: &mut [u8], info: &mut [u64]) -> u32
     ensures { RewriteCalled K.number src.now at out.old info.old result out.new info.new }
 {
     if info.len() < 3 {
         return SHORT_LIST;
     }
     let c = copy::<K>(src, at, out, 0);
+    tell_copied(c, info)
+}
+
+// The same of a kind without loose forms.
+fn rewrite_plain<K: Plain>(src: &[u8], at: usize, out: &mut [u8], info: &mut [u64]) -> u32
+    ensures { RewriteCalled K.number src.now at out.old info.old result out.new info.new }
+{
+    if info.len() < 3 {
+        return SHORT_LIST;
+    }
+    let c = copy_plain::<K>(src, at, out, 0);
     tell_copied(c, info)
 }
 
@@ -142,31 +153,31 @@ pub fn yugerzat_rewrite_bool(src: &[u8], at: usize, out: &mut [u8], info: &mut [
 pub fn yugerzat_rewrite_i32(src: &[u8], at: usize, out: &mut [u8], info: &mut [u64]) -> u32
     ensures { RewriteCalled 1 src.now at out.old info.old result out.new info.new }
 {
-    rewrite::<I32>(src, at, out, info)
+    rewrite_plain::<I32>(src, at, out, info)
 }
 
 pub fn yugerzat_rewrite_i64(src: &[u8], at: usize, out: &mut [u8], info: &mut [u64]) -> u32
     ensures { RewriteCalled 2 src.now at out.old info.old result out.new info.new }
 {
-    rewrite::<I64>(src, at, out, info)
+    rewrite_plain::<I64>(src, at, out, info)
 }
 
 pub fn yugerzat_rewrite_u32(src: &[u8], at: usize, out: &mut [u8], info: &mut [u64]) -> u32
     ensures { RewriteCalled 3 src.now at out.old info.old result out.new info.new }
 {
-    rewrite::<U32>(src, at, out, info)
+    rewrite_plain::<U32>(src, at, out, info)
 }
 
 pub fn yugerzat_rewrite_u64(src: &[u8], at: usize, out: &mut [u8], info: &mut [u64]) -> u32
     ensures { RewriteCalled 4 src.now at out.old info.old result out.new info.new }
 {
-    rewrite::<U64>(src, at, out, info)
+    rewrite_plain::<U64>(src, at, out, info)
 }
 
 pub fn yugerzat_rewrite_eight(src: &[u8], at: usize, out: &mut [u8], info: &mut [u64]) -> u32
     ensures { RewriteCalled 5 src.now at out.old info.old result out.new info.new }
 {
-    rewrite::<Eight>(src, at, out, info)
+    rewrite_plain::<Eight>(src, at, out, info)
 }
 
 pub fn yugerzat_rewrite_opaque(src: &[u8], at: usize, out: &mut [u8], info: &mut [u64]) -> u32
@@ -190,55 +201,55 @@ pub fn yugerzat_rewrite_words(src: &[u8], at: usize, out: &mut [u8], info: &mut 
 pub fn yugerzat_rewrite_msg_type(src: &[u8], at: usize, out: &mut [u8], info: &mut [u64]) -> u32
     ensures { RewriteCalled 9 src.now at out.old info.old result out.new info.new }
 {
-    rewrite::<MsgType>(src, at, out, info)
+    rewrite_plain::<MsgType>(src, at, out, info)
 }
 
 pub fn yugerzat_rewrite_reply_stat(src: &[u8], at: usize, out: &mut [u8], info: &mut [u64]) -> u32
     ensures { RewriteCalled 10 src.now at out.old info.old result out.new info.new }
 {
-    rewrite::<ReplyStat>(src, at, out, info)
+    rewrite_plain::<ReplyStat>(src, at, out, info)
 }
 
 pub fn yugerzat_rewrite_accept_stat(src: &[u8], at: usize, out: &mut [u8], info: &mut [u64]) -> u32
     ensures { RewriteCalled 11 src.now at out.old info.old result out.new info.new }
 {
-    rewrite::<AcceptStat>(src, at, out, info)
+    rewrite_plain::<AcceptStat>(src, at, out, info)
 }
 
 pub fn yugerzat_rewrite_reject_stat(src: &[u8], at: usize, out: &mut [u8], info: &mut [u64]) -> u32
     ensures { RewriteCalled 12 src.now at out.old info.old result out.new info.new }
 {
-    rewrite::<RejectStat>(src, at, out, info)
+    rewrite_plain::<RejectStat>(src, at, out, info)
 }
 
 pub fn yugerzat_rewrite_auth_stat(src: &[u8], at: usize, out: &mut [u8], info: &mut [u64]) -> u32
     ensures { RewriteCalled 13 src.now at out.old info.old result out.new info.new }
 {
-    rewrite::<AuthStat>(src, at, out, info)
+    rewrite_plain::<AuthStat>(src, at, out, info)
 }
 
 pub fn yugerzat_rewrite_auth_flavor(src: &[u8], at: usize, out: &mut [u8], info: &mut [u64]) -> u32
     ensures { RewriteCalled 14 src.now at out.old info.old result out.new info.new }
 {
-    rewrite::<AuthFlavor>(src, at, out, info)
+    rewrite_plain::<AuthFlavor>(src, at, out, info)
 }
 
 pub fn yugerzat_rewrite_time_how(src: &[u8], at: usize, out: &mut [u8], info: &mut [u64]) -> u32
     ensures { RewriteCalled 15 src.now at out.old info.old result out.new info.new }
 {
-    rewrite::<TimeHow>(src, at, out, info)
+    rewrite_plain::<TimeHow>(src, at, out, info)
 }
 
 pub fn yugerzat_rewrite_nfsstat3(src: &[u8], at: usize, out: &mut [u8], info: &mut [u64]) -> u32
     ensures { RewriteCalled 16 src.now at out.old info.old result out.new info.new }
 {
-    rewrite::<Nfsstat3>(src, at, out, info)
+    rewrite_plain::<Nfsstat3>(src, at, out, info)
 }
 
 pub fn yugerzat_rewrite_ftype3(src: &[u8], at: usize, out: &mut [u8], info: &mut [u64]) -> u32
     ensures { RewriteCalled 17 src.now at out.old info.old result out.new info.new }
 {
-    rewrite::<Ftype3>(src, at, out, info)
+    rewrite_plain::<Ftype3>(src, at, out, info)
 }
 
 pub fn yugerzat_rewrite_auth_unix(src: &[u8], at: usize, out: &mut [u8], info: &mut [u64]) -> u32
@@ -313,13 +324,13 @@ pub fn yugerzat_rewrite_mismatch_info(
 ) -> u32
     ensures { RewriteCalled 27 src.now at out.old info.old result out.new info.new }
 {
-    rewrite::<MismatchInfo>(src, at, out, info)
+    rewrite_plain::<MismatchInfo>(src, at, out, info)
 }
 
 pub fn yugerzat_rewrite_specdata3(src: &[u8], at: usize, out: &mut [u8], info: &mut [u64]) -> u32
     ensures { RewriteCalled 28 src.now at out.old info.old result out.new info.new }
 {
-    rewrite::<Specdata3>(src, at, out, info)
+    rewrite_plain::<Specdata3>(src, at, out, info)
 }
 
 pub fn yugerzat_rewrite_nfs_fh3(src: &[u8], at: usize, out: &mut [u8], info: &mut [u64]) -> u32
@@ -331,13 +342,13 @@ pub fn yugerzat_rewrite_nfs_fh3(src: &[u8], at: usize, out: &mut [u8], info: &mu
 pub fn yugerzat_rewrite_nfstime3(src: &[u8], at: usize, out: &mut [u8], info: &mut [u64]) -> u32
     ensures { RewriteCalled 30 src.now at out.old info.old result out.new info.new }
 {
-    rewrite::<Nfstime3>(src, at, out, info)
+    rewrite_plain::<Nfstime3>(src, at, out, info)
 }
 
 pub fn yugerzat_rewrite_fattr3(src: &[u8], at: usize, out: &mut [u8], info: &mut [u64]) -> u32
     ensures { RewriteCalled 31 src.now at out.old info.old result out.new info.new }
 {
-    rewrite::<Fattr3>(src, at, out, info)
+    rewrite_plain::<Fattr3>(src, at, out, info)
 }
 
 pub fn yugerzat_rewrite_fsinfo3(src: &[u8], at: usize, out: &mut [u8], info: &mut [u64]) -> u32
@@ -349,7 +360,7 @@ pub fn yugerzat_rewrite_fsinfo3(src: &[u8], at: usize, out: &mut [u8], info: &mu
 pub fn yugerzat_rewrite_wcc_attr(src: &[u8], at: usize, out: &mut [u8], info: &mut [u64]) -> u32
     ensures { RewriteCalled 33 src.now at out.old info.old result out.new info.new }
 {
-    rewrite::<WccAttr>(src, at, out, info)
+    rewrite_plain::<WccAttr>(src, at, out, info)
 }
 
 pub fn yugerzat_rewrite_pre_op_attr(src: &[u8], at: usize, out: &mut [u8], info: &mut [u64]) -> u32
@@ -403,13 +414,13 @@ pub fn yugerzat_rewrite_set_size3(src: &[u8], at: usize, out: &mut [u8], info: &
 pub fn yugerzat_rewrite_set_atime(src: &[u8], at: usize, out: &mut [u8], info: &mut [u64]) -> u32
     ensures { RewriteCalled 42 src.now at out.old info.old result out.new info.new }
 {
-    rewrite::<SetAtime>(src, at, out, info)
+    rewrite_plain::<SetAtime>(src, at, out, info)
 }
 
 pub fn yugerzat_rewrite_set_mtime(src: &[u8], at: usize, out: &mut [u8], info: &mut [u64]) -> u32
     ensures { RewriteCalled 43 src.now at out.old info.old result out.new info.new }
 {
-    rewrite::<SetMtime>(src, at, out, info)
+    rewrite_plain::<SetMtime>(src, at, out, info)
 }
 
 pub fn yugerzat_rewrite_sattr3(src: &[u8], at: usize, out: &mut [u8], info: &mut [u64]) -> u32
@@ -433,7 +444,7 @@ pub fn yugerzat_rewrite_symlinkdata3(src: &[u8], at: usize, out: &mut [u8], info
 pub fn yugerzat_rewrite_stable_how(src: &[u8], at: usize, out: &mut [u8], info: &mut [u64]) -> u32
     ensures { RewriteCalled 47 src.now at out.old info.old result out.new info.new }
 {
-    rewrite::<StableHow>(src, at, out, info)
+    rewrite_plain::<StableHow>(src, at, out, info)
 }
 
 pub fn yugerzat_rewrite_sattrguard3(src: &[u8], at: usize, out: &mut [u8], info: &mut [u64]) -> u32
@@ -451,7 +462,7 @@ pub fn yugerzat_rewrite_getattr3args(src: &[u8], at: usize, out: &mut [u8], info
 pub fn yugerzat_rewrite_getattr3res(src: &[u8], at: usize, out: &mut [u8], info: &mut [u64]) -> u32
     ensures { RewriteCalled 50 src.now at out.old info.old result out.new info.new }
 {
-    rewrite::<Getattr3res>(src, at, out, info)
+    rewrite_plain::<Getattr3res>(src, at, out, info)
 }
 
 pub fn yugerzat_rewrite_setattr3args(src: &[u8], at: usize, out: &mut [u8], info: &mut [u64]) -> u32
@@ -510,7 +521,7 @@ pub fn yugerzat_rewrite_current_accept_stat(
 ) -> u32
     ensures { RewriteCalled 59 src.now at out.old info.old result out.new info.new }
 {
-    rewrite::<CurrentAcceptStat>(src, at, out, info)
+    rewrite_plain::<CurrentAcceptStat>(src, at, out, info)
 }
 
 pub fn yugerzat_rewrite_current_auth_stat(
@@ -521,7 +532,7 @@ pub fn yugerzat_rewrite_current_auth_stat(
 ) -> u32
     ensures { RewriteCalled 60 src.now at out.old info.old result out.new info.new }
 {
-    rewrite::<CurrentAuthStat>(src, at, out, info)
+    rewrite_plain::<CurrentAuthStat>(src, at, out, info)
 }
 
 pub fn yugerzat_rewrite_current_accept_body(
@@ -599,7 +610,7 @@ pub fn yugerzat_rewrite_dirpath(src: &[u8], at: usize, out: &mut [u8], info: &mu
 pub fn yugerzat_rewrite_mountstat3(src: &[u8], at: usize, out: &mut [u8], info: &mut [u64]) -> u32
     ensures { RewriteCalled 68 src.now at out.old info.old result out.new info.new }
 {
-    rewrite::<Mountstat3>(src, at, out, info)
+    rewrite_plain::<Mountstat3>(src, at, out, info)
 }
 
 pub fn yugerzat_rewrite_mountres3(src: &[u8], at: usize, out: &mut [u8], info: &mut [u64]) -> u32
@@ -617,5 +628,5 @@ pub fn yugerzat_rewrite_exports(src: &[u8], at: usize, out: &mut [u8], info: &mu
 pub fn yugerzat_rewrite_mapping(src: &[u8], at: usize, out: &mut [u8], info: &mut [u64]) -> u32
     ensures { RewriteCalled 71 src.now at out.old info.old result out.new info.new }
 {
-    rewrite::<Mapping>(src, at, out, info)
+    rewrite_plain::<Mapping>(src, at, out, info)
 }

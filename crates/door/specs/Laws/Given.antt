@@ -1,6 +1,6 @@
 -- What the proofs of the exported writers of values cite.
 -- Assumes nothing.
-use Rattle.std.specs.Prelude.{◌≡◌, refl, Bool, true, false, ◌&&◌, List, [], ◌∷◌, ◌++◌, ℕ, zero, suc, ◌-◌, ◌≤◌, ◌<◌, ltb, eqb, length, get_or, set, Some}
+use Rattle.std.specs.Prelude.{◌≡◌, refl, Bool, true, false, ◌&&◌, List, [], ◌∷◌, ◌++◌, ℕ, zero, suc, ◌-◌, ◌≤◌, ◌<◌, ltb, eqb, length, get_or, set, Some, None}
 use Rattle.std.specs.Prelude as std
 use Rattle.std.proofs.Common.{sym, ap, ◌∙◌, subst, append-nil, ⊎_elim, mod-eq_of_lt, arith, drop_of_length-le, take_all, ltb-true}
 use Rattle.std.proofs.lemmas.Bool.{false≢true, eqb-false}
@@ -46,10 +46,19 @@ pub write_again : {S : Type 0} (W : List ℕ → S → Written → List ℕ → 
     → WriteCalled (W (tail_of 0 o)) k given (tail_of 0 l) (tail_of 0 o) (tail_of 0 i) r o' i' → WriteCalled (W o) k given l o i r (after 0 o o') (after 0 i i')
 write_again W k given {l} {o} {i} {r} {o'} {i'} c = rw (whole_back o o', whole_back i i', ← whole l, ← whole o, ← whole i) c
 
--- a diropargs3 that fits
+-- a diropargs3 that fits, and one that does not
 module _ {s t l o i : List ℕ} {start : ℕ} {x : diropargs3} {f : std.Option ℕ} {p : List ℕ} (d : FitsDiropargsFrom s t x start o f p) where
   pub diropargs3-fits : {n : ℕ} → f ≡ Some n → 4 ≤ length l → 1 ≤ length i → Is diropargs3_given l (some x) → WriteDiropargs3Called s t l o start i 0 p (set i 0 n)
   diropargs3-fits {n} e h g m = write_as (λ x w o'. WritesDiropargsFrom s t x start o w o') 4 diropargs3_given l o i h g (d.on n e) (wrote_says i n) m
+
+  pub diropargs3-again : {r : ℕ} {o' i' : List ℕ} → f ≡ None → WriteDiropargs3Called (tail_of 0 s) (tail_of 0 t) (tail_of 0 l) (tail_of 0 p) start (tail_of 0 i) r o' i'
+      → WriteDiropargs3Called s t l o start i r (after 0 p o') (after 0 i i')
+  diropargs3-again {r} {o'} {i'} e c =
+      let a : WriteDiropargs3Called (tail_of 0 s) (tail_of 0 t) l p start i r (after 0 p o') (after 0 i i') =
+      write_again (λ o x w o'. WritesDiropargsFrom (tail_of 0 s) (tail_of 0 t) x start o w o') 4 diropargs3_given c in
+      let b = subst (λ z. WriteDiropargs3Called z (tail_of 0 t) l p start i r (after 0 p o') (after 0 i i')) (whole s) a in
+      let g = subst (λ z. WriteDiropargs3Called s z l p start i r (after 0 p o') (after 0 i i')) (whole t) b in
+      subst (λ z. WriteDiropargs3Called s t l z start i r (after 0 p o') (after 0 i i')) (d.off e) g
 
 -- a word is its own rest, and so is each number that a test of words holds of
 pub low-is : (n : ℕ) → is_word n ≡ true → low n ≡ n

@@ -1,15 +1,14 @@
 -- The flags of a message written anew where it stands: what the private functions of a sattr3's rewriting promise, and what their proofs cite.
 -- Assumes nothing.
-use Rattle.std.specs.Prelude.{◌≡◌, refl, Bool, true, false, cond, List, [], ◌++◌, ℕ, zero, suc, ◌+◌, ◌≤◌, length, take, drop, Result, Ok, Err}
+use Rattle.std.specs.Prelude.{◌≡◌, refl, Bool, true, false, cond, List, [], ◌++◌, ℕ, ◌+◌, ◌≤◌, length, take, drop, Result, Ok, Err}
 use Rattle.std.proofs.Common.{sym, ap, ap₂, subst, ◌∙◌, append_assoc, arith, length-append, length-drop, take_at, drop_at, length-take-le, Fits}
 use Rattle.std.proofs.Math.Option.{Option, none, some}
 use Rattle.std.specs.Int.{w64}
-use Rattle.xdr.specs.Meaning.Answer.{took, Way, Loose, here, shifted, clean}
+use Rattle.xdr.specs.Meaning.Answer.{took, Way, Loose, clean}
 use Rattle.xdr.specs.Meaning.Kind.{Codec}
-use Rattle.xdr.specs.Meaning.Codecs.{◌⨾◌, void, chain}
-use Rattle.xdr.specs.Meaning.Codecs as codecs
-use Rattle.xdr.specs.Meaning.Combinators.{View, means}
-use Rattle.xdr.specs.Meaning.Items.{flag, number, word, hyper, if, option}
+use Rattle.xdr.specs.Meaning.Codecs.{◌⨾◌}
+use Rattle.xdr.specs.Meaning.Combinators.{means}
+use Rattle.xdr.specs.Meaning.Items.{flag, if, option}
 use Rattle.xdr.specs.Meaning.Shapes.{If, to_option}
 use Rattle.xdr.specs.Meaning.Public.{laid}
 use Rattle.xdr.specs.Meaning.Views.{view}
@@ -20,8 +19,8 @@ use Rattle.xdr.specs.Laws.Padding.{flag-length}
 use Rattle.xdr.specs.Laws.Write.{laid-at}
 use Rattle.xdr.specs.declared.answer.Took.{Took}
 use Rattle.xdr.specs.declared.refusal.Refusal.{Refusal}
-use Rattle.nfsattr.specs.Meaning.Attr.{nfstime}
-use Rattle.nfs.specs.Meaning.Set.{SetTime, time_arms, see_time, set_time}
+use Rattle.nfs.specs.Meaning.Set.{set_time}
+use Rattle.door.specs.Laws.Still.{Still, still-two, still-hyper, still-time}
 use Rattle.door.specs.Laws.Walked.{from_atime, from_size}
 
 -- whatever message of C has a form at place p of o, that form is then its published one, and nothing else is another
@@ -116,73 +115,11 @@ module _ (k p : ℕ) (o : List ℕ) (r : Result (Took Bool) Refusal) (e : view r
       → FlagSettled k p o x.next (after p o z)
   settled-unset {x} f g h = flag-settled f g (ap (λ u. cond u (x.next + k) x.next) (sym h))
 
--- kinds in which nothing is ever loose
-pub record Still {X : Type 0} (C : Codec X) : Type 0 where
-  pub none : (m : X) (w : List Loose) (e : List ℕ) → C.kind.Form m w e → w ≡ []
-
+-- a kind in which nothing is ever loose
 module _ {X : Type 0} {C : Codec X} (S : Still C) where
   -- they are written as they stand
   still-bytes : (m : X) (w : List Loose) (e : List ℕ) → C.kind.Form m w e → e ≡ C.kind.write m
   still-bytes m w e f = C.laws.plain m e (subst (λ u. C.kind.Form m u e) (S.none m w e f) f)
-
-none_both : (k : ℕ) (v w u : List Loose) → v ≡ [] → w ≡ [] → u ≡ v ++ shifted k w → u ≡ []
-none_both k v w u e f g = g ∙ ap₂ (λ x y. x ++ shifted k y) e f
-
-still-two : {X : Type 0} {Y : X → Type 0} (A : Codec X) (B : (a : X) → Codec (Y a)) → Still A → ((a : X) → Still (B a)) → Still (chain A B)
-still-two A B S T =
-    record {
-      none = λ m w e f.
-          none_both (length f.e₁) f.w₁ f.w₂ w (S.none m.0 f.w₁ f.e₁ f.form₁) ((T m.0).none m.1 f.w₂ f.e₂ f.form₂) f.loose;
-    }
-
-module _ {M N : Type 0} (C : Codec M) (W : View M C.kind.Good N) where
-  still-view : Still C → ((x : M) (m : N) (l : List Way) → W.see x ≡ means m l → l ≡ []) → Still (codecs.view C W)
-  still-view S T =
-      record {
-        none = λ m w e f.
-            f.loose ∙ ap₂ (λ x y. here x ++ y) (T f.of m f.w₂ f.sees) (S.none f.of f.w₁ e f.form);
-      }
-
-means-none : {N : Type 0} {m m' : N} {l : List Way} → means m [] ≡ means m' l → l ≡ []
-means-none e = cc
-
-still-number : (k : ℕ) → Still (number k)
-unfolding number
-still-number k = record { none = λ m w e f. f.loose ∙ ap₂ (λ x y. here x ++ y) (means-none f.sees) f.form.0 }
-
-pub still-word : Still word
-unfolding word
-still-word = still-number 4
-
-pub still-hyper : Still hyper
-unfolding hyper
-still-hyper = still-number 8
-
-still-void : Still void
-still-void = record { none = λ m w e f. f.0 }
-
-still-nfstime : Still nfstime
-unfolding nfstime
-still-nfstime = still-view (word ⨾ word) _ (still-two word (λ a. word) still-word (λ a. still-word)) (λ x m l e. means-none e)
-
-pub still-time : Still set_time
-unfolding set_time
-still-time = still-view (chain word (λ tag. (time_arms tag).format.codec)) _ (still-two word _ still-word arms) sees
-  where
-    arms : (tag : ℕ) → Still (time_arms tag).format.codec
-    arms zero = still-void
-    arms (suc zero) = still-void
-    arms (suc (suc zero)) = still-nfstime
-    arms (suc (suc (suc n))) = still-void
-
-    by : (tag : ℕ) (u : (time_arms tag).Msg) (m : SetTime) (l : List Way) → see_time tag u ≡ means m l → l ≡ []
-    by zero u m l e = means-none e
-    by (suc zero) u m l e = means-none e
-    by (suc (suc zero)) u m l e = means-none e
-    by (suc (suc (suc n))) u m l e = let z : ◌≡◌ {A = ℕ} 0 1 = cc in absurd (omega arith)
-
-    sees : (x : (tag : ℕ) × (time_arms tag).Msg) (m : SetTime) (l : List Way) → see_time x.0 x.1 ≡ means m l → l ≡ []
-    sees x m l e = by x.0 x.1 m l e
 
 pub still-times : Still from_atime
 still-times = still-two set_time (λ a. set_time) still-time (λ a. still-time)

@@ -91,6 +91,14 @@ module _ {M S : Type 0} (F : Format M S) (s : List ℕ) (at : ℕ) {r : Result (
       was_read F s at start o c e
       (as-it-stands F s at (subst (Answers F s at) (ap view e ∙ ap (took x.value x.next) p) c) start o w d) m f
 
+  -- the same of a kind whose readings are all plain
+  pub span-plain : ((s : List ℕ) (p : ℕ) (x : S) (n : ℕ) (b : Bool) → Answers F s p (took x n b) → b ≡ true) → (start : ℕ) (o : List ℕ) {x : code.Took S} → r ≡ Ok x
+      → {o' : List ℕ} {w : Written} → Stands (part s at x.next) start o w o' → {l : List Bool} → MarksAre F x.value l
+      → {a : Copy} → a ≡ said_of x.next true l w → Copies F s at start o a o'
+  span-plain h start o {x} e {w = w} d {l} m f =
+      let p : x.plain ≡ true = h s at x.value x.next x.plain (subst (Answers F s at) (ap view e) c) in
+      span-read start o e p d m (f ∙ ap (λ b. said_of x.next b l w) (sym p))
+
 -- eight fixed bytes have no marks
 pub eight-marks : (v : ℕ) → MarksAre eight_bytes v []
 unfolding eight_held

@@ -1,7 +1,8 @@
 use borrow.Author.Rules.{rules}
 use Rattle.xdr.specs.Laws.Fixed.{word-fixed}
 use Rattle.door.specs.Laws.Walked.{from_gid}
-use Rattle.door.specs.Laws.Settled.{still-word, settle-next, flag-short, both_long}
+use Rattle.door.specs.Laws.Settled.{settle-next, flag-short, both_long}
+use Rattle.door.specs.Laws.Still.{still-word}
 use Rattle.door.proofs.settle.settle_from_uid.Statement.{statement}
 use Rattle.door.proofs.settle.settle_from_uid.Tie as tie
 

@@ -1,0 +1,7 @@
+-- made by tools/generate from kinds.txt
+use borrow.Author.Rules.{rules}
+use Rattle.door.specs.Laws.Copy.{unsourced}
+use Rattle.door.proofs.files.SetMode3Loose.write.Goals as goal
+
+pub returns : goal.returns
+returns c = unsourced _ _ _ _ c.requires c.write_set_mode3.ensures (search rules)

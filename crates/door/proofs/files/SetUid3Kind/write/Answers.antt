@@ -1,7 +1,0 @@
--- made by tools/generate from kinds.txt
-use borrow.Author.Rules.{rules}
-use Rattle.door.specs.Laws.Copy.{unsourced}
-use Rattle.door.proofs.files.SetUid3Kind.write.Goals as goal
-
-pub returns : goal.returns
-returns c = unsourced _ _ _ _ c.requires c.write_set_uid3.ensures (search rules)
