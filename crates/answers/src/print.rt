@@ -23,14 +23,19 @@ pub(crate) fn mark(page: &mut Page, yes: bool) {
     number(page, yes as usize);
 }
 
-// Bytes in hex, with a space in front.
+// Bytes in hex, with a space in front. They are said in parts, since to say each byte alone takes longer.
 pub(crate) fn hex(page: &mut Page, bytes: &[u8]) {
     page.say(b" ");
     if bytes.is_empty() {
         page.say(b"-");
     }
-    for byte in bytes {
-        page.say(&[text::glyph(byte / 16), text::glyph(byte % 16)]);
+    for part in bytes.chunks(32) {
+        let mut digits = [0u8; 64];
+        for i in 0..part.len() {
+            digits[2 * i] = text::glyph(part[i] / 16);
+            digits[2 * i + 1] = text::glyph(part[i] % 16);
+        }
+        page.say(&digits[..2 * part.len()]);
     }
 }
 

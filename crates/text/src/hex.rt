@@ -30,16 +30,16 @@ fn value(c: u8) -> Option<u8>
 pub fn are_digits(word: &[u8]) -> bool
     ensures { Digits word.now result }
 {
-    word.iter().all(|&c| value(c).is_some())
+    word.iter().all(|c| c.is_ascii_hexdigit())
 }
 
-// The byte that two digits spell.
+// The byte that two digits spell. (Each has a value, so no 0 is taken. With `unwrap` the compiler doesn't put many bytes at once.)
 fn byte(high: u8, low: u8) -> u8
     requires high { digit_of high < 16 }
     requires low { digit_of low < 16 }
     ensures { result ≡ digit_of high * 16 + digit_of low }
 {
-    value(high).unwrap() * 16 + value(low).unwrap()
+    value(high).unwrap_or(0) * 16 + value(low).unwrap_or(0)
 }
 
 // Puts the bytes that pairs of digits spell at the front of a buffer.

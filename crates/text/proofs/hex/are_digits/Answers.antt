@@ -6,4 +6,5 @@ use Rattle.text.specs.HexLaws.{digits_by}
 use Rattle.text.proofs.hex.are_digits.Goals as goal
 
 pub returns : goal.returns
+unfolding digit_of
 returns c = digits_by c.args.word.now c.all.result (cases_from_all _ _ _ (λ x. digit_of x < 16) (λ x. digit_of x ≡ 16) c.all.ensures.ran (YieldsList-from_slice c.args.word.now cc) (λ x q k. search (rules, tests)) (λ x q k. search (rules, tests)))
