@@ -21,10 +21,12 @@ impl<'a> Line<'a> {
         self.held = 0;
     }
 
-    pub(crate) fn push(&mut self, c: u8) {
-        if self.held < self.buf.len() {
-            self.buf[self.held] = c;
-            self.held += 1;
+    // Takes what comes next of the line.
+    pub(crate) fn push(&mut self, part: &[u8]) {
+        if self.held <= self.buf.len() && part.len() <= self.buf.len() - self.held {
+            let end = self.held + part.len();
+            self.buf[self.held..end].copy_from_slice(part);
+            self.held = end;
         } else {
             self.held = self.buf.len() + 1;
         }

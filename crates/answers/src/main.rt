@@ -57,12 +57,13 @@ fn answer_line(line: &Line, buffers: &mut Buffers, page: &mut Page) {
 
 // Some of the input.
 fn take(input: &[u8], line: &mut Line, buffers: &mut Buffers, page: &mut Page) {
-    for &c in input {
-        if c == b'\n' {
+    for part in input.split_inclusive(|&c| c == b'\n') {
+        if let Some((b'\n', text)) = part.split_last() {
+            line.push(text);
             answer_line(line, buffers, page);
             line.clear();
         } else {
-            line.push(c);
+            line.push(part);
         }
     }
     page.flush();

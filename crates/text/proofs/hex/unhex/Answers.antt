@@ -1,4 +1,4 @@
-use Rattle.std.proofs.Common.{◌≡◌, ◌∙◌, sym, ℕ, List, [], ◌∷◌, ◌/◌, refl, length, Bool, false, rules, arith}
+use Rattle.std.proofs.Common.{◌≡◌, ◌∙◌, sym, ℕ, List, [], ◌∷◌, ◌/◌, length, Bool, false, rules, arith}
 use lib.Pointwise.{pointwise}
 use lib.Dec.{eqb}
 use Rattle.std.proofs.lemmas.Bool.Decides.{nat_tests}
@@ -11,7 +11,7 @@ no_dash d e w = never (sym (e ∙ (λ i. pointwise eqb (w i) (d i))))
 
 pub returns-then-is_empty : goal.returns-then-is_empty
 returns-then-is_empty c = (
-  refl,
+  search rules,
   λ bytes room hex.
       let s = spelled {word = c.args.word.now} (no_dash c.as_slice.ensures c.if-eq.ensures) hex in
       elim c.then-is_empty.branch [
